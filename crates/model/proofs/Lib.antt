@@ -1,0 +1,15 @@
+pub mod Tests
+pub mod Terms
+pub mod Items
+pub mod Environments
+pub mod Checked
+pub mod Growing
+pub mod Keeping
+pub mod UnfoldingKeeps
+pub mod Counts
+pub mod MeetingKeeps
+pub mod Invariant
+pub mod Starts
+pub mod Reached
+pub mod Independence
+pub mod Trials

@@ -1,0 +1,14 @@
+pub mod Basics
+pub mod Values
+pub mod Table
+pub mod Checks
+pub mod Side
+pub mod Unfolding
+pub mod Load
+pub mod WellFormed
+pub mod Step
+pub mod Answer
+pub mod Stranded
+pub mod Runs
+pub mod Trials
+pub mod MoreTrials
