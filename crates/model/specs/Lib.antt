@@ -10,5 +10,7 @@ pub mod Step
 pub mod Answer
 pub mod Stranded
 pub mod Runs
+pub mod Process
+pub mod Agreement
 pub mod Trials
 pub mod MoreTrials

@@ -1,0 +1,242 @@
+-- Demand 2, second half, for the labels that enter: each transition that takes a value from the environment has a step at its place, and that step answers its label and leads where it leads, or it is refused: 11, 12 or 17.
+use mathlib.Core.Path.{_≡_, refl, sym, ap, ap₂, _∙_, subst, subst₂}
+use mathlib.Core.Bool.{Bool, true, false, not, cond}
+use mathlib.Core.List.{List, [], _∷_, _++_}
+use mathlib.Core.Logic.{_⊎_, inl, inr, ⊎-elim}
+use mathlib.Core.Option.{some}
+use Prim.Native.Nat.{ℕ, suc, _≤_}
+use native.Mathlib.Omega.{arith}
+use lib.Dec.{eqb}
+use lib.ListN.{length, getElem?, set}
+use Rattle.calculus.specs.Syntax.{Val, Vars, Tag, plain, Proc, AllT, tren, vren, ren, remark}
+use Rattle.calculus.specs.Syntax.{par as ppar, out as pout, inp as pinp, parent as iparent, child as ichild}
+use Rattle.calculus.specs.Congruence.{_≋_, symm, trans}
+use Rattle.calculus.specs.Transitions.{Label, recv, Participants, one, two, In, Out∉, names, lnames}
+use Rattle.calculus.specs.Transitions.{Step as Trans}
+use Rattle.calculus.specs.Tree.{Place, fill, upd}
+use Rattle.calculus.specs.Parallel.{parallel}
+use Rattle.calculus.specs.Tree.{Item, select}
+use Rattle.calculus.specs.Tree.{process}
+use Rattle.model.specs.Basics.{_&_, _or_, refuse, done, need, choose, bind, every}
+use Rattle.model.specs.Values.{isMinted, isValue}
+use Rattle.model.specs.Side.{State, Box, Core, down}
+use Rattle.model.specs.Load.{Composition, Setting}
+use Rattle.model.specs.WellFormed.{counts, ready}
+use Rattle.model.specs.Step.{Step, Moved, enters, labelled, Result, refusal, settled, local, step, known, enter as entry}
+use Rattle.model.specs.Process.{Mark, lobby, shelf, enterer, inert, ownName, siteOf, inwards, vwords, confAs, confOf, newOf, knownOf, placeOf, placesOf, enters as entering-item}
+use Rattle.model.specs.Agreement.{plainly, At, Asks, asks-in, Says, says-in, Met, Excused, by-11-long, by-11-name, by-12, by-17, lobby-full, answerSide, Written, enter, goDown, goUp, descend, meet, pass, leave, take}
+use Rattle.calculus.proofs.Renaming.{AllT-map, AllT-ren, AllV-map, vren-agree, vren-id}
+use Rattle.calculus.proofs.FreeNames.{step-tag}
+use Rattle.calculus.proofs.Inversion.{after}
+use Rattle.calculus.proofs.Equivariance.{lren}
+use Rattle.calculus.proofs.Restriction.{minus, Eachn}
+use Rattle.calculus.proofs.Trees.{Has, here, there}
+use Rattle.calculus.proofs.TreeMoves.{Move, receives, entering}
+use Rattle.calculus.proofs.Bags.{item, at, Bag, bag-eq, bag-trans, ritems}
+use Rattle.model.proofs.Items.{shaped-items}
+use Rattle.model.proofs.Keeping.{shaped-words}
+use Rattle.model.proofs.Tests.{snd}
+use Rattle.model.proofs.KnownNames.{All}
+use Rattle.model.proofs.StateTree.{wf-of, few-one}
+use Rattle.model.proofs.ItemMoves.{ids, forget, whole°, add-msg, par-of}
+use Rattle.model.proofs.StateMoves.{wf-all, rooted-all}
+use Rattle.model.proofs.SideViews.{View, new-same}
+use Rattle.model.proofs.NamesEntering.{enter-fresh}
+use Rattle.model.proofs.SideSteps.{few-two, inwards-low}
+use Rattle.model.proofs.StateInversion.{transitions, kept-target, rename-of, item-at, ItemAt, atoms-at, items-atoms, fn-sel}
+use Rattle.model.proofs.ItemPlaces.{one-changed}
+use Rattle.model.proofs.Completing.{Completed, Inv, inv-at, on-some, Answers, added, own-unknown, tagIn, chanIn, markIn, isOut, received, forwarded}
+use Rattle.model.proofs.WrapperLevel.{Input, enters-of, passes-of, takes-of, input-is}
+use Rattle.model.proofs.AskedValues.{no-value, unknown-name, names-ok, same-value, usual-names, names-known}
+
+abbrev enter-step : ℕ → List ℕ → Step
+enter-step σ ws = record { kind = 1; side = σ; i = 0; j = 0; words = ws }
+
+-- the step at the place of an entry
+entry-step : {k : Step} {w : Participants Mark} → At k w → (u : Mark) (σ : ℕ) → w ≡ two u (enterer σ) → k ≡ enter-step σ (k .words)
+entry-step (enter {side = side} {ws = ws}) u σ e = let p : side ≡ σ = cc in λ t. record { kind = 1; side = p t; i = 0; j = 0; words = ws }
+entry-step goDown u σ e = absurd (let z : _≡_ {A = ℕ} 0 1 = cc in omega arith)
+entry-step goUp u σ e = absurd (let z : _≡_ {A = ℕ} 0 1 = cc in omega arith)
+entry-step descend u σ e = absurd (let z : _≡_ {A = ℕ} 0 1 = cc in omega arith)
+entry-step meet u σ e = absurd (let z : _≡_ {A = ℕ} 0 1 = cc in omega arith)
+entry-step pass u σ e = absurd (let z : _≡_ {A = ℕ} 0 1 = cc in omega arith)
+entry-step leave u σ e = absurd (let z : _≡_ {A = ℕ} 0 1 = cc in omega arith)
+entry-step take u σ e = absurd (let z : _≡_ {A = ℕ} 0 1 = cc in omega arith)
+
+asks-words : {k : Step} {x : ℕ} {o : Tag ℕ} {v : Val ℕ} → Asks k (recv x o v) → k .words ≡ vwords v
+asks-words (asks-in p q) = q
+
+-- what the bench does there
+abbrev entered : Core → List ℕ → Moved
+entered s ws = record { label = enters; val = ws; core = record { contents = s .contents; lobby = s .lobby ++ (record { status = down; chan = 0; val = ws } ∷ []); shelf = s .shelf; taken = s .taken } }
+
+module _ (c : Setting) (kn : ℕ → Bool) (s : Core) (σ : ℕ) (ws : List ℕ) where
+  refused-11 : isValue ws ≡ false → settled (local c kn s (enter-step σ ws)) ≡ refuse 11
+  unfolding local choose need _&_ entry settled bind
+  refused-11 p = rw p
+
+  refused-12 : isValue ws ≡ true → every (λ w. not (isMinted w) or kn w) ws ≡ false → settled (local c kn s (enter-step σ ws)) ≡ refuse 12
+  unfolding local choose need _&_ entry settled bind
+  refused-12 p q = rw (p, q)
+
+  enters-there : isValue ws ≡ true → every (λ w. not (isMinted w) or kn w) ws ≡ true → local c kn s (enter-step σ ws) ≡ done (entered s ws)
+  unfolding local choose need _&_ entry
+  enters-there p q = rw (p, q)
+
+-- new names that a label lacks
+minus-out : (L N : List ℕ) → Eachn (Out∉ L) N → minus N L ≡ N
+minus-out L [] h = refl
+minus-out L (x ∷ N) h = ap (λ (c : Bool). cond c (minus N L) (x ∷ minus N L)) (h .0) ∙ ap (λ (l : List ℕ). x ∷ l) (minus-out L N (h .1))
+
+-- a box in the environment is a side's own
+has-cases : {M : Type 0} {c d : Place M} {bs : List (Place M)} → Has c (d ∷ bs) → (c ≡ d) ⊎ Has c bs
+has-cases here = inl refl
+has-cases (there h) = inr h
+
+own-place : {c : Place Mark} (side : ℕ) → 1 ≤ side → (j : ℕ) (bs : List Box) (acc : List (Place Mark)) → Has c (placesOf ids side j bs acc) → c .parent ≡ 0 → (c .name ≡ ownName side) ⊎ Has c acc
+own-place side l j [] acc h z = inr h
+own-place {c} side l j (b ∷ bs) acc h z = ⊎-elim (λ q. inl q) (λ h'. ⊎-elim (λ q. inl (first q (eqb j 0) refl)) (λ r. inr r) (has-cases h')) (own-place side l (suc j) bs (placeOf ids side j b ∷ acc) h z)
+  where
+    first : c ≡ placeOf ids side j b → (t : Bool) → eqb j 0 ≡ t → c .name ≡ ownName side
+    first q true p = ap (λ (y : Place Mark). y .name) q ∙ ap (λ (t : Bool). cond t (ownName side) (b .name)) p
+    first q false p = absurd (let r : 0 ≡ siteOf side (b .parent) = sym z ∙ ap (λ (y : Place Mark). y .parent) q ∙ ap (λ (t : Bool). cond t 0 (siteOf side (b .parent))) p in omega arith)
+
+module _ (b : Composition) (s : State) (e : ready b s ≡ true) where
+  no-box : (c : Place Mark) → Has c (confOf b s .boxes) → c .parent ≡ 0 → In (knownOf s) (c .name) → ⊥
+  unfolding confAs
+  no-box c h z k = ⊎-elim (λ q. own-unknown b s 2 (inr refl) (subst (In (knownOf s)) q k))
+      (λ h'. ⊎-elim (λ q. own-unknown b s 1 (inl refl) (subst (In (knownOf s)) q k)) nowhere (own-place 1 (omega arith) 0 (s .one .core .contents .boxes) [] h' z))
+      (own-place 2 (omega arith) 0 (s .two .core .contents .boxes) (placesOf ids 1 0 (s .one .core .contents .boxes) []) h z)
+    where
+      nowhere : Has c [] → ⊥
+      nowhere h = elim h [ ]
+
+  module _ (x : ℕ) (o : Tag ℕ) (v : Val ℕ) (R : Proc Mark []) (wr : Written (recv x o v)) where
+    abbrev l : Label
+    l = recv x o v
+
+    abbrev Outcome : Step → Type 0
+    Outcome k = Met b s l R k ⊎ ((n : ℕ) × (step b s k .answer ≡ refusal n (k .side)) × Excused b s k l n)
+
+    -- a side's entry has taken the value
+    module _ (vw : View b s) (an : Answers b s vw) (u : Mark) (vv : Inv b s R l (two u (enterer (vw .c .side)))) (X Y : List (Item Mark)) (is : confOf b s .items ≡ X ++ entering-item ids (b .wrapper) (vw .c .side) ∷ Y)
+        (n : fill (confOf b s .boxes) (at (X ++ item 0 (ppar (entering-item ids (b .wrapper) (vw .c .side) .what) (pout inert 0 (plain (ichild (ownName (vw .c .side)))) (vren v (vv .perm .to)))) ∷ Y)) ≋ vv .next)
+        (ex : vv .perm .to x ≡ inwards (b .wrapper) (vw .c .side)) (eo : tren o (vv .perm .to) ≡ plain iparent) where
+      abbrev ws : List ℕ
+      ws = vwords v
+
+      abbrev asked : Step
+      asked = enter-step (vw .c .side) (vwords v)
+
+      abbrev moved : Moved
+      moved = entered (vw .core) (vwords v)
+
+      abbrev J : List (Item Mark)
+      J = X ++ item 0 (ppar (entering-item ids (b .wrapper) (vw .c .side) .what) (pout inert 0 (plain (ichild (ownName (vw .c .side)))) (vren v (vv .perm .to)))) ∷ Y
+
+      -- the value may enter
+      module _ (iv : isValue ws ≡ true) (kv : every (λ w. not (isMinted w) or known s w) ws ≡ true) where
+        kept : vren v (vv .perm .to) ≡ v
+        kept = vren-agree v (vv .perm .to) (λ y. y) (AllV-map v (λ y h. vv .keeps y h) (names-known v wr iv b s (wf-of b s e) kv)) ∙ vren-id v
+
+        label-is : lren l (vv .perm .to) ≡ recv (inwards (b .wrapper) (vw .c .side)) (plain iparent) v
+        label-is = λ i. recv (ex i) (eo i) (kept i)
+
+        new-kept : minus (newOf b s) (lnames (lren l (vv .perm .to))) ≡ newOf b s
+        unfolding isValue
+        new-kept = subst (λ (y : Label). minus (newOf b s) (lnames y) ≡ newOf b s) (sym label-is) (minus-out (inwards (b .wrapper) (vw .c .side) ∷ names v) (newOf b s)
+            (subst (λ (y : Val ℕ). Eachn (Out∉ (inwards (b .wrapper) (vw .c .side) ∷ names y)) (newOf b s)) (same-value v wr iv)
+            (enter-fresh b s (few-one b s e) (few-two b s e) ws (inwards (b .wrapper) (vw .c .side)) (inwards-low b s e vw) (shaped-items ws (snd _ _ iv)) (shaped-words ws (snd _ _ iv)) kv)))
+
+        bag : Bag (ritems forget J) (ritems forget (confOf b (vw .next (moved .core) (vw .left)) .items))
+        unfolding remark
+        bag = bag-trans (par-of (All b s) (confOf b s .boxes) (wf-all b s e) (rooted-all b s e) X Y 0 (entering-item ids (b .wrapper) (vw .c .side) .what) (pout inert 0 (plain (ichild (ownName (vw .c .side)))) (vren v (vv .perm .to))))
+            (bag-trans (bag-eq (ap₂ (λ (y : Val ℕ) (r : List (Item (Unit {0}))). item 0 (pout tt 0 (plain (ichild (ownName (vw .c .side)))) y) ∷ r) (kept ∙ sym (same-value v wr iv))
+            (ap (ritems forget) (sym is ∙ vw .items-now) ∙ whole° (b .wrapper) (vw .c .side) (vw .c .table) (vw .C) (vw .D) (vw .core))))
+            (bag-trans (add-msg (b .wrapper) (vw .c .side) (vw .c .table) (vw .C) (vw .D) (vw .core) (vw .core .lobby) (record { status = down; chan = 0; val = ws }) (vw .core .contents .particles))
+            (bag-eq (sym (vw .items-next (moved .core) (vw .left) refl refl)))))
+
+        met : settled (done moved) ≡ done moved → Met b s l R asked
+        met st = record {
+          names = rename-of vv;
+          label = subst₂ (λ (r : Result) (y : Label). Says (b .wrapper) (r .answer) y) (sym there) (sym label-is) (says-in refl (usual-names v (names-ok v wr iv)));
+          side = ap (λ (r : Result). answerSide (r .answer)) there;
+          target = subst (λ (t : State). plainly (ren {r = []} R (vv .perm .to)) ≋ plainly (process (confOf b t))) (sym (ap (λ (r : Result). r .after) there))
+              (kept-target b s e vv new-kept J n (vw .next (moved .core) (vw .left)) (new-same vw (moved .core) refl) (vw .boxes-next (moved .core) (vw .left) refl) bag);
+        }
+          where
+            there : step b s asked ≡ record { answer = labelled enters (vw .c .side) ws; after = vw .next (moved .core) (vw .left) }
+            there = an .is-done asked moved refl (λ z. omega arith) (ap settled (enters-there (vw .c) (known s) (vw .core) (vw .c .side) ws iv kv) ∙ st)
+
+        in-room : (settled (done moved) ≡ done moved) ⊎ ((settled (done moved) ≡ refuse 17) × (16 ≤ length (vw .core .lobby))) → Outcome asked
+        in-room (inl st) = inl (met st)
+        in-room (inr r) = inr (
+          17,
+          an .is-refused asked 17 refl (λ z. omega arith) (ap settled (enters-there (vw .c) (known s) (vw .core) (vw .c .side) ws iv kv) ∙ r .0),
+          by-17 (lobby-full (inl refl) (subst (λ (c : Core). 16 ≤ length (c .lobby)) (sym (an .core-is)) (r .1))),
+        )
+
+      outcome : (t : Bool) → isValue ws ≡ t → (c : Bool) → every (λ w. not (isMinted w) or known s w) ws ≡ c → Outcome asked
+      outcome false p c q = inr (11, an .is-refused asked 11 refl (λ z. omega arith) (refused-11 (vw .c) (known s) (vw .core) (vw .c .side) ws p), ⊎-elim (λ h. by-11-long h) (λ h. by-11-name h) (no-value v p))
+      outcome true p false q = inr (12, an .is-refused asked 12 refl (λ z. omega arith) (refused-12 (vw .c) (known s) (vw .core) (vw .c .side) ws p q), by-12 (unknown-name s v q))
+      outcome true p true q = in-room p q (added (vw .c) (counts s) (vw .core) (vw .ok) (record { status = down; chan = 0; val = ws }) (vw .core .taken) moved refl)
+
+      finish : Completed b s l (two u (enterer (vw .c .side))) R
+      finish = ((asked, enter, asks-in refl refl), λ k atk ask. subst Outcome (sym (entry-step atk u (vw .c .side) refl ∙ ap (enter-step (vw .c .side)) (asks-words ask))) (outcome (isValue ws) refl (every (λ w. not (isMinted w) or known s w) ws) refl))
+
+    -- the input that takes the value
+    record Taken (N : Proc Mark []) (x' : ℕ) (o' : Tag ℕ) (v' : Val ℕ) (w : Participants Mark) : Type 0 where
+      u : Mark
+      i : ℕ
+      P : Proc Mark []
+      Q : Proc Mark []
+      who : w ≡ two u (markIn P)
+      get : getElem? (select (confOf b s .items) 0) i ≡ some P
+      not-out : isOut P ≡ false
+      chan : chanIn P ≡ x'
+      tag : tagIn P ≡ o'
+      got : received P v' ≡ some Q
+      to : fill (confOf b s .boxes) (upd (λ k. parallel (select (confOf b s .items) k)) 0 (parallel (set (select (confOf b s .items) 0) i Q))) ≋ N
+
+    abbrev Mv : Proc Mark [] → Label → Participants Mark → Type 0
+    Mv N y w = Move (All b s) (confOf b s .boxes) (λ k. select (confOf b s .items) k) (wf-all b s e) (atoms-at (confOf b s .items) (items-atoms ids b s e)) (fn-sel b s e) N y w
+
+    recv-inv : {N : Proc Mark []} {x' : ℕ} {o' : Tag ℕ} {v' : Val ℕ} {w : Participants Mark} → Mv N (recv x' o' v') w → AllT o' (In (knownOf s)) → Taken N x' o' v' w
+    recv-inv (receives {x = x'} {g = g} {v = v'} {u = u} {t = t} i m p P σ get fits ok eq) h = record {
+      u = u;
+      i = i;
+      P = pinp m t x' g p P;
+      Q = after m t x' g p P σ;
+      who = refl;
+      get = get;
+      not-out = refl;
+      chan = refl;
+      tag = refl;
+      got = ap (on-some (λ (σ : Vars p → Val ℕ). after m t x' g p P σ)) fits;
+      to = eq;
+    }
+    recv-inv (entering c has z eq) h = absurd (no-box c has z h)
+
+    -- that input is a side's entry
+    by-entry : {w : Participants Mark} (vv : Inv b s R l w) → AllT (tren o (vv .perm .to)) (In (knownOf s)) → (r : Taken (vv .next) (vv .perm .to x) (tren o (vv .perm .to)) (vren v (vv .perm .to)) w)
+        → (a : ItemAt (confOf b s .items) 0 (r .i) (r .P)) → Input b s (r .P) → Completed b s l w R
+    by-entry {w} vv tg r a (enters-of vw an q) =
+        let who : w ≡ two (r .u) (enterer (vw .c .side)) = r .who ∙ ap (λ (A : Proc Mark []). two (r .u) (markIn A)) q in
+        subst (λ (y : Participants Mark). Completed b s l y R) (sym who)
+        (finish vw an (r .u) (inv-at who vv) (a .X) (a .Y) (a .is ∙ ap (λ (A : Proc Mark []). a .X ++ item 0 A ∷ a .Y) q)
+        (trans (symm (subst (λ (A : Proc Mark []). fill (confOf b s .boxes) (upd (λ k. parallel (select (confOf b s .items) k)) 0 (parallel (set (select (confOf b s .items) 0) (r .i) (r .Q)))) ≋ fill (confOf b s .boxes) (at (a .X ++ item 0 A ∷ a .Y)))
+        (forwarded (r .P) (enterer (vw .c .side)) (inwards (b .wrapper) (vw .c .side)) iparent 0 (ichild (ownName (vw .c .side))) q (vren v (vv .perm .to)) (r .Q) (r .got))
+        (one-changed (confOf b s .boxes) (confOf b s .items) 0 (r .i) (r .P) (r .Q) a))) (r .to))
+        (sym (r .chan) ∙ ap chanIn q) (sym (r .tag) ∙ ap tagIn q))
+    by-entry vv tg r a (passes-of vw an q) = absurd (own-unknown b s (vw .c .side) (vw .which) (subst (λ (y : Tag ℕ). AllT y (In (knownOf s))) (sym (r .tag) ∙ ap tagIn q) tg))
+    by-entry vv tg r a (takes-of p q) = absurd (own-unknown b s 1 (inl refl) (subst (λ (y : Tag ℕ). AllT y (In (knownOf s))) (sym (r .tag) ∙ ap tagIn q) tg))
+
+    -- COMPLETE, for what the environment says
+    pub complete-in : {w : Participants Mark} → Trans (knownOf s) (process (confOf b s)) (recv x o v) w R → Completed b s (recv x o v) w R
+    complete-in {w} d =
+        let t = transitions b s e R d in
+        let vv = t .0 in
+        let tg : AllT (tren o (vv .perm .to)) (In (knownOf s)) = AllT-ren o (vv .perm .to) (In (knownOf s)) (AllT-map o (λ y h. subst (In (knownOf s)) (sym (vv .keeps y h)) h) (step-tag d)) in
+        let r = recv-inv (t .1) tg in
+        let a = item-at (confOf b s .items) 0 (r .i) (r .P) (r .get) in
+        by-entry vv tg r a (input-is b s e (a .X) (a .Y) (r .P) (a .is) (r .not-out))
