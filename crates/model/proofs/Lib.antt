@@ -58,3 +58,4 @@ pub mod MeetAnswer
 pub mod CompleteMeet
 pub mod Complete
 pub mod Trials
+pub mod Corollaries
