@@ -44,6 +44,7 @@ pub mod Completing
 pub mod WrapperLevel
 pub mod AskedValues
 pub mod CompleteOut
+pub mod EntryMoves
 pub mod CompleteIn
 pub mod CompleteForward
 pub mod ItemSides
