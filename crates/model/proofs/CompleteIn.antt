@@ -3,35 +3,30 @@ use mathlib.Core.Path.{_≡_, refl, sym, ap, ap₂, _∙_, subst, subst₂}
 use mathlib.Core.Bool.{Bool, true, false, not, cond}
 use mathlib.Core.List.{List, [], _∷_, _++_}
 use mathlib.Core.Logic.{_⊎_, inl, inr, ⊎-elim}
-use mathlib.Core.Option.{some}
-use Prim.Native.Nat.{ℕ, suc, _≤_}
+use Prim.Native.Nat.{ℕ, _≤_}
 use native.Mathlib.Omega.{arith}
-use lib.Dec.{eqb}
-use lib.ListN.{length, getElem?, set}
-use Rattle.calculus.specs.Syntax.{Val, Vars, Tag, plain, Proc, AllT, tren, vren, ren, remark}
-use Rattle.calculus.specs.Syntax.{par as ppar, out as pout, inp as pinp, parent as iparent, child as ichild}
+use lib.ListN.{length, set}
+use Rattle.calculus.specs.Syntax.{Val, Tag, plain, Proc, tren, vren, ren, remark}
+use Rattle.calculus.specs.Syntax.{par as ppar, out as pout, parent as iparent, child as ichild}
 use Rattle.calculus.specs.Congruence.{_≋_, symm, trans}
-use Rattle.calculus.specs.Transitions.{Label, recv, Participants, one, two, In, Out∉, names, lnames}
+use Rattle.calculus.specs.Transitions.{Label, recv, Participants, two, Out∉, names, lnames}
 use Rattle.calculus.specs.Transitions.{Step as Trans}
-use Rattle.calculus.specs.Tree.{Place, fill, upd}
+use Rattle.calculus.specs.Tree.{fill, upd}
 use Rattle.calculus.specs.Parallel.{parallel}
 use Rattle.calculus.specs.Tree.{Item, select}
 use Rattle.calculus.specs.Tree.{process}
 use Rattle.model.specs.Basics.{_&_, _or_, refuse, done, need, choose, bind, every}
 use Rattle.model.specs.Values.{isMinted, isValue}
-use Rattle.model.specs.Side.{State, Box, Core, down}
+use Rattle.model.specs.Side.{State, Core, down}
 use Rattle.model.specs.Load.{Composition, Setting}
 use Rattle.model.specs.WellFormed.{counts, ready}
 use Rattle.model.specs.Step.{Step, Moved, enters, labelled, Result, refusal, settled, local, step, known, enter as entry}
-use Rattle.model.specs.Process.{Mark, lobby, shelf, enterer, inert, ownName, siteOf, inwards, vwords, confAs, confOf, newOf, knownOf, placeOf, placesOf, enters as entering-item}
+use Rattle.model.specs.Process.{Mark, lobby, shelf, enterer, inert, ownName, inwards, vwords, confOf, newOf, knownOf, enters as entering-item}
 use Rattle.model.specs.Agreement.{plainly, At, Asks, asks-in, Says, says-in, Met, Excused, by-11-long, by-11-name, by-12, by-17, lobby-full, answerSide, Written, enter, goDown, goUp, descend, meet, pass, leave, take}
-use Rattle.calculus.proofs.Renaming.{AllT-map, AllT-ren, AllV-map, vren-agree, vren-id}
-use Rattle.calculus.proofs.FreeNames.{step-tag}
+use Rattle.calculus.proofs.Renaming.{AllV-map, vren-agree, vren-id}
 use Rattle.calculus.proofs.Inversion.{after}
 use Rattle.calculus.proofs.Equivariance.{lren}
 use Rattle.calculus.proofs.Restriction.{minus, Eachn}
-use Rattle.calculus.proofs.Trees.{Has, here, there}
-use Rattle.calculus.proofs.TreeMoves.{Move, receives, entering}
 use Rattle.calculus.proofs.Bags.{item, at, Bag, bag-eq, bag-trans, ritems}
 use Rattle.model.proofs.Items.{shaped-items}
 use Rattle.model.proofs.Keeping.{shaped-words}
@@ -43,9 +38,9 @@ use Rattle.model.proofs.StateMoves.{wf-all, rooted-all}
 use Rattle.model.proofs.SideViews.{View, new-same}
 use Rattle.model.proofs.NamesEntering.{enter-fresh}
 use Rattle.model.proofs.SideSteps.{few-two, inwards-low}
-use Rattle.model.proofs.StateInversion.{transitions, kept-target, rename-of, item-at, ItemAt, atoms-at, items-atoms, fn-sel}
+use Rattle.model.proofs.StateInversion.{kept-target, rename-of}
 use Rattle.model.proofs.ItemPlaces.{one-changed}
-use Rattle.model.proofs.Completing.{Completed, Inv, inv-at, on-some, Answers, added, own-unknown, tagIn, chanIn, markIn, isOut, received, forwarded}
+use Rattle.model.proofs.Completing.{Completed, Inv, inv-at, Answers, added, markIn, forwarded}
 use Rattle.model.proofs.EntryMoves.{Entry, entry-of}
 use Rattle.model.proofs.AskedValues.{no-value, unknown-name, names-ok, same-value, usual-names, names-known}
 
@@ -71,7 +66,7 @@ abbrev entered : Core → List ℕ → Moved
 entered s ws = record { label = enters; val = ws; core = record { contents = s .contents; lobby = s .lobby ++ (record { status = down; chan = 0; val = ws } ∷ []); shelf = s .shelf; taken = s .taken } }
 
 module _ (c : Setting) (kn : ℕ → Bool) (s : Core) (σ : ℕ) (ws : List ℕ) where
-  refused-11 : isValue ws ≡ false → settled (local c kn s (enter-step σ ws)) ≡ refuse 11
+  pub refused-11 : isValue ws ≡ false → settled (local c kn s (enter-step σ ws)) ≡ refuse 11
   unfolding local choose need _&_ entry settled bind
   refused-11 p = rw p
 

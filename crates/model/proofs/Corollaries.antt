@@ -16,7 +16,7 @@ use Rattle.model.specs.Table.{childTimes, build, decode, term, scopeUp}
 use Rattle.model.specs.Checks.{check1, check2, timesChild, check3, check4, patternOk, check5, over, overAll, firstBad, found, fault}
 use Rattle.model.specs.Side.{State, limits, startSide, noSide}
 use Rattle.model.specs.Unfolding.{unfolds, defined}
-use Rattle.model.specs.Load.{Composition, start, loadSide, load, Loaded, refused, ok}
+use Rattle.model.specs.Load.{Composition, start, loadSide, load, ok}
 use Rattle.model.specs.WellFormed.{held, heldWord, wfValue, wfTag, wfParticle, wfBoxes, wfContents, wfMessage, wfCore, wfLeft, wfSide, wfTaken, isNoSide, wfState, ready}
 use Rattle.model.specs.Step.{Step, Answer, enter, goDown, upFrom, upParticle, up, descendParticle, descend, meetTerm, meetParticles, meet, pass, leave, takes, inner, local, local2, settled, mark1, step}
 use Rattle.model.specs.Process.{confOf, knownOf, codeOf, valOf, reads, patOf, readsP}

@@ -59,4 +59,5 @@ pub mod MeetAnswer
 pub mod CompleteMeet
 pub mod Complete
 pub mod Trials
+pub mod Purity
 pub mod Corollaries
