@@ -24,7 +24,6 @@ use Rattle.model.specs.Step.{Step, Moved, enters, labelled, Result, refu
 use Rattle.model.specs.Process.{Mark, lobby, shelf, enterer, inert, ownName, inwards, vwords, confOf, newOf, knownOf, enters as entering-item}
 use Rattle.model.specs.Agreement.{plainly, At, Asks, asks-in, Says, says-in, Met, Excused, by-11-long, by-11-name, by-12, by-17, lobby-full, answerSide, Written, enter, goDown, goUp, descend, meet, pass, leave, take}
 use Rattle.calculus.proofs.Renaming.{AllV-map, vren-agree, vren-id}
-use Rattle.calculus.proofs.Inversion.{after}
 use Rattle.calculus.proofs.Equivariance.{lren}
 use Rattle.calculus.proofs.Restriction.{minus, Eachn}
 use Rattle.calculus.proofs.Bags.{item, at, Bag, bag-eq, bag-trans, ritems}
