@@ -3,35 +3,29 @@ use mathlib.Core.Path.{_≡_, refl, sym, ap, ap₂, _∙_, subst, subst₂}
 use mathlib.Core.Bool.{Bool, true, false, not, cond}
 use mathlib.Core.List.{List, [], _∷_, _++_}
 use mathlib.Core.Logic.{_⊎_, inl, inr, ⊎-elim}
-use mathlib.Core.Option.{some}
-use Prim.Native.Nat.{ℕ, suc, _≤_}
+use Prim.Native.Nat.{ℕ, _≤_}
 use native.Mathlib.Omega.{arith}
-use lib.Dec.{eqb}
-use lib.ListN.{length, getElem?, set}
-use Rattle.calculus.specs.Syntax.{Val, Vars, Tag, plain, Proc, AllT, tren, vren, ren, remark}
-use Rattle.calculus.specs.Syntax.{par as ppar, out as pout, inp as pinp, parent as iparent, child as ichild}
+use lib.ListN.{length, set}
+use Rattle.calculus.specs.Syntax.{Val, Tag, plain, Proc, tren, vren, ren, remark}
+use Rattle.calculus.specs.Syntax.{par as ppar, out as pout, parent as iparent, child as ichild}
 use Rattle.calculus.specs.Congruence.{_≋_, symm, trans}
-use Rattle.calculus.specs.Transitions.{Label, recv, Participants, one, two, In, Out∉, names, lnames}
+use Rattle.calculus.specs.Transitions.{Label, recv, Participants, two, Out∉, names, lnames}
 use Rattle.calculus.specs.Transitions.{Step as Trans}
-use Rattle.calculus.specs.Tree.{Place, fill, upd}
+use Rattle.calculus.specs.Tree.{fill, upd}
 use Rattle.calculus.specs.Parallel.{parallel}
 use Rattle.calculus.specs.Tree.{Item, select}
 use Rattle.calculus.specs.Tree.{process}
 use Rattle.model.specs.Basics.{_&_, _or_, refuse, done, need, choose, bind, every}
 use Rattle.model.specs.Values.{isMinted, isValue}
-use Rattle.model.specs.Side.{State, Box, Core, down}
+use Rattle.model.specs.Side.{State, Core, down}
 use Rattle.model.specs.Load.{Composition, Setting}
 use Rattle.model.specs.WellFormed.{counts, ready}
 use Rattle.model.specs.Step.{Step, Moved, enters, labelled, Result, refusal, settled, local, step, known, enter as entry}
-use Rattle.model.specs.Process.{Mark, lobby, shelf, enterer, inert, ownName, siteOf, inwards, vwords, confAs, confOf, newOf, knownOf, placeOf, placesOf, enters as entering-item}
+use Rattle.model.specs.Process.{Mark, lobby, shelf, enterer, inert, ownName, inwards, vwords, confOf, newOf, knownOf, enters as entering-item}
 use Rattle.model.specs.Agreement.{plainly, At, Asks, asks-in, Says, says-in, Met, Excused, by-11-long, by-11-name, by-12, by-17, lobby-full, answerSide, Written, enter, goDown, goUp, descend, meet, pass, leave, take}
-use Rattle.calculus.proofs.Renaming.{AllT-map, AllT-ren, AllV-map, vren-agree, vren-id}
-use Rattle.calculus.proofs.FreeNames.{step-tag}
-use Rattle.calculus.proofs.Inversion.{after}
+use Rattle.calculus.proofs.Renaming.{AllV-map, vren-agree, vren-id}
 use Rattle.calculus.proofs.Equivariance.{lren}
 use Rattle.calculus.proofs.Restriction.{minus, Eachn}
-use Rattle.calculus.proofs.Trees.{Has, here, there}
-use Rattle.calculus.proofs.TreeMoves.{Move, receives, entering}
 use Rattle.calculus.proofs.Bags.{item, at, Bag, bag-eq, bag-trans, ritems}
 use Rattle.model.proofs.Items.{shaped-items}
 use Rattle.model.proofs.Keeping.{shaped-words}
@@ -43,10 +37,10 @@ use Rattle.model.proofs.StateMoves.{wf-all, rooted-all}
 use Rattle.model.proofs.SideViews.{View, new-same}
 use Rattle.model.proofs.NamesEntering.{enter-fresh}
 use Rattle.model.proofs.SideSteps.{few-two, inwards-low}
-use Rattle.model.proofs.StateInversion.{transitions, kept-target, rename-of, item-at, ItemAt, atoms-at, items-atoms, fn-sel}
+use Rattle.model.proofs.StateInversion.{kept-target, rename-of}
 use Rattle.model.proofs.ItemPlaces.{one-changed}
-use Rattle.model.proofs.Completing.{Completed, Inv, inv-at, on-some, Answers, added, own-unknown, tagIn, chanIn, markIn, isOut, received, forwarded}
-use Rattle.model.proofs.WrapperLevel.{Input, enters-of, passes-of, takes-of, input-is}
+use Rattle.model.proofs.Completing.{Completed, Inv, inv-at, Answers, added, markIn, forwarded}
+use Rattle.model.proofs.EntryMoves.{Entry, entry-of}
 use Rattle.model.proofs.AskedValues.{no-value, unknown-name, names-ok, same-value, usual-names, names-known}
 
 abbrev enter-step : ℕ → List ℕ → Step
@@ -71,7 +65,7 @@ abbrev entered : Core → List ℕ → Moved
 entered s ws = record { label = enters; val = ws; core = record { contents = s .contents; lobby = s .lobby ++ (record { status = down; chan = 0; val = ws } ∷ []); shelf = s .shelf; taken = s .taken } }
 
 module _ (c : Setting) (kn : ℕ → Bool) (s : Core) (σ : ℕ) (ws : List ℕ) where
-  refused-11 : isValue ws ≡ false → settled (local c kn s (enter-step σ ws)) ≡ refuse 11
+  pub refused-11 : isValue ws ≡ false → settled (local c kn s (enter-step σ ws)) ≡ refuse 11
   unfolding local choose need _&_ entry settled bind
   refused-11 p = rw p
 
@@ -88,29 +82,7 @@ minus-out : (L N : List ℕ) → Eachn (Out∉ L) N → minus N L ≡ N
 minus-out L [] h = refl
 minus-out L (x ∷ N) h = ap (λ (c : Bool). cond c (minus N L) (x ∷ minus N L)) (h .0) ∙ ap (λ (l : List ℕ). x ∷ l) (minus-out L N (h .1))
 
--- a box in the environment is a side's own
-has-cases : {M : Type 0} {c d : Place M} {bs : List (Place M)} → Has c (d ∷ bs) → (c ≡ d) ⊎ Has c bs
-has-cases here = inl refl
-has-cases (there h) = inr h
-
-own-place : {c : Place Mark} (side : ℕ) → 1 ≤ side → (j : ℕ) (bs : List Box) (acc : List (Place Mark)) → Has c (placesOf ids side j bs acc) → c .parent ≡ 0 → (c .name ≡ ownName side) ⊎ Has c acc
-own-place side l j [] acc h z = inr h
-own-place {c} side l j (b ∷ bs) acc h z = ⊎-elim (λ q. inl q) (λ h'. ⊎-elim (λ q. inl (first q (eqb j 0) refl)) (λ r. inr r) (has-cases h')) (own-place side l (suc j) bs (placeOf ids side j b ∷ acc) h z)
-  where
-    first : c ≡ placeOf ids side j b → (t : Bool) → eqb j 0 ≡ t → c .name ≡ ownName side
-    first q true p = ap (λ (y : Place Mark). y .name) q ∙ ap (λ (t : Bool). cond t (ownName side) (b .name)) p
-    first q false p = absurd (let r : 0 ≡ siteOf side (b .parent) = sym z ∙ ap (λ (y : Place Mark). y .parent) q ∙ ap (λ (t : Bool). cond t 0 (siteOf side (b .parent))) p in omega arith)
-
 module _ (b : Composition) (s : State) (e : ready b s ≡ true) where
-  no-box : (c : Place Mark) → Has c (confOf b s .boxes) → c .parent ≡ 0 → In (knownOf s) (c .name) → ⊥
-  unfolding confAs
-  no-box c h z k = ⊎-elim (λ q. own-unknown b s 2 (inr refl) (subst (In (knownOf s)) q k))
-      (λ h'. ⊎-elim (λ q. own-unknown b s 1 (inl refl) (subst (In (knownOf s)) q k)) nowhere (own-place 1 (omega arith) 0 (s .one .core .contents .boxes) [] h' z))
-      (own-place 2 (omega arith) 0 (s .two .core .contents .boxes) (placesOf ids 1 0 (s .one .core .contents .boxes) []) h z)
-    where
-      nowhere : Has c [] → ⊥
-      nowhere h = elim h [ ]
-
   module _ (x : ℕ) (o : Tag ℕ) (v : Val ℕ) (R : Proc Mark []) (wr : Written (recv x o v)) where
     abbrev l : Label
     l = recv x o v
@@ -184,59 +156,19 @@ module _ (b : Composition) (s : State) (e : ready b s ≡ true) where
       finish : Completed b s l (two u (enterer (vw .c .side))) R
       finish = ((asked, enter, asks-in refl refl), λ k atk ask. subst Outcome (sym (entry-step atk u (vw .c .side) refl ∙ ap (enter-step (vw .c .side)) (asks-words ask))) (outcome (isValue ws) refl (every (λ w. not (isMinted w) or known s w) ws) refl))
 
-    -- the input that takes the value
-    record Taken (N : Proc Mark []) (x' : ℕ) (o' : Tag ℕ) (v' : Val ℕ) (w : Participants Mark) : Type 0 where
-      u : Mark
-      i : ℕ
-      P : Proc Mark []
-      Q : Proc Mark []
-      who : w ≡ two u (markIn P)
-      get : getElem? (select (confOf b s .items) 0) i ≡ some P
-      not-out : isOut P ≡ false
-      chan : chanIn P ≡ x'
-      tag : tagIn P ≡ o'
-      got : received P v' ≡ some Q
-      to : fill (confOf b s .boxes) (upd (λ k. parallel (select (confOf b s .items) k)) 0 (parallel (set (select (confOf b s .items) 0) i Q))) ≋ N
-
-    abbrev Mv : Proc Mark [] → Label → Participants Mark → Type 0
-    Mv N y w = Move (All b s) (confOf b s .boxes) (λ k. select (confOf b s .items) k) (wf-all b s e) (atoms-at (confOf b s .items) (items-atoms ids b s e)) (fn-sel b s e) N y w
-
-    recv-inv : {N : Proc Mark []} {x' : ℕ} {o' : Tag ℕ} {v' : Val ℕ} {w : Participants Mark} → Mv N (recv x' o' v') w → AllT o' (In (knownOf s)) → Taken N x' o' v' w
-    recv-inv (receives {x = x'} {g = g} {v = v'} {u = u} {t = t} i m p P σ get fits ok eq) h = record {
-      u = u;
-      i = i;
-      P = pinp m t x' g p P;
-      Q = after m t x' g p P σ;
-      who = refl;
-      get = get;
-      not-out = refl;
-      chan = refl;
-      tag = refl;
-      got = ap (on-some (λ (σ : Vars p → Val ℕ). after m t x' g p P σ)) fits;
-      to = eq;
-    }
-    recv-inv (entering c has z eq) h = absurd (no-box c has z h)
-
-    -- that input is a side's entry
-    by-entry : {w : Participants Mark} (vv : Inv b s R l w) → AllT (tren o (vv .perm .to)) (In (knownOf s)) → (r : Taken (vv .next) (vv .perm .to x) (tren o (vv .perm .to)) (vren v (vv .perm .to)) w)
-        → (a : ItemAt (confOf b s .items) 0 (r .i) (r .P)) → Input b s (r .P) → Completed b s l w R
-    by-entry {w} vv tg r a (enters-of vw an q) =
-        let who : w ≡ two (r .u) (enterer (vw .c .side)) = r .who ∙ ap (λ (A : Proc Mark []). two (r .u) (markIn A)) q in
-        subst (λ (y : Participants Mark). Completed b s l y R) (sym who)
-        (finish vw an (r .u) (inv-at who vv) (a .X) (a .Y) (a .is ∙ ap (λ (A : Proc Mark []). a .X ++ item 0 A ∷ a .Y) q)
-        (trans (symm (subst (λ (A : Proc Mark []). fill (confOf b s .boxes) (upd (λ k. parallel (select (confOf b s .items) k)) 0 (parallel (set (select (confOf b s .items) 0) (r .i) (r .Q)))) ≋ fill (confOf b s .boxes) (at (a .X ++ item 0 A ∷ a .Y)))
-        (forwarded (r .P) (enterer (vw .c .side)) (inwards (b .wrapper) (vw .c .side)) iparent 0 (ichild (ownName (vw .c .side))) q (vren v (vv .perm .to)) (r .Q) (r .got))
-        (one-changed (confOf b s .boxes) (confOf b s .items) 0 (r .i) (r .P) (r .Q) a))) (r .to))
-        (sym (r .chan) ∙ ap chanIn q) (sym (r .tag) ∙ ap tagIn q))
-    by-entry vv tg r a (passes-of vw an q) = absurd (own-unknown b s (vw .c .side) (vw .which) (subst (λ (y : Tag ℕ). AllT y (In (knownOf s))) (sym (r .tag) ∙ ap tagIn q) tg))
-    by-entry vv tg r a (takes-of p q) = absurd (own-unknown b s 1 (inl refl) (subst (λ (y : Tag ℕ). AllT y (In (knownOf s))) (sym (r .tag) ∙ ap tagIn q) tg))
-
     -- COMPLETE, for what the environment says
     pub complete-in : {w : Participants Mark} → Trans (knownOf s) (process (confOf b s)) (recv x o v) w R → Completed b s (recv x o v) w R
-    complete-in {w} d =
-        let t = transitions b s e R d in
-        let vv = t .0 in
-        let tg : AllT (tren o (vv .perm .to)) (In (knownOf s)) = AllT-ren o (vv .perm .to) (In (knownOf s)) (AllT-map o (λ y h. subst (In (knownOf s)) (sym (vv .keeps y h)) h) (step-tag d)) in
-        let r = recv-inv (t .1) tg in
-        let a = item-at (confOf b s .items) 0 (r .i) (r .P) (r .get) in
-        by-entry vv tg r a (input-is b s e (a .X) (a .Y) (r .P) (a .is) (r .not-out))
+    complete-in {w} d = let t = entry-of b s e d in by-entry (t .0) (t .1)
+      where
+        by-entry : (vv : Inv b s R l w) → Entry b s e vv → Completed b s l w R
+        by-entry vv n =
+            let vw = n .vw in
+            let r = n .by in
+            let a = n .place in
+            let who : w ≡ two (r .u) (enterer (vw .c .side)) = r .who ∙ ap (λ (A : Proc Mark []). two (r .u) (markIn A)) (n .is) in
+            subst (λ (y : Participants Mark). Completed b s l y R) (sym who)
+            (finish vw (n .an) (r .u) (inv-at who vv) (a .X) (a .Y) (a .is ∙ ap (λ (A : Proc Mark []). a .X ++ item 0 A ∷ a .Y) (n .is))
+            (trans (symm (subst (λ (A : Proc Mark []). fill (confOf b s .boxes) (upd (λ k. parallel (select (confOf b s .items) k)) 0 (parallel (set (select (confOf b s .items) 0) (r .i) (r .Q)))) ≋ fill (confOf b s .boxes) (at (a .X ++ item 0 A ∷ a .Y)))
+            (forwarded (r .P) (enterer (vw .c .side)) (inwards (b .wrapper) (vw .c .side)) iparent 0 (ichild (ownName (vw .c .side))) (n .is) (vren v (vv .perm .to)) (r .Q) (r .got))
+            (one-changed (confOf b s .boxes) (confOf b s .items) 0 (r .i) (r .P) (r .Q) a))) (r .to))
+            (n .on) (n .tagged))

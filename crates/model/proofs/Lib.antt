@@ -44,6 +44,7 @@ pub mod Completing
 pub mod WrapperLevel
 pub mod AskedValues
 pub mod CompleteOut
+pub mod EntryMoves
 pub mod CompleteIn
 pub mod CompleteForward
 pub mod ItemSides
@@ -58,3 +59,5 @@ pub mod MeetAnswer
 pub mod CompleteMeet
 pub mod Complete
 pub mod Trials
+pub mod Purity
+pub mod Corollaries

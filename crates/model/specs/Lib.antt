@@ -14,3 +14,4 @@ pub mod Process
 pub mod Agreement
 pub mod Trials
 pub mod MoreTrials
+pub mod Corollaries
