@@ -38,8 +38,8 @@ use Rattle.model.proofs.MeetTargets.{get-every}
 use Rattle.model.proofs.StateInversion.{item-at, ItemAt}
 use Rattle.model.proofs.ItemPlaces.{one-moved}
 use Rattle.model.proofs.Completing.{Completed, Answers, what-eq, site-eq, tagIn, chanIn, valIn, markIn}
-use Rattle.model.proofs.ItemSides.{Spot, outside, message, particle, sent-part, outside-no, tag-into, limits-of, moved-bag, put-back, one-more, few-parts, few-boxes, few-minted, all-short, val-short}
-use Rattle.model.proofs.ItemSides.{root-of, child-of, spot-of, Outcome, complete-at, silent-met}
+use Rattle.model.proofs.ItemSides.{Stands, outside, message, particle, sent-part, outside-no, tag-into, limits-of, moved-bag, put-back, one-more, few-parts, few-boxes, few-minted, all-short, val-short}
+use Rattle.model.proofs.ItemSides.{root-of, child-of, stands-of, Outcome, complete-at, silent-met}
 
 abbrev down-step : ℕ → ℕ → Step
 down-step σ j = record { kind = 2; side = σ; i = j; j = 0; words = [] }
@@ -151,10 +151,10 @@ module _ (b : Composition) (s : State) (e : ready b s ≡ true) where
       let a = item-at (confOf b s .items) (c .parent) i P get in
       let ne = wf-has (All b s) has (wf-all b s e) in
       go a (trans (symm (one-moved (confOf b s .boxes) (confOf b s .items) (c .parent) (c .site) i P pnil (pout t x receivedParent u) a ne (eqb-sym (c .parent) (c .site) ∙ ne))) eq)
-      (spot-of b s e (a .X) (item (c .parent) P) (a .Y) (a .is))
+      (stands-of b s e (a .X) (item (c .parent) P) (a .Y) (a .is))
     where
       go : (a : ItemAt (confOf b s .items) (c .parent) i (pout t x (plain (ichild (c .name))) u)) → fill (confOf b s .boxes) (at (item (c .site) (pout t x receivedParent u) ∷ (a .X ++ item (c .parent) pnil ∷ a .Y))) ≋ v .next
-          → Spot b s (a .X) (item (c .parent) (pout t x (plain (ichild (c .name))) u)) (a .Y) → Completed b s tau (two t (c .mark)) R
+          → Stands b s (a .X) (item (c .parent) (pout t x (plain (ichild (c .name))) u)) (a .Y) → Completed b s tau (two t (c .mark)) R
       go a n (outside Y1 q) = absurd (outside-no b s (a .X) Y1 (c .parent) t x (ichild (c .name)) u q)
       go a n (message vw ac j m g is gone put) =
           let r = root-of b s e c has (site-eq is) in

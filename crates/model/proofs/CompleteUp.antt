@@ -36,7 +36,7 @@ use Rattle.model.proofs.MeetTargets.{get-every}
 use Rattle.model.proofs.StateInversion.{item-at, ItemAt}
 use Rattle.model.proofs.ItemPlaces.{one-moved}
 use Rattle.model.proofs.Completing.{Completed, Answers, site-eq}
-use Rattle.model.proofs.ItemSides.{Spot, outside, message, particle, sent-part, outside-no, tag-up, limits-of, site-pos, box-of, moved-bag, put-back, one-more, few-parts, few-boxes, few-minted, all-short, val-short, spot-of, Outcome, complete-at, silent-met}
+use Rattle.model.proofs.ItemSides.{Stands, outside, message, particle, sent-part, outside-no, tag-up, limits-of, site-pos, box-of, moved-bag, put-back, one-more, few-parts, few-boxes, few-minted, all-short, val-short, stands-of, Outcome, complete-at, silent-met}
 
 abbrev up-step : ℕ → ℕ → Step
 up-step σ j = record { kind = 3; side = σ; i = j; j = 0; words = [] }
@@ -185,10 +185,10 @@ module _ (b : Composition) (s : State) (e : ready b s ≡ true) where
       let a = item-at (confOf b s .items) (c .site) i P get in
       let ne = wf-has (All b s) has (wf-all b s e) in
       go a (trans (symm (one-moved (confOf b s .boxes) (confOf b s .items) (c .site) (c .parent) i P pnil (pout t x (receivedChild (c .name)) u) a (eqb-sym (c .parent) (c .site) ∙ ne) ne)) eq)
-      (spot-of b s e (a .X) (item (c .site) P) (a .Y) (a .is))
+      (stands-of b s e (a .X) (item (c .site) P) (a .Y) (a .is))
     where
       go : (a : ItemAt (confOf b s .items) (c .site) i (pout t x (plain iparent) u)) → fill (confOf b s .boxes) (at (item (c .parent) (pout t x (receivedChild (c .name)) u) ∷ (a .X ++ item (c .site) pnil ∷ a .Y))) ≋ v .next
-          → Spot b s (a .X) (item (c .site) (pout t x (plain iparent) u)) (a .Y) → Completed b s tau (one t) R
+          → Stands b s (a .X) (item (c .site) (pout t x (plain iparent) u)) (a .Y) → Completed b s tau (one t) R
       go a n (outside Y1 q) = absurd (outside-no b s (a .X) Y1 (c .site) t x iparent u q)
       go a n (message vw ac j m g is gone put) = absurd (site-pos b s c has (site-eq is))
       go a n (particle vw ac j p g is gone put) =

@@ -79,7 +79,7 @@ module _ (k k′ : Counts) (h : Le k k′) where
       go true p = less (i % 256) (k .c1) (k′ .c1) p (h .le1)
       go false p = less (i % 256) (k .c2) (k′ .c2) p (h .le2)
 
--- a soup's and a core's well-formedness, as facts
+-- the well-formedness of contents and of a core, as facts
 pub record ContentsOk (t : Table) (k : Counts) (s : Contents) : Type 0 where
   pub few : withinLimits s ≡ true
   pub box0 : 1 ≤ length (s .boxes)

@@ -42,16 +42,16 @@ use Rattle.model.proofs.ItemPlaces.{message as message', particle as pa
 use Rattle.model.proofs.Completing.{Completed, what-eq, site-eq, tagIn, chanIn, valIn, markIn, isOut, Answers, answers1, answers2}
 
 -- an item of the state: one that stands outside both sides, a message, or a particle
-pub data Spot (b : Composition) (s : State) (X : List (Item Mark)) (i : Item Mark) (Y : List (Item Mark)) : Type 0 where
-  outside : (Y1 : List (Item Mark)) → forwarders ids (isPipeline b) (b .wrapper) ++ shelfItems ids (s .two .core .taken) 0 (s .one .core .shelf) ≡ X ++ i ∷ Y1 → Spot b s X i Y
+pub data Stands (b : Composition) (s : State) (X : List (Item Mark)) (i : Item Mark) (Y : List (Item Mark)) : Type 0 where
+  outside : (Y1 : List (Item Mark)) → forwarders ids (isPipeline b) (b .wrapper) ++ shelfItems ids (s .two .core .taken) 0 (s .one .core .shelf) ≡ X ++ i ∷ Y1 → Stands b s X i Y
   message : (vw : View b s) → Answers b s vw → (j : ℕ) (m : Message) → getElem? (vw .core .lobby) j ≡ some m → i ≡ msgItem ids (b .wrapper) (vw .c .side) j m
       → ritems forget X ++ ritems forget Y ≡ target (b .wrapper) (vw .c .side) (vw .c .table) (vw .C) (vw .D) (vw .core) (remove (vw .core .lobby) j) (vw .core .contents .particles)
       → ((n : Message) → ritems forget X ++ plainM (b .wrapper) (vw .c .side) n ∷ ritems forget Y ≡ target (b .wrapper) (vw .c .side) (vw .c .table) (vw .C) (vw .D) (vw .core) (set (vw .core .lobby) j n) (vw .core .contents .particles))
-      → Spot b s X i Y
+      → Stands b s X i Y
   particle : (vw : View b s) → Answers b s vw → (j : ℕ) (p : Particle) → getElem? (vw .core .contents .particles) j ≡ some p → i ≡ partItem ids (vw .c .table) (vw .c .side) j p
       → ritems forget X ++ ritems forget Y ≡ target (b .wrapper) (vw .c .side) (vw .c .table) (vw .C) (vw .D) (vw .core) (vw .core .lobby) (remove (vw .core .contents .particles) j)
       → ((q : Particle) → ritems forget X ++ plainP (vw .c .table) (vw .c .side) q ∷ ritems forget Y ≡ target (b .wrapper) (vw .c .side) (vw .c .table) (vw .C) (vw .D) (vw .core) (vw .core .lobby) (set (vw .core .contents .particles) j q))
-      → Spot b s X i Y
+      → Stands b s X i Y
 
 not-empty : {A : Type 0} (X : List A) (y : A) (Y : List A) → [] ≡ X ++ y ∷ Y → ⊥
 not-empty [] y Y q = let z : _≡_ {A = ℕ} 0 (suc (length Y)) = ap length q in omega arith
@@ -204,11 +204,11 @@ unfolding limits
 limits-of q p x m l h = both _ _ (both _ _ (le-leb _ _ p) (both _ _ (le-leb _ _ x) (le-leb _ _ m))) (both _ _ (le-leb _ _ l) (le-leb _ _ h))
 
 module _ (b : Composition) (s : State) (e : ready b s ≡ true) where
-  pub spot-of : (X : List (Item Mark)) (i : Item Mark) (Y : List (Item Mark)) → confOf b s .items ≡ X ++ i ∷ Y → Spot b s X i Y
+  pub stands-of : (X : List (Item Mark)) (i : Item Mark) (Y : List (Item Mark)) → confOf b s .items ≡ X ++ i ∷ Y → Stands b s X i Y
   unfolding view1 view2
-  spot-of X i Y q = first (where-of (b .wrapper) 1 (b .table1) (view1 b s e .C) (view1 b s e .D) (s .one .core) X i Y (sym (view1 b s e .items-now) ∙ q))
+  stands-of X i Y q = first (where-of (b .wrapper) 1 (b .table1) (view1 b s e .C) (view1 b s e .D) (s .one .core) X i Y (sym (view1 b s e .items-now) ∙ q))
     where
-      second : (p : isPipeline b ≡ true) (X1 : List (Item Mark)) → X ≡ view1 b s e .C ++ (sideItems ids (b .wrapper) 1 (b .table1) (s .one .core) ++ X1) → Where (b .wrapper) 2 (b .table2) (view2 b s e p .C) (view2 b s e p .D) (s .two .core) X i Y → Spot b s X i Y
+      second : (p : isPipeline b ≡ true) (X1 : List (Item Mark)) → X ≡ view1 b s e .C ++ (sideItems ids (b .wrapper) 1 (b .table1) (s .one .core) ++ X1) → Where (b .wrapper) 2 (b .table2) (view2 b s e p .C) (view2 b s e p .D) (s .two .core) X i Y → Stands b s X i Y
       second p X1 ex (message' j m g is gone put) = message (view2 b s e p) (answers2 b s e p) j m g is gone put
       second p X1 ex (particle' j m g is gone put) = particle (view2 b s e p) (answers2 b s e p) j m g is gone put
       second p X1 ex (behind X2 h r) = absurd (not-empty X2 i Y h)
@@ -218,13 +218,13 @@ module _ (b : Composition) (s : State) (e : ready b s ≡ true) where
           let l2 : length X ≡ length ((F ++ H) ++ (S ++ X1)) = ap length ex in
           absurd (omega (arith, length-append F (H ++ S), length-append H S, length-append X (i ∷ Y1), length-append (F ++ H) (S ++ X1), length-append F H, length-append S X1))
 
-      first : Where (b .wrapper) 1 (b .table1) (view1 b s e .C) (view1 b s e .D) (s .one .core) X i Y → Spot b s X i Y
+      first : Where (b .wrapper) 1 (b .table1) (view1 b s e .C) (view1 b s e .D) (s .one .core) X i Y → Stands b s X i Y
       first (message' j m g is gone put) = message (view1 b s e) (answers1 b s e) j m g is gone put
       first (particle' j m g is gone put) = particle (view1 b s e) (answers1 b s e) j m g is gone put
       first (beside Y1 h r) = outside Y1 h
       first (behind X1 h r) = by-pipe (isPipeline b) refl
         where
-          by-pipe : (c : Bool) → isPipeline b ≡ c → Spot b s X i Y
+          by-pipe : (c : Bool) → isPipeline b ≡ c → Stands b s X i Y
           by-pipe true p = second p X1 r (where-of (b .wrapper) 2 (b .table2) (view2 b s e p .C) (view2 b s e p .D) (s .two .core) X i Y (sym (view2 b s e p .items-now) ∙ q))
           by-pipe false p = let z = two-none b s e p in absurd (not-empty X1 i Y (sym (ap₂ (λ (y : List Message) (r : List Particle). numbered (msgItem ids (b .wrapper) 2) 0 y ++ numbered (partItem ids (b .table2) 2) 0 r) (z .2) (z .0)) ∙ h))
 
