@@ -1,0 +1,96 @@
+use mathlib.Core.Path.{_≡_, sym, ap, _∙_}
+use mathlib.Core.List.{List, [], _∷_, map}
+use mathlib.Core.Logic.{⊎-elim}
+use Prim.Native.Nat.{ℕ, _≤_, _-_}
+use lib.ListN.{length, take}
+use Rattle.model.specs.Values.{lookup}
+use Rattle.values.specs.Lists.{unmap}
+use Rattle.values.specs.Env.{viewValue, viewEnv, look-hit, look-miss, look-all}
+use borrow.Author.Needs.{needs}
+use native.Mathlib.Omega.{arith}
+use Rattle.values.proofs.Env.value.Statement.{statement}
+use Rattle.values.proofs.Env.value.Tie as tie
+use Rattle.values.proofs.Env.value.Reads as reads
+use Rattle.values.proofs.Env.value.Lts as lts
+use Rattle.values.proofs.Env.count.Reads as count-reads
+use Rattle.values.proofs.Value.name.Reads as name-reads
+
+abbrev Inv-loop : tie.InvT-loop
+Inv-loop w self n v₀ k₀ v k = (n ≤ 8) × (k ≤ n) × (viewValue v ≡ lookup (take k (self .names)) (map viewValue (take k (self .vals))) w (w ∷ []))
+
+abbrev μ-loop : tie.MeasureT-loop
+μ-loop w self n v₀ k₀ v k = n - k
+
+-- src/lib.rt:275:13
+count-requires : tie.Need-count-requires Inv-loop μ-loop
+count-requires c κs = search needs
+
+-- src/lib.rt:276:13
+name-requires : tie.Need-name-requires Inv-loop μ-loop
+name-requires c κs = search needs
+
+-- src/lib.rt:278:9
+loop-holds : tie.Need-loop-holds Inv-loop μ-loop
+loop-holds c = (search needs, search needs, c .name .ensures)
+
+-- src/lib.rt:279:16
+mul-if1 : tie.Need-mul-if1 Inv-loop μ-loop
+mul-if1 c = search needs
+
+-- src/lib.rt:279:16
+element-copy-out-if1 : tie.Need-element-copy-out-if1 Inv-loop μ-loop
+element-copy-out-if1 c = search needs
+
+-- src/lib.rt:280:21
+mul-v : tie.Need-mul-v Inv-loop μ-loop
+mul-v c = search needs
+
+-- src/lib.rt:280:21
+element-copy-out-v : tie.Need-element-copy-out-v Inv-loop μ-loop
+element-copy-out-v c = search needs
+
+-- src/lib.rt:282:13
+add-k : tie.Need-add-k Inv-loop μ-loop
+add-k c = search needs
+
+-- src/lib.rt:278:9
+loop-less : tie.Need-loop-less Inv-loop μ-loop
+loop-less c = search needs
+
+-- src/lib.rt:278:9
+loop-again : tie.Need-loop-again Inv-loop μ-loop
+loop-again c =
+    let e = c .before .before .before .before .before .before .args .t1 in
+    let i = c .before .before .before .loop .inv in
+    let k = c .before .before .before .loop .k in
+    let full : length (e .vals) ≡ 8 = search (needs, unmap) in
+    let full′ : length (e .names) ≡ 8 = search needs in (
+      i .0,
+      search needs,
+      ⊎-elim
+          (λ q. ap viewValue (q .2) ∙ look-hit (e .names) (e .vals) k _ _ _ (omega arith) (omega arith) (q .0 .taken))
+          (λ q. look-miss (e .names) (e .vals) k _ _ _ (omega arith) (omega arith) (q .0 .left) (ap viewValue (q .1) ∙ i .2))
+          (c .if1 .came),
+    )
+
+-- src/lib.rt:272:5
+returns : tie.Need-returns Inv-loop μ-loop
+returns c = look-all (c .before .before .before .before .args .t1) (c .before .loop .k) _ _ (omega (arith, c .before .before .before .count .ensures .0)) (omega (arith, c .before .before .before .count .ensures .1)) (c .before .loop .inv .2)
+
+pub value-spec : {M : Type 1} → statement M
+value-spec =
+    tie.close
+    (tie.spec
+    Inv-loop
+    μ-loop
+    count-requires
+    name-requires
+    loop-holds
+    mul-if1
+    element-copy-out-if1
+    mul-v
+    element-copy-out-v
+    add-k
+    loop-less
+    loop-again
+    returns)
