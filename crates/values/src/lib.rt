@@ -1,28 +1,28 @@
-// Values and patterns: words in, words out.
+// Values and patterns as words: where one ends, matching, environments, substitution.
 ghost use mathlib.Core.Path.{_≡_};
-ghost use Prim.Native.Nat.{ℕ, min, _+_, _-_, _≤_, _<_};
-ghost use lib.ListN.{length, drop};
-ghost use Rattle.model.specs.Basics.{bind, done};
-ghost use Rattle.model.specs.Values.{isTuple, isMinted, matches, binders, at, isValue, value, substitute, extend};
-ghost use Rattle.values.specs.Span.{leafOf, spanOf, EndIs, sizeOf};
-ghost use Rattle.values.specs.Match.{viewBound, partOf, fitOf, upTo, boundOf};
-ghost use Rattle.values.specs.Env.{viewValue, viewEnv, Spelt, tupleOf, Given};
+ghost use mathlib.Core.Bool.{true, false};
 ghost use mathlib.Core.List.{List, [], _∷_, _++_};
+ghost use Prim.Native.Nat.{ℕ, _≤_, _+_};
+ghost use lib.ListN.{length, take, drop};
+ghost use Rattle.model.specs.Values.{isTuple, isMinted, matches, binders, at, isValue, value, substitute, extend};
+ghost use Rattle.values.specs.Span.{leafOf, spanOf, endOf, sizeOf};
+ghost use Rattle.values.specs.Match.{viewBound, partOf, fitOf, storedAfter};
+ghost use Rattle.values.specs.Env.{viewValue, viewEnv, Stores, tupleOf, firstEight, extendedOf, Given};
 
-// Which words stand alone: a table's value, a table's pattern, a value in running.
+// Which words are items by themselves: in a table's value, in a table's pattern, in a value that a step handles.
 pub enum Leaf {
     Public,
     Pattern,
     Name,
 }
 
-// Where something ends, or that it is malformed.
+// Where something ends or how many words it has, or that it is malformed.
 pub enum Span {
     At(usize),
     Bad,
 }
 
-// 65,536 × side + serial, side 1 or 2, serial up to 255.
+// Whether w is a minted name: 65,536 × side + serial, side 1 or 2, serial up to 255.
 pub fn is_minted(w: u32) -> bool
     ensures { λ r. ⌜ r ≡ isMinted w ⌝ }
 {
@@ -37,7 +37,8 @@ pub fn is_minted(w: u32) -> bool
     }
 }
 
-pub fn stands(l: Leaf, w: u32) -> bool
+// Whether w is an item by itself.
+pub fn is_leaf(l: Leaf, w: u32) -> bool
     ensures { λ r. ⌜ r ≡ leafOf l w ⌝ }
 {
     match l {
@@ -47,6 +48,7 @@ pub fn stands(l: Leaf, w: u32) -> bool
     }
 }
 
+// Whether w is a tuple word, 4,000,000 + k with k up to 15.
 pub fn is_tuple(w: u32) -> bool
     ensures { λ r. ⌜ r ≡ isTuple w ⌝ }
 {
@@ -54,15 +56,15 @@ pub fn is_tuple(w: u32) -> bool
 }
 
 // Where the item at place i ends.
-pub fn item(l: Leaf, s: &[u32], i: usize) -> Span
+pub fn item_end(l: Leaf, s: &[u32], i: usize) -> Span
     ensures { λ r. ⌜ r ≡ spanOf (leafOf l) (now (s .entry)) i 1 ⌝ }
 {
     if i < s.len() {
         let w = s[i];
-        if stands(l, w) {
+        if is_leaf(l, w) {
             Span::At(i + 1)
         } else if is_tuple(w) {
-            parts(l, s, i + 1, w - 4000000)
+            parts_end(l, s, i + 1, w - 4000000)
         } else {
             Span::Bad
         }
@@ -72,29 +74,29 @@ pub fn item(l: Leaf, s: &[u32], i: usize) -> Span
 }
 
 // Where k items from place i on end.
-pub fn parts(l: Leaf, s: &[u32], i: usize, k: u32) -> Span
+pub fn parts_end(l: Leaf, s: &[u32], i: usize, k: u32) -> Span
     ensures { λ r. ⌜ r ≡ spanOf (leafOf l) (now (s .entry)) i k ⌝ }
 {
     if k == 0 {
         Span::At(i)
     } else {
-        match item(l, s, i) {
-            Span::At(j) => parts(l, s, j, k - 1),
+        match item_end(l, s, i) {
+            Span::At(j) => parts_end(l, s, j, k - 1),
             Span::Bad => Span::Bad,
         }
     }
 }
 
-// How many words the value or pattern at place p of a pool has.
+// How many words the value or pattern at place p of a pool has: it is malformed where it has over 16 or passes the pool's end.
 pub fn size_at(l: Leaf, pool: &[u32], p: usize) -> Span
     ensures { λ r. ⌜ r ≡ sizeOf (at (leafOf l) (now (pool .entry)) p) ⌝ }
 {
     if p < pool.len() {
         if pool.len() - p < 16 {
-            item(l, &pool[p..], 0)
+            item_end(l, &pool[p..], 0)
         } else {
             let e = p + 16;
-            item(l, &pool[p..e], 0)
+            item_end(l, &pool[p..e], 0)
         }
     } else {
         Span::Bad
@@ -108,18 +110,18 @@ pub fn is_value(s: &[u32]) -> bool
     if 16 < s.len() {
         return false;
     }
-    match item(Leaf::Name, s, 0) {
+    match item_end(Leaf::Name, s, 0) {
         Span::At(e) => e == s.len(),
         Span::Bad => false,
     }
 }
 
-// Where the first value from place j on ends; where there is none, the end.
-pub fn end(v: &[u32], j: usize) -> usize
-    ensures { λ r. ⌜ EndIs (now (v .entry)) j r ⌝ }
+// Where the first value from place j on ends; the end of v where none stands there, and j past the end.
+pub fn value_end(v: &[u32], j: usize) -> usize
+    ensures { λ r. ⌜ r ≡ endOf (now (v .entry)) j ⌝ }
 {
     if j < v.len() {
-        match item(Leaf::Name, v, j) {
+        match item_end(Leaf::Name, v, j) {
             Span::At(e) => e,
             Span::Bad => v.len(),
         }
@@ -128,26 +130,44 @@ pub fn end(v: &[u32], j: usize) -> usize
     }
 }
 
-// A bound part of a value: where it starts, and how many words it has.
+// How many names a pattern has.
+pub fn names_in(s: &[u32]) -> usize
+    ensures { λ r. ⌜ (r ≡ length (binders (now (s .entry)))) × (r ≤ length (now (s .entry))) ⌝ }
+{
+    let mut r: usize = 0;
+    let mut i: usize = 0;
+    while i < s.len() {
+        if s[i] <= 63 {
+            r += 1;
+        }
+        i += 1;
+    }
+    r
+}
+
+// A part of a value that a name is bound to: where it starts, and how many words it has.
 pub struct Part {
     pub start: usize,
     pub len: usize,
 }
 
+// The parts bound so far, in the order of the names. Eight names are the most that a loaded pattern has.
 pub struct Bound {
     pub rows: [Part; 8],
     pub n: usize,
 }
 
-// A match so far: whether it fits, the places in the pattern and in the value that are next, and the bound parts.
-pub struct Met {
+// What matching gives: whether the pattern takes the value, the next places in the pattern and in the value, and the parts
+// bound.
+pub struct Matched {
     pub fits: bool,
-    pub i: usize,
-    pub j: usize,
-    pub b: Bound,
+    pub pattern: usize,
+    pub value: usize,
+    pub bound: Bound,
 }
 
 impl Bound {
+    // No parts.
     pub fn none() -> Bound
         ensures { λ r. ⌜ r .n ≡ 0 ⌝ }
     {
@@ -157,118 +177,106 @@ impl Bound {
         }
     }
 
-    // One part more.
-    pub fn more(mut self, start: usize, len: usize) -> Bound
-        requires { ⌜ self .n < 8 ⌝ }
-        ensures { λ r. ⌜ ((v : _) → viewBound v r ≡ viewBound v self ++ (partOf v (record { start = start; len = len }) ∷ [])) × (r .n ≡ self .n + 1) ⌝ }
+    // One part more; past the eighth none is stored.
+    pub fn push(mut self, start: usize, len: usize) -> Bound
+        ensures { λ r. ⌜ ((v : List ℕ) → viewBound v r ≡ take 8 (viewBound v self ++ (partOf v (record { start = start; len = len }) ∷ []))) ⌝ }
     {
         let n = self.n;
-        self.rows[n] = Part { start, len };
-        self.n = n + 1;
+        if n < 8 {
+            self.rows[n] = Part { start, len };
+            self.n = n + 1;
+        }
         self
     }
+
+    // How many parts are stored.
+    pub fn count(self) -> usize
+        ensures { λ r. ⌜ ((v : List ℕ) → r ≡ length (viewBound v self)) ⌝ }
+    {
+        let n = self.n;
+        if n < 8 { n } else { 8 }
+    }
 }
 
-// One item of the pattern, against one value.
-pub fn one(p: &[u32], v: &[u32], i: usize, j: usize, b: Bound) -> Met
-    ensures { λ r. ⌜ fitOf (now (p .entry)) (now (v .entry)) r ≡ upTo (drop i (now (p .entry))) 1 (drop j (now (v .entry))) (viewBound (now (v .entry)) b) ⌝ }
-{
-    if i < p.len() {
-        let w = p[i];
-        if is_tuple(w) {
-            if j < v.len() {
-                if v[j] == w {
-                    rest(p, v, i + 1, j + 1, w - 4000000, b)
-                } else {
-                    Met {
-                        fits: false,
-                        i,
-                        j,
-                        b,
-                    }
-                }
-            } else {
-                Met {
-                    fits: false,
-                    i,
-                    j,
-                    b,
-                }
-            }
-        } else {
-            let e = end(v, j);
-            if w <= 63 {
-                if b.n < 8 {
-                    let c = b.more(j, e - j);
-                    Met {
-                        fits: true,
-                        i: i + 1,
-                        j: e,
-                        b: c,
-                    }
-                } else {
-                    Met {
-                        fits: false,
-                        i,
-                        j,
-                        b,
-                    }
-                }
-            } else {
-                Met {
-                    fits: true,
-                    i: i + 1,
-                    j: e,
-                    b,
-                }
-            }
-        }
-    } else {
-        Met {
+impl Matched {
+    // The pattern does not take the value.
+    pub fn refused() -> Matched
+        ensures { λ r. ⌜ r .fits ≡ false ⌝ }
+    {
+        Matched {
             fits: false,
-            i,
-            j,
-            b,
+            pattern: 0,
+            value: 0,
+            bound: Bound::none(),
+        }
+    }
+
+    // The pattern up to place i takes the value up to place j.
+    pub fn up_to(i: usize, j: usize, b: Bound) -> Matched
+        ensures { λ r. ⌜ r ≡ record { fits = true; pattern = i; value = j; bound = b } ⌝ }
+    {
+        Matched {
+            fits: true,
+            pattern: i,
+            value: j,
+            bound: b,
         }
     }
 }
 
-// The remaining k parts.
-pub fn rest(p: &[u32], v: &[u32], i: usize, j: usize, k: u32, b: Bound) -> Met
-    ensures { λ r. ⌜ fitOf (now (p .entry)) (now (v .entry)) r ≡ upTo (drop i (now (p .entry))) k (drop j (now (v .entry))) (viewBound (now (v .entry)) b) ⌝ }
+// One item of the pattern p, at place i, against one value of the words v, at place j, after the parts b.
+pub fn match_item(p: &[u32], v: &[u32], i: usize, j: usize, b: Bound) -> Matched
+    ensures { λ r. ⌜ fitOf (now (p .entry)) (now (v .entry)) r ≡ storedAfter (viewBound (now (v .entry)) b) (matches (drop i (now (p .entry))) 1 (drop j (now (v .entry)))) ⌝ }
+{
+    if p.len() <= i {
+        return Matched::refused();
+    }
+    let w = p[i];
+    if is_tuple(w) {
+        if v.len() <= j {
+            return Matched::refused();
+        }
+        if v[j] == w {
+            return match_parts(p, v, i + 1, j + 1, w - 4000000, b);
+        }
+        return Matched::refused();
+    }
+    let e = value_end(v, j);
+    if w <= 63 {
+        return Matched::up_to(i + 1, e, b.push(j, e - j));
+    }
+    Matched::up_to(i + 1, e, b)
+}
+
+// The remaining k parts of a tuple, one after the other.
+pub fn match_parts(p: &[u32], v: &[u32], i: usize, j: usize, k: u32, b: Bound) -> Matched
+    ensures { λ r. ⌜ fitOf (now (p .entry)) (now (v .entry)) r ≡ storedAfter (viewBound (now (v .entry)) b) (matches (drop i (now (p .entry))) k (drop j (now (v .entry)))) ⌝ }
 {
     if k == 0 {
-        Met {
-            fits: true,
-            i,
-            j,
-            b,
-        }
-    } else {
-        let m = one(p, v, i, j, b);
-        if m.fits {
-            let c = m.b;
-            rest(p, v, m.i, m.j, k - 1, c)
-        } else {
-            m
-        }
+        return Matched::up_to(i, j, b);
     }
+    let m = match_item(p, v, i, j, b);
+    if m.fits {
+        let c = m.bound;
+        return match_parts(p, v, m.pattern, m.value, k - 1, c);
+    }
+    m
 }
 
 // A whole pattern against a value.
-pub fn matching(p: &[u32], v: &[u32]) -> Met
-    ensures { λ r. ⌜ (length (binders (now (p .entry))) ≤ 8 → boundOf (now (v .entry)) r ≡ bind (matches (now (p .entry)) 1 (now (v .entry))) (λ f. done (f .bound))) ⌝ }
+pub fn matching(p: &[u32], v: &[u32]) -> Matched
+    ensures { λ r. ⌜ fitOf (now (p .entry)) (now (v .entry)) r ≡ storedAfter [] (matches (now (p .entry)) 1 (now (v .entry))) ⌝ }
 {
-    one(p, v, 0, 0, Bound::none())
+    match_item(p, v, 0, 0, Bound::none())
 }
 
-// A value of at most 16 words. While one is being spelt, a length of 17 says that it is too long.
+// A value of at most 16 words. A length of 17 says that the list which was to be stored is longer.
 pub struct Value {
     pub words: [u32; 16],
     pub len: usize,
 }
 
-// The names in force, outermost first, and their values.
+// An environment: the bound names in force, outermost first, and their values.
 pub struct Env {
     pub names: [u32; 8],
     pub vals: [Value; 8],
@@ -276,8 +284,9 @@ pub struct Env {
 }
 
 impl Value {
+    // No words.
     pub fn none() -> Value
-        ensures { λ r. ⌜ Spelt [] r ⌝ }
+        ensures { λ r. ⌜ Stores [] r ⌝ }
     {
         Value {
             words: [0; 16],
@@ -285,9 +294,9 @@ impl Value {
         }
     }
 
-    // One word more.
+    // One word more: past the sixteenth it is counted and not stored.
     pub fn push(mut self, w: u32) -> Value
-        ensures { λ r. ⌜ ((l : List ℕ) → Spelt l self → Spelt (l ++ (w ∷ [])) r) ⌝ }
+        ensures { λ r. ⌜ ((l : List ℕ) → Stores l self → Stores (l ++ (w ∷ [])) r) ⌝ }
     {
         let n = self.len;
         if n < 16 {
@@ -306,7 +315,7 @@ impl Value {
         Value::none().push(w)
     }
 
-    // How many words it has.
+    // How many words are stored.
     pub fn count(self) -> usize
         ensures { λ r. ⌜ (r ≡ length (viewValue self)) × (r ≤ 16) ⌝ }
     {
@@ -329,7 +338,7 @@ impl Value {
 
     // The words of a slice.
     pub fn of(s: &[u32]) -> Value
-        ensures { λ r. ⌜ Spelt (now (s .entry)) r ⌝ }
+        ensures { λ r. ⌜ Stores (now (s .entry)) r ⌝ }
     {
         let mut b = Value::none();
         let mut i: usize = 0;
@@ -340,9 +349,9 @@ impl Value {
         b
     }
 
-    // A value's words more.
+    // The words of v more.
     pub fn join(self, v: Value) -> Value
-        ensures { λ r. ⌜ ((l : List ℕ) → Spelt l self → Spelt (l ++ viewValue v) r) ⌝ }
+        ensures { λ r. ⌜ ((l : List ℕ) → Stores l self → Stores (l ++ viewValue v) r) ⌝ }
     {
         let n = v.count();
         let mut b = self;
@@ -356,9 +365,9 @@ impl Value {
 }
 
 impl Env {
-    // One name more, where there is room.
+    // One name more; past the eighth none is stored.
     pub fn with(mut self, name: u32, v: Value) -> Env
-        ensures { λ r. ⌜ (self .n < 8 → (viewEnv r ≡ extend (viewEnv self) (name ∷ []) (viewValue v ∷ [])) × (r .n ≡ self .n + 1)) ⌝ }
+        ensures { λ r. ⌜ viewEnv r ≡ firstEight (extend (viewEnv self) (name ∷ []) (viewValue v ∷ [])) ⌝ }
     {
         let n = self.n;
         if n < 8 {
@@ -377,7 +386,7 @@ impl Env {
         if n < 8 { n } else { 8 }
     }
 
-    // The value of the last w in force, w itself where there is none.
+    // The value of the last w in force; w itself where there is none.
     pub fn value(self, w: u32) -> Value
         ensures { λ r. ⌜ viewValue r ≡ value (viewEnv self) w ⌝ }
     {
@@ -394,9 +403,9 @@ impl Env {
     }
 }
 
-// A value of a table, its bound names replaced.
-pub fn spell(e: Env, s: &[u32]) -> Value
-    ensures { λ r. ⌜ Spelt (substitute (viewEnv e) (now (s .entry))) r ⌝ }
+// A table's value with its bound names replaced by their values.
+pub fn substituted(e: Env, s: &[u32]) -> Value
+    ensures { λ r. ⌜ Stores (substitute (viewEnv e) (now (s .entry))) r ⌝ }
 {
     let mut b = Value::none();
     let mut i: usize = 0;
@@ -414,7 +423,7 @@ pub fn spell(e: Env, s: &[u32]) -> Value
 
 // The words of a bound part.
 pub fn part_words(v: &[u32], p: Part) -> Value
-    ensures { λ r. ⌜ Spelt (partOf (now (v .entry)) p) r ⌝ }
+    ensures { λ r. ⌜ Stores (partOf (now (v .entry)) p) r ⌝ }
 {
     let a = p.start;
     let k = p.len;
@@ -430,8 +439,8 @@ pub fn part_words(v: &[u32], p: Part) -> Value
     }
 }
 
-// An environment with the names of a pattern, bound to the parts that a match found.
-pub fn extended(e: Env, p: &[u32], v: &[u32], b: Bound) -> Env
+// The names of a pattern with the parts that a match found, where there is room for them.
+fn with_parts(e: Env, p: &[u32], v: &[u32], b: Bound) -> Env
     requires { ⌜ Given e (now p) (now v) b ⌝ }
     ensures { λ r. ⌜ viewEnv r ≡ extend (viewEnv e) (binders (now (p .entry))) (viewBound (now (v .entry)) b) ⌝ }
 {
@@ -448,4 +457,23 @@ pub fn extended(e: Env, p: &[u32], v: &[u32], b: Bound) -> Env
         i += 1;
     }
     r
+}
+
+// An environment with the names of a pattern, bound to the parts of v that a match found; the environment as it was where
+// names and parts differ in number, over eight names would be in force, or v has over 16 words.
+pub fn extended(e: Env, p: &[u32], v: &[u32], b: Bound) -> Env
+    ensures { λ r. ⌜ viewEnv r ≡ extendedOf (viewEnv e) (binders (now (p .entry))) (now (v .entry)) (viewBound (now (v .entry)) b) ⌝ }
+{
+    let k = names_in(p);
+    let n = e.count();
+    if b.count() == k {
+        if k <= 8 - n {
+            if v.len() <= 16 {
+                return with_parts(e, p, v, b);
+            }
+            return e;
+        }
+        return e;
+    }
+    e
 }

@@ -4,16 +4,13 @@ use mathlib.Core.Logic.{⊎-elim}
 use Prim.Native.Nat.{ℕ, _≤_, _-_}
 use lib.ListN.{length, take}
 use Rattle.model.specs.Values.{lookup}
-use Rattle.values.specs.Lists.{unmap}
-use Rattle.values.specs.Env.{viewValue, viewEnv, look-hit, look-miss, look-all}
+use Rattle.values.proofs.Lists.{unmap}
+use Rattle.values.specs.Env.{viewValue, viewEnv}
+use Rattle.values.proofs.Environments.{look-hit, look-miss, look-all}
 use borrow.Author.Needs.{needs}
 use native.Mathlib.Omega.{arith}
 use Rattle.values.proofs.Env.value.Statement.{statement}
 use Rattle.values.proofs.Env.value.Tie as tie
-use Rattle.values.proofs.Env.value.Reads as reads
-use Rattle.values.proofs.Env.value.Lts as lts
-use Rattle.values.proofs.Env.count.Reads as count-reads
-use Rattle.values.proofs.Value.name.Reads as name-reads
 
 abbrev Inv-loop : tie.InvT-loop
 Inv-loop w self n v₀ k₀ v k = (n ≤ 8) × (k ≤ n) × (viewValue v ≡ lookup (take k (self .names)) (map viewValue (take k (self .vals))) w (w ∷ []))
@@ -21,43 +18,33 @@ Inv-loop w self n v₀ k₀ v k = (n ≤ 8) × (k ≤ n) × (viewValue v ≡ loo
 abbrev μ-loop : tie.MeasureT-loop
 μ-loop w self n v₀ k₀ v k = n - k
 
--- src/lib.rt:275:13
 count-requires : tie.Need-count-requires Inv-loop μ-loop
 count-requires c κs = search needs
 
--- src/lib.rt:276:13
 name-requires : tie.Need-name-requires Inv-loop μ-loop
 name-requires c κs = search needs
 
--- src/lib.rt:278:9
 loop-holds : tie.Need-loop-holds Inv-loop μ-loop
 loop-holds c = (search needs, search needs, c .name .ensures)
 
--- src/lib.rt:279:16
 mul-if1 : tie.Need-mul-if1 Inv-loop μ-loop
 mul-if1 c = search needs
 
--- src/lib.rt:279:16
 element-copy-out-if1 : tie.Need-element-copy-out-if1 Inv-loop μ-loop
 element-copy-out-if1 c = search needs
 
--- src/lib.rt:280:21
 mul-v : tie.Need-mul-v Inv-loop μ-loop
 mul-v c = search needs
 
--- src/lib.rt:280:21
 element-copy-out-v : tie.Need-element-copy-out-v Inv-loop μ-loop
 element-copy-out-v c = search needs
 
--- src/lib.rt:282:13
 add-k : tie.Need-add-k Inv-loop μ-loop
 add-k c = search needs
 
--- src/lib.rt:278:9
 loop-less : tie.Need-loop-less Inv-loop μ-loop
 loop-less c = search needs
 
--- src/lib.rt:278:9
 loop-again : tie.Need-loop-again Inv-loop μ-loop
 loop-again c =
     let e = c .before .before .before .before .before .before .args .t1 in
@@ -73,7 +60,6 @@ loop-again c =
           (c .if1 .came),
     )
 
--- src/lib.rt:272:5
 returns : tie.Need-returns Inv-loop μ-loop
 returns c = look-all (c .before .before .before .before .args .t1) (c .before .loop .k) _ _ (omega (arith, c .before .before .before .count .ensures .0)) (omega (arith, c .before .before .before .count .ensures .1)) (c .before .loop .inv .2)
 

@@ -5,20 +5,21 @@ use native.Mathlib.Omega.{arith}
 use borrow.Author.Tests.{leb-true}
 use lib.ListN.{length}
 use Rattle.model.proofs.Tests.{fst}
-use Rattle.values.specs.Span.{leafOf, span-none, span-leaf, span-tuple, span-bad, span-past, span-more, span-stop, span-grows}
+use Rattle.values.specs.Span.{leafOf}
+use Rattle.values.proofs.Spans.{span-none, span-leaf, span-tuple, span-bad, span-past, span-more, span-stop, span-grows}
 use Prim.Native.Nat.{ℕ, _<_}
 use borrow.Fn.Kinds.{In}
 use borrow.Fn.PlainCycle.{Measures, is, falls, and}
-use Rattle.values.proofs.item.Reads as item
-use Rattle.values.proofs.item.Kinds as item-kinds
-use Rattle.values.proofs.+item+parts.Lts-item as item-lts
-use Rattle.values.proofs.parts.Reads as parts
-use Rattle.values.proofs.parts.Kinds as parts-kinds
-use Rattle.values.proofs.+item+parts.Lts-parts as parts-lts
+use Rattle.values.proofs.item_end.Reads as item
+use Rattle.values.proofs.item_end.Kinds as item-kinds
+use Rattle.values.proofs.+item_end+parts_end.Lts-item_end as item-lts
+use Rattle.values.proofs.parts_end.Reads as parts
+use Rattle.values.proofs.parts_end.Kinds as parts-kinds
+use Rattle.values.proofs.+item_end+parts_end.Lts-parts_end as parts-lts
 use Rattle.values.proofs.is_tuple.Reads as is-tuple-reads
-use Rattle.values.proofs.stands.Reads as stands-reads
-use Rattle.values.proofs.+item+parts.{statement}
-use Rattle.values.proofs.+item+parts.Tie.{close}
+use Rattle.values.proofs.is_leaf.Reads as is-leaf-reads
+use Rattle.values.proofs.+item_end+parts_end.{statement}
+use Rattle.values.proofs.+item_end+parts_end.Tie.{close}
 
 abbrev μ-item : Measures 1 item-kinds.ps ℕ
 μ-item κs a = 2 * (length (a .1 .0 .now) - a .1 .1 .0)
@@ -38,10 +39,9 @@ parts-at t = and 1 parts-kinds.ps (is 1 parts-kinds.ps μ-parts t) parts.Pre
 abbrev parts-below : ℕ → In 1 parts-kinds.ps
 parts-below t = and 1 parts-kinds.ps (falls 1 parts-kinds.ps _<_ μ-parts t) parts.Pre
 
--- src/lib.rt:59:17
 item-mul-w : (t : ℕ) → item-lts.Need-mul-w (
-  stands-reads.Asked,
-  stands-reads.Learnt,
+  is-leaf-reads.Asked,
+  is-leaf-reads.Learnt,
   is-tuple-reads.Asked,
   is-tuple-reads.Learnt,
   parts-below t,
@@ -49,10 +49,9 @@ item-mul-w : (t : ℕ) → item-lts.Need-mul-w (
 ) (item-at t) item.Post
 item-mul-w t c = search needs
 
--- src/lib.rt:59:17
 item-shared-slice-read-w : (t : ℕ) → item-lts.Need-shared-slice-read-w (
-  stands-reads.Asked,
-  stands-reads.Learnt,
+  is-leaf-reads.Asked,
+  is-leaf-reads.Learnt,
   is-tuple-reads.Asked,
   is-tuple-reads.Learnt,
   parts-below t,
@@ -60,21 +59,19 @@ item-shared-slice-read-w : (t : ℕ) → item-lts.Need-shared-slice-read-w (
 ) (item-at t) item.Post
 item-shared-slice-read-w t c = search needs
 
--- src/lib.rt:60:12
-item-stands-requires : (t : ℕ) → item-lts.Need-stands-requires (
-  stands-reads.Asked,
-  stands-reads.Learnt,
+item-is-leaf-requires : (t : ℕ) → item-lts.Need-is-leaf-requires (
+  is-leaf-reads.Asked,
+  is-leaf-reads.Learnt,
   is-tuple-reads.Asked,
   is-tuple-reads.Learnt,
   parts-below t,
   parts.Post,
 ) (item-at t) item.Post
-item-stands-requires t c κs = search needs
+item-is-leaf-requires t c κs = search needs
 
--- src/lib.rt:61:22
 item-add-t13 : (t : ℕ) → item-lts.Need-add-t13 (
-  stands-reads.Asked,
-  stands-reads.Learnt,
+  is-leaf-reads.Asked,
+  is-leaf-reads.Learnt,
   is-tuple-reads.Asked,
   is-tuple-reads.Learnt,
   parts-below t,
@@ -82,10 +79,9 @@ item-add-t13 : (t : ℕ) → item-lts.Need-add-t13 (
 ) (item-at t) item.Post
 item-add-t13 t c = search needs
 
--- src/lib.rt:62:19
 item-is-tuple-requires : (t : ℕ) → item-lts.Need-is-tuple-requires (
-  stands-reads.Asked,
-  stands-reads.Learnt,
+  is-leaf-reads.Asked,
+  is-leaf-reads.Learnt,
   is-tuple-reads.Asked,
   is-tuple-reads.Learnt,
   parts-below t,
@@ -93,10 +89,9 @@ item-is-tuple-requires : (t : ℕ) → item-lts.Need-is-tuple-requires (
 ) (item-at t) item.Post
 item-is-tuple-requires t c κs = search needs
 
--- src/lib.rt:63:25
-item-add-parts : (t : ℕ) → item-lts.Need-add-parts (
-  stands-reads.Asked,
-  stands-reads.Learnt,
+item-add-parts : (t : ℕ) → item-lts.Need-add-parts-end (
+  is-leaf-reads.Asked,
+  is-leaf-reads.Learnt,
   is-tuple-reads.Asked,
   is-tuple-reads.Learnt,
   parts-below t,
@@ -104,10 +99,9 @@ item-add-parts : (t : ℕ) → item-lts.Need-add-parts (
 ) (item-at t) item.Post
 item-add-parts t c = search needs
 
--- src/lib.rt:63:32
-item-sub-parts : (t : ℕ) → item-lts.Need-sub-parts (
-  stands-reads.Asked,
-  stands-reads.Learnt,
+item-sub-parts : (t : ℕ) → item-lts.Need-sub-parts-end (
+  is-leaf-reads.Asked,
+  is-leaf-reads.Learnt,
   is-tuple-reads.Asked,
   is-tuple-reads.Learnt,
   parts-below t,
@@ -115,10 +109,9 @@ item-sub-parts : (t : ℕ) → item-lts.Need-sub-parts (
 ) (item-at t) item.Post
 item-sub-parts t c = leb-true _ _ (fst _ _ (sym (c .before .is-tuple .ensures) ∙ c .if3 .taken))
 
--- src/lib.rt:63:13
-item-parts-requires : (t : ℕ) → item-lts.Need-parts-requires (
-  stands-reads.Asked,
-  stands-reads.Learnt,
+item-parts-requires : (t : ℕ) → item-lts.Need-parts-end-requires (
+  is-leaf-reads.Asked,
+  is-leaf-reads.Learnt,
   is-tuple-reads.Asked,
   is-tuple-reads.Learnt,
   parts-below t,
@@ -126,43 +119,39 @@ item-parts-requires : (t : ℕ) → item-lts.Need-parts-requires (
 ) (item-at t) item.Post
 item-parts-requires t c κs = search needs
 
--- src/lib.rt:55:1
 item-returns : (t : ℕ) → item-lts.Need-returns (
-  stands-reads.Asked,
-  stands-reads.Learnt,
+  is-leaf-reads.Asked,
+  is-leaf-reads.Learnt,
   is-tuple-reads.Asked,
   is-tuple-reads.Learnt,
   parts-below t,
   parts.Post,
 ) (item-at t) item.Post
-item-returns t c = sym (span-leaf _ _ _ (search needs) (sym (c .before .stands .ensures) ∙ c .if2 .taken))
+item-returns t c = sym (span-leaf _ _ _ (search needs) (sym (c .before .is-leaf .ensures) ∙ c .if2 .taken))
 
--- src/lib.rt:55:1
 item-returns-2 : (t : ℕ) → item-lts.Need-returns-2 (
-  stands-reads.Asked,
-  stands-reads.Learnt,
+  is-leaf-reads.Asked,
+  is-leaf-reads.Learnt,
   is-tuple-reads.Asked,
   is-tuple-reads.Learnt,
   parts-below t,
   parts.Post,
 ) (item-at t) item.Post
-item-returns-2 t c = c .parts .ensures ∙ sym (span-tuple _ _ _ (search needs) (sym (c .before .before .before .before .stands .ensures) ∙ c .before .before .before .if2 .left) (sym (c .before .before .is-tuple .ensures) ∙ c .before .if3 .taken))
+item-returns-2 t c = c .parts-end .ensures ∙ sym (span-tuple _ _ _ (search needs) (sym (c .before .before .before .before .is-leaf .ensures) ∙ c .before .before .before .if2 .left) (sym (c .before .before .is-tuple .ensures) ∙ c .before .if3 .taken))
 
--- src/lib.rt:55:1
 item-returns-3 : (t : ℕ) → item-lts.Need-returns-3 (
-  stands-reads.Asked,
-  stands-reads.Learnt,
+  is-leaf-reads.Asked,
+  is-leaf-reads.Learnt,
   is-tuple-reads.Asked,
   is-tuple-reads.Learnt,
   parts-below t,
   parts.Post,
 ) (item-at t) item.Post
-item-returns-3 t c = sym (span-bad _ _ _ (search needs) (sym (c .before .before .before .stands .ensures) ∙ c .before .before .if2 .left) (sym (c .before .is-tuple .ensures) ∙ c .if3 .left))
+item-returns-3 t c = sym (span-bad _ _ _ (search needs) (sym (c .before .before .before .is-leaf .ensures) ∙ c .before .before .if2 .left) (sym (c .before .is-tuple .ensures) ∙ c .if3 .left))
 
--- src/lib.rt:55:1
 item-returns-4 : (t : ℕ) → item-lts.Need-returns-4 (
-  stands-reads.Asked,
-  stands-reads.Learnt,
+  is-leaf-reads.Asked,
+  is-leaf-reads.Learnt,
   is-tuple-reads.Asked,
   is-tuple-reads.Learnt,
   parts-below t,
@@ -170,8 +159,7 @@ item-returns-4 : (t : ℕ) → item-lts.Need-returns-4 (
 ) (item-at t) item.Post
 item-returns-4 t c = sym (span-past _ _ _ (search needs))
 
--- src/lib.rt:79:15
-parts-item-requires : (t : ℕ) → parts-lts.Need-item-requires (
+parts-item-requires : (t : ℕ) → parts-lts.Need-item-end-requires (
   item-below t,
   item.Post,
   parts-below t,
@@ -179,7 +167,6 @@ parts-item-requires : (t : ℕ) → parts-lts.Need-item-requires (
 ) (parts-at t) parts.Post
 parts-item-requires t c κs = search needs
 
--- src/lib.rt:80:22
 parts-enum-known-j : (t : ℕ) → parts-lts.Need-enum-known-j (
   item-below t,
   item.Post,
@@ -188,8 +175,7 @@ parts-enum-known-j : (t : ℕ) → parts-lts.Need-enum-known-j (
 ) (parts-at t) parts.Post
 parts-enum-known-j t c = search needs
 
--- src/lib.rt:80:43
-parts-sub-parts : (t : ℕ) → parts-lts.Need-sub-parts (
+parts-sub-parts : (t : ℕ) → parts-lts.Need-sub-parts-end (
   item-below t,
   item.Post,
   parts-below t,
@@ -197,8 +183,7 @@ parts-sub-parts : (t : ℕ) → parts-lts.Need-sub-parts (
 ) (parts-at t) parts.Post
 parts-sub-parts t c = search needs
 
--- src/lib.rt:80:28
-parts-parts-requires : (t : ℕ) → parts-lts.Need-parts-requires (
+parts-parts-requires : (t : ℕ) → parts-lts.Need-parts-end-requires (
   item-below t,
   item.Post,
   parts-below t,
@@ -206,10 +191,9 @@ parts-parts-requires : (t : ℕ) → parts-lts.Need-parts-requires (
 ) (parts-at t) parts.Post
 parts-parts-requires t c κs =
     let b = c .before .before .before in
-    let g = span-grows _ _ _ _ (sym (b .item .ensures) ∙ c .before .j .given .1) in
+    let g = span-grows _ _ _ _ (sym (b .item-end .ensures) ∙ c .before .j .given .1) in
     (omega (arith, g), search needs)
 
--- src/lib.rt:81:26
 parts-enum-told : (t : ℕ) → parts-lts.Need-enum-told (
   item-below t,
   item.Post,
@@ -218,7 +202,6 @@ parts-enum-told : (t : ℕ) → parts-lts.Need-enum-told (
 ) (parts-at t) parts.Post
 parts-enum-told t c = search needs
 
--- src/lib.rt:73:1
 parts-returns : (t : ℕ) → parts-lts.Need-returns (
   item-below t,
   item.Post,
@@ -227,28 +210,26 @@ parts-returns : (t : ℕ) → parts-lts.Need-returns (
 ) (parts-at t) parts.Post
 parts-returns t c = sym (rw (c .if1 .taken) (span-none _ _ _))
 
--- src/lib.rt:73:1
 parts-returns-2 : (t : ℕ) → parts-lts.Need-returns-2 (
   item-below t,
   item.Post,
   parts-below t,
   parts.Post,
 ) (parts-at t) parts.Post
-parts-returns-2 t c = let b = c .before .before .before .before in c .parts .ensures ∙ sym (span-more _ _ _ _ _ (b .before .if1 .left) (sym (b .item .ensures) ∙ c .before .before .j .given .1))
+parts-returns-2 t c = let b = c .before .before .before .before in c .parts-end .ensures ∙ sym (span-more _ _ _ _ _ (b .before .if1 .left) (sym (b .item-end .ensures) ∙ c .before .before .j .given .1))
 
--- src/lib.rt:73:1
 parts-returns-3 : (t : ℕ) → parts-lts.Need-returns-3 (
   item-below t,
   item.Post,
   parts-below t,
   parts.Post,
 ) (parts-at t) parts.Post
-parts-returns-3 t c = let b = c .before .before in sym (span-stop _ _ _ _ (b .before .if1 .left) (sym (b .item .ensures) ∙ c .enum-told .given .1))
+parts-returns-3 t c = let b = c .before .before in sym (span-stop _ _ _ _ (b .before .if1 .left) (sym (b .item-end .ensures) ∙ c .enum-told .given .1))
 
-pub +item+parts-spec : {M : Type 1} → statement M
-+item+parts-spec = close μ-item μ-parts (λ t. item-lts.spec (
-  stands-reads.Asked,
-  stands-reads.Learnt,
+pub +item-end+parts-end-spec : {M : Type 1} → statement M
++item-end+parts-end-spec = close μ-item μ-parts (λ t. item-lts.spec (
+  is-leaf-reads.Asked,
+  is-leaf-reads.Learnt,
   is-tuple-reads.Asked,
   is-tuple-reads.Learnt,
   parts-below t,
@@ -258,7 +239,7 @@ pub +item+parts-spec : {M : Type 1} → statement M
     item.Post
     (item-mul-w t)
     (item-shared-slice-read-w t)
-    (item-stands-requires t)
+    (item-is-leaf-requires t)
     (item-add-t13 t)
     (item-is-tuple-requires t)
     (item-add-parts t)

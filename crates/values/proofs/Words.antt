@@ -1,4 +1,4 @@
--- Tests of a word, one law for each way that the code goes.
+-- Tests of a word: one law for each way that the code goes.
 use mathlib.Core.Path.{_≡_, refl, sym, ap, _∙_}
 use mathlib.Core.Bool.{Bool, true, false}
 use Prim.Native.Nat.{ℕ, _<_, _≤_}
