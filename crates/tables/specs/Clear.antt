@@ -14,7 +14,8 @@ use Rattle.model.specs.Basics.{_&_, Res, refuse, done, orElse}
 use Rattle.model.specs.Values.{binders, at, isPatternLeaf, isPublic}
 use Rattle.model.specs.Table.{Table, count, kind, field, Term, nil, par, box, new, out, inp, build, term}
 use Rattle.model.proofs.Terms.{Child, left, right, in-box, in-new, in-body}
-use Rattle.values.specs.Span.{leafOf, sizeOf, at-words}
+use Rattle.values.specs.Span.{leafOf, sizeOf}
+use Rattle.values.proofs.Spans.{at-words}
 use Rattle.values.specs.declared.Span.{Span}
 use Rattle.values.specs.declared.Span.the-variants.{At, Bad}
 use Rattle.values.specs.declared.Leaf.the-variants.{Pattern}

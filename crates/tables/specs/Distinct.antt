@@ -14,7 +14,8 @@ use Rattle.model.specs.Basics.{Res, refuse, done, has, isDone}
 use Rattle.model.specs.Values.{binders, distinct, at, isPatternLeaf, isPublic}
 use Rattle.model.specs.Checks.{patternOk}
 use Rattle.model.proofs.Tests.{and-left, and-right, and-intro, or-right}
-use Rattle.values.specs.Span.{leafOf, sizeOf, at-words}
+use Rattle.values.specs.Span.{leafOf, sizeOf}
+use Rattle.values.proofs.Spans.{at-words}
 use Rattle.values.specs.declared.Span.{Span}
 use Rattle.values.specs.declared.Span.the-variants.{At, Bad}
 use Rattle.values.specs.declared.Leaf.the-variants.{Public, Pattern}

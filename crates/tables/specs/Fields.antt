@@ -14,7 +14,7 @@ use Rattle.model.specs.Basics.{_&_, _or_, Res, refuse, done, isDone, implies}
 use Rattle.model.specs.Values.{at, isPublic}
 use Rattle.model.specs.Table.{Table, count, kind, field, uses, fieldUses, childFields, childTimes}
 use Rattle.model.specs.Checks.{everyField, fieldsOk, timesChild, firstBad, check2, check3, check4, check5, patternOk}
-use Rattle.values.specs.Span.{eqb-same}
+use Rattle.values.proofs.Spans.{eqb-same}
 use Rattle.tables.specs.declared.Node.{Node}
 use Rattle.tables.specs.declared.Lowest.{Lowest}
 use Rattle.tables.specs.declared.Lowest.the-variants.{At, Sound}

@@ -4,8 +4,9 @@ use mathlib.Core.List.{List, [], _∷_, map}
 use Prim.Native.Nat.{ℕ, _≤_, _<_, _-_}
 use lib.ListN.{length, take, getD, set, length-set}
 use Rattle.model.specs.Values.{lookup}
-use Rattle.values.specs.Lists.{unmap}
-use Rattle.values.specs.Env.{viewValue, tupleOf, tuples-in, tuples-none, tuples-all}
+use Rattle.values.specs.Env.{viewValue, tupleOf}
+use Rattle.values.proofs.Lists.{unmap}
+use Rattle.values.proofs.Environments.{tuples-in, tuples-none, tuples-all}
 use borrow.Author.Needs.{needs}
 use native.Mathlib.Omega.{arith}
 use Rattle.tables.proofs.Marks.of.Statement.{statement}
