@@ -237,3 +237,51 @@ whole p v m b z e = e ∙ ap (λ (l : List (List ℕ)). storedAfter l (matches p
   where
     none : viewBound v b ≡ []
     none = rw z
+
+-- a pattern binds at most as many values as it has names, so that with at most eight names all are stored
+binders-tail : (p : ℕ) (ps : List ℕ) → length (binders ps) ≤ length (binders (p ∷ ps))
+binders-tail p ps = go (isPublic p)
+  where
+    go : (u : Bool) → length (binders ps) ≤ length (cond u (p ∷ binders ps) (binders ps))
+    go true = omega arith
+    go false = omega arith
+
+abbrev boundOf : Res Fit → ℕ
+boundOf (refuse n) = 0
+boundOf (done m) = length (m .bound)
+
+bound-le : (p : List ℕ) (n : ℕ) (v : List ℕ) → boundOf (matches p n v) ≤ length (binders p)
+unfolding matches bind
+bound-le [] zero v = omega arith
+bound-le [] (suc n) v = omega arith
+bound-le (p ∷ ps) zero v = omega arith
+bound-le (p ∷ ps) (suc n) v = go (isTuple p) (isPublic p) refl v (λ xs. bound-le ps (arity p + n) xs) (bound-le ps n (restOf v))
+  where
+    less : (k : ℕ) → k ≤ length (binders ps) → k ≤ length (binders (p ∷ ps))
+    less k l = omega (arith, binders-tail p ps)
+
+    tup : (t : Bool) (ws : List ℕ) → boundOf (matches ps (arity p + n) ws) ≤ length (binders ps) → boundOf (elim t [ true ↦ matches ps (arity p + n) ws | false ↦ refuse 14 ]) ≤ length (binders ps)
+    tup true ws l = l
+    tup false ws l = omega arith
+
+    name : (x : List ℕ) (q : Res Fit) → boundOf q ≤ length (binders ps) → boundOf (bind q (λ m. done (binds x m))) ≤ suc (length (binders ps))
+    name x (refuse d) l = omega arith
+    name x (done m) l = omega arith
+
+    go : (t u : Bool) → isPublic p ≡ u → (v : List ℕ) → ((xs : List ℕ) → boundOf (matches ps (arity p + n) xs) ≤ length (binders ps)) → boundOf (matches ps n (restOf v)) ≤ length (binders ps) →
+        boundOf (elim t [
+          | true ↦ elim v [ [] ↦ refuse 14 | w ∷ ws ↦ elim (eqb w p) [ true ↦ matches ps (arity p + n) ws | false ↦ refuse 14 ] ]
+          | false ↦ elim u [ true ↦ bind (matches ps n (restOf v)) (λ m. done (binds (firstOf v) m)) | false ↦ matches ps n (restOf v) ]
+        ]) ≤ length (binders (p ∷ ps))
+    go true u a [] x y = omega arith
+    go true u a (w ∷ ws) x y = less _ (tup (eqb w p) ws (x ws))
+    go false true a v x y = rw a (name (firstOf v) (matches ps n (restOf v)) y)
+    go false false a v x y = less _ y
+
+pub all-stored : (p v : List ℕ) (n : ℕ) → length (binders p) ≤ 8 → storedAfter [] (matches p n v) ≡ matches p n v
+unfolding storedAfter
+all-stored p v n h = go (matches p n v) (bound-le p n v)
+  where
+    go : (q : Res Fit) → boundOf q ≤ length (binders p) → storedAfter [] q ≡ q
+    go (refuse e) l = refl
+    go (done m) l = ap (λ (bs : List (List ℕ)). done (fit (m .pattern) (m .value) bs)) (take-all 8 (m .bound) (omega arith))

@@ -1,11 +1,10 @@
 use borrow.Author.Needs.{needs}
-use mathlib.Core.Path.{_≡_, refl, sym, _∙_, ap}
+use mathlib.Core.Path.{sym, _∙_}
 use Prim.Native.Nat.{_+_, _-_, _*_}
 use native.Mathlib.Omega.{arith}
 use borrow.Author.Tests.{leb-true}
 use lib.ListN.{length}
 use Rattle.model.proofs.Tests.{fst}
-use Rattle.values.specs.Span.{leafOf}
 use Rattle.values.proofs.Spans.{span-none, span-leaf, span-tuple, span-bad, span-past, span-more, span-stop, span-grows}
 use Prim.Native.Nat.{ℕ, _<_}
 use borrow.Fn.Kinds.{In}
@@ -39,225 +38,67 @@ parts-at t = and 1 parts-kinds.ps (is 1 parts-kinds.ps μ-parts t) parts.Pre
 abbrev parts-below : ℕ → In 1 parts-kinds.ps
 parts-below t = and 1 parts-kinds.ps (falls 1 parts-kinds.ps _<_ μ-parts t) parts.Pre
 
-item-mul-w : (t : ℕ) → item-lts.Need-mul-w (
-  is-leaf-reads.Asked,
-  is-leaf-reads.Learnt,
-  is-tuple-reads.Asked,
-  is-tuple-reads.Learnt,
-  parts-below t,
-  parts.Post,
-) (item-at t) item.Post
-item-mul-w t c = search needs
+abbrev item-calls : ℕ → item-lts.Claims
+item-calls t = (is-leaf-reads.Asked, is-leaf-reads.Learnt, is-tuple-reads.Asked, is-tuple-reads.Learnt, parts-below t, parts.Post)
 
-item-shared-slice-read-w : (t : ℕ) → item-lts.Need-shared-slice-read-w (
-  is-leaf-reads.Asked,
-  is-leaf-reads.Learnt,
-  is-tuple-reads.Asked,
-  is-tuple-reads.Learnt,
-  parts-below t,
-  parts.Post,
-) (item-at t) item.Post
-item-shared-slice-read-w t c = search needs
-
-item-is-leaf-requires : (t : ℕ) → item-lts.Need-is-leaf-requires (
-  is-leaf-reads.Asked,
-  is-leaf-reads.Learnt,
-  is-tuple-reads.Asked,
-  is-tuple-reads.Learnt,
-  parts-below t,
-  parts.Post,
-) (item-at t) item.Post
-item-is-leaf-requires t c κs = search needs
-
-item-add-t13 : (t : ℕ) → item-lts.Need-add-t13 (
-  is-leaf-reads.Asked,
-  is-leaf-reads.Learnt,
-  is-tuple-reads.Asked,
-  is-tuple-reads.Learnt,
-  parts-below t,
-  parts.Post,
-) (item-at t) item.Post
-item-add-t13 t c = search needs
-
-item-is-tuple-requires : (t : ℕ) → item-lts.Need-is-tuple-requires (
-  is-leaf-reads.Asked,
-  is-leaf-reads.Learnt,
-  is-tuple-reads.Asked,
-  is-tuple-reads.Learnt,
-  parts-below t,
-  parts.Post,
-) (item-at t) item.Post
-item-is-tuple-requires t c κs = search needs
-
-item-add-parts : (t : ℕ) → item-lts.Need-add-parts-end (
-  is-leaf-reads.Asked,
-  is-leaf-reads.Learnt,
-  is-tuple-reads.Asked,
-  is-tuple-reads.Learnt,
-  parts-below t,
-  parts.Post,
-) (item-at t) item.Post
-item-add-parts t c = search needs
-
-item-sub-parts : (t : ℕ) → item-lts.Need-sub-parts-end (
-  is-leaf-reads.Asked,
-  is-leaf-reads.Learnt,
-  is-tuple-reads.Asked,
-  is-tuple-reads.Learnt,
-  parts-below t,
-  parts.Post,
-) (item-at t) item.Post
+item-sub-parts : (t : ℕ) → item-lts.Need-sub-parts-end (item-calls t) (item-at t) item.Post
 item-sub-parts t c = leb-true _ _ (fst _ _ (sym (c .before .is-tuple .ensures) ∙ c .if3 .taken))
 
-item-parts-requires : (t : ℕ) → item-lts.Need-parts-end-requires (
-  is-leaf-reads.Asked,
-  is-leaf-reads.Learnt,
-  is-tuple-reads.Asked,
-  is-tuple-reads.Learnt,
-  parts-below t,
-  parts.Post,
-) (item-at t) item.Post
-item-parts-requires t c κs = search needs
-
-item-returns : (t : ℕ) → item-lts.Need-returns (
-  is-leaf-reads.Asked,
-  is-leaf-reads.Learnt,
-  is-tuple-reads.Asked,
-  is-tuple-reads.Learnt,
-  parts-below t,
-  parts.Post,
-) (item-at t) item.Post
+item-returns : (t : ℕ) → item-lts.Need-returns (item-calls t) (item-at t) item.Post
 item-returns t c = sym (span-leaf _ _ _ (search needs) (sym (c .before .is-leaf .ensures) ∙ c .if2 .taken))
 
-item-returns-2 : (t : ℕ) → item-lts.Need-returns-2 (
-  is-leaf-reads.Asked,
-  is-leaf-reads.Learnt,
-  is-tuple-reads.Asked,
-  is-tuple-reads.Learnt,
-  parts-below t,
-  parts.Post,
-) (item-at t) item.Post
+item-returns-2 : (t : ℕ) → item-lts.Need-returns-2 (item-calls t) (item-at t) item.Post
 item-returns-2 t c = c .parts-end .ensures ∙ sym (span-tuple _ _ _ (search needs) (sym (c .before .before .before .before .is-leaf .ensures) ∙ c .before .before .before .if2 .left) (sym (c .before .before .is-tuple .ensures) ∙ c .before .if3 .taken))
 
-item-returns-3 : (t : ℕ) → item-lts.Need-returns-3 (
-  is-leaf-reads.Asked,
-  is-leaf-reads.Learnt,
-  is-tuple-reads.Asked,
-  is-tuple-reads.Learnt,
-  parts-below t,
-  parts.Post,
-) (item-at t) item.Post
+item-returns-3 : (t : ℕ) → item-lts.Need-returns-3 (item-calls t) (item-at t) item.Post
 item-returns-3 t c = sym (span-bad _ _ _ (search needs) (sym (c .before .before .before .is-leaf .ensures) ∙ c .before .before .if2 .left) (sym (c .before .is-tuple .ensures) ∙ c .if3 .left))
 
-item-returns-4 : (t : ℕ) → item-lts.Need-returns-4 (
-  is-leaf-reads.Asked,
-  is-leaf-reads.Learnt,
-  is-tuple-reads.Asked,
-  is-tuple-reads.Learnt,
-  parts-below t,
-  parts.Post,
-) (item-at t) item.Post
+item-returns-4 : (t : ℕ) → item-lts.Need-returns-4 (item-calls t) (item-at t) item.Post
 item-returns-4 t c = sym (span-past _ _ _ (search needs))
 
-parts-item-requires : (t : ℕ) → parts-lts.Need-item-end-requires (
-  item-below t,
-  item.Post,
-  parts-below t,
-  parts.Post,
-) (parts-at t) parts.Post
-parts-item-requires t c κs = search needs
+abbrev parts-calls : ℕ → parts-lts.Claims
+parts-calls t = (item-below t, item.Post, parts-below t, parts.Post)
 
-parts-enum-known-j : (t : ℕ) → parts-lts.Need-enum-known-j (
-  item-below t,
-  item.Post,
-  parts-below t,
-  parts.Post,
-) (parts-at t) parts.Post
-parts-enum-known-j t c = search needs
-
-parts-sub-parts : (t : ℕ) → parts-lts.Need-sub-parts-end (
-  item-below t,
-  item.Post,
-  parts-below t,
-  parts.Post,
-) (parts-at t) parts.Post
-parts-sub-parts t c = search needs
-
-parts-parts-requires : (t : ℕ) → parts-lts.Need-parts-end-requires (
-  item-below t,
-  item.Post,
-  parts-below t,
-  parts.Post,
-) (parts-at t) parts.Post
+parts-parts-requires : (t : ℕ) → parts-lts.Need-parts-end-requires (parts-calls t) (parts-at t) parts.Post
 parts-parts-requires t c κs =
     let b = c .before .before .before in
     let g = span-grows _ _ _ _ (sym (b .item-end .ensures) ∙ c .before .j .given .1) in
     (omega (arith, g), search needs)
 
-parts-enum-told : (t : ℕ) → parts-lts.Need-enum-told (
-  item-below t,
-  item.Post,
-  parts-below t,
-  parts.Post,
-) (parts-at t) parts.Post
-parts-enum-told t c = search needs
-
-parts-returns : (t : ℕ) → parts-lts.Need-returns (
-  item-below t,
-  item.Post,
-  parts-below t,
-  parts.Post,
-) (parts-at t) parts.Post
+parts-returns : (t : ℕ) → parts-lts.Need-returns (parts-calls t) (parts-at t) parts.Post
 parts-returns t c = sym (rw (c .if1 .taken) (span-none _ _ _))
 
-parts-returns-2 : (t : ℕ) → parts-lts.Need-returns-2 (
-  item-below t,
-  item.Post,
-  parts-below t,
-  parts.Post,
-) (parts-at t) parts.Post
+parts-returns-2 : (t : ℕ) → parts-lts.Need-returns-2 (parts-calls t) (parts-at t) parts.Post
 parts-returns-2 t c = let b = c .before .before .before .before in c .parts-end .ensures ∙ sym (span-more _ _ _ _ _ (b .before .if1 .left) (sym (b .item-end .ensures) ∙ c .before .before .j .given .1))
 
-parts-returns-3 : (t : ℕ) → parts-lts.Need-returns-3 (
-  item-below t,
-  item.Post,
-  parts-below t,
-  parts.Post,
-) (parts-at t) parts.Post
+parts-returns-3 : (t : ℕ) → parts-lts.Need-returns-3 (parts-calls t) (parts-at t) parts.Post
 parts-returns-3 t c = let b = c .before .before in sym (span-stop _ _ _ _ (b .before .if1 .left) (sym (b .item-end .ensures) ∙ c .enum-told .given .1))
 
 pub +item-end+parts-end-spec : {M : Type 1} → statement M
-+item-end+parts-end-spec = close μ-item μ-parts (λ t. item-lts.spec (
-  is-leaf-reads.Asked,
-  is-leaf-reads.Learnt,
-  is-tuple-reads.Asked,
-  is-tuple-reads.Learnt,
-  parts-below t,
-  parts.Post,
-)
++item-end+parts-end-spec = close μ-item μ-parts (λ t. item-lts.spec (item-calls t)
     (item-at t)
     item.Post
-    (item-mul-w t)
-    (item-shared-slice-read-w t)
-    (item-is-leaf-requires t)
-    (item-add-t13 t)
-    (item-is-tuple-requires t)
-    (item-add-parts t)
+    (λ c. search needs)
+    (λ c. search needs)
+    (λ c κs. search needs)
+    (λ c. search needs)
+    (λ c κs. search needs)
+    (λ c. search needs)
     (item-sub-parts t)
-    (item-parts-requires t)
+    (λ c κs. search needs)
     (item-returns t)
     (item-returns-2 t)
     (item-returns-3 t)
     (item-returns-4 t))
     λ t. parts-lts.spec
-    (item-below t, item.Post, parts-below t, parts.Post)
+    (parts-calls t)
     (parts-at t)
     parts.Post
-    (parts-item-requires t)
-    (parts-enum-known-j t)
-    (parts-sub-parts t)
+    (λ c κs. search needs)
+    (λ c. search needs)
+    (λ c. search needs)
     (parts-parts-requires t)
-    (parts-enum-told t)
+    (λ c. search needs)
     (parts-returns t)
     (parts-returns-2 t)
     (parts-returns-3 t)

@@ -1,5 +1,5 @@
 -- The loop goes over the words of the pattern; `Grown` says which names and parts it has added.
-use mathlib.Core.Path.{_≡_, refl, sym, ap, ap₂, _∙_, subst}
+use mathlib.Core.Path.{_≡_, sym, subst}
 use mathlib.Core.Logic.{⊎-elim}
 use Prim.Native.Nat.{ℕ, _≤_, _+_, _-_}
 use lib.ListN.{length, getD}

@@ -1,5 +1,5 @@
-use mathlib.Core.Path.{_≡_, _∙_}
-use lib.ListN.{length, take, length-map}
+use mathlib.Core.Path.{_≡_}
+use lib.ListN.{length}
 use borrow.Author.Needs.{needs}
 use Rattle.values.proofs.Lists.{unmap}
 use Rattle.values.proofs.Matches.{bound-in, bound-out}
