@@ -4,7 +4,8 @@ ghost use mathlib.Core.Bool.{true, false};
 ghost use mathlib.Core.List.{List, [], _∷_, _++_};
 ghost use Prim.Native.Nat.{ℕ, _≤_, _+_};
 ghost use lib.ListN.{length, take, drop};
-ghost use Rattle.model.specs.Values.{isTuple, isMinted, matches, binders, at, isValue, value, substitute, extend};
+ghost use Rattle.model.specs.Basics.{has};
+ghost use Rattle.model.specs.Values.{isTuple, isMinted, matches, binders, distinct, at, isValue, value, substitute, extend};
 ghost use Rattle.values.specs.Span.{leafOf, spanOf, endOf, sizeOf};
 ghost use Rattle.values.specs.Match.{viewBound, partOf, fitOf, storedAfter};
 ghost use Rattle.values.specs.Env.{viewValue, viewEnv, Stores, tupleOf, firstEight, extendedOf, Given};
@@ -143,6 +144,37 @@ pub fn names_in(s: &[u32]) -> usize
         i += 1;
     }
     r
+}
+
+// Whether w is among the words.
+pub fn has_word(s: &[u32], w: u32) -> bool
+    ensures { λ r. ⌜ r ≡ has w (now (s .entry)) ⌝ }
+{
+    let mut i: usize = 0;
+    while i < s.len() {
+        if s[i] == w {
+            return true;
+        }
+        i += 1;
+    }
+    false
+}
+
+// Whether no name stands twice in a pattern.
+pub fn distinct_in(s: &[u32]) -> bool
+    ensures { λ r. ⌜ r ≡ distinct (binders (now (s .entry))) ⌝ }
+{
+    let mut i: usize = 0;
+    while i < s.len() {
+        let w = s[i];
+        if w <= 63 {
+            if has_word(&s[..i], w) {
+                return false;
+            }
+        }
+        i += 1;
+    }
+    true
 }
 
 // A part of a value that a name is bound to: where it starts, and how many words it has.
