@@ -22,6 +22,8 @@ ghost use Rattle.tables.specs.Clear.{nameClear, tagClear, hide, clearAt,
 use values::Env;
 use values::Leaf;
 use values::Span;
+use values::distinct_in;
+use values::names_in;
 
 // A node's five words.
 pub struct Node {
@@ -337,21 +339,6 @@ pub fn lowest_three(nodes: &[u32]) -> Lowest
     Lowest::Sound
 }
 
-// How many names a pattern has.
-pub fn names_in(s: &[u32]) -> usize
-    ensures { λ r. ⌜ (r ≡ length (binders (now (s .entry)))) × (r ≤ length (now (s .entry))) ⌝ }
-{
-    let mut r: usize = 0;
-    let mut i: usize = 0;
-    while i < s.len() {
-        if s[i] <= 63 {
-            r += 1;
-        }
-        i += 1;
-    }
-    r
-}
-
 // How many names the pattern at a place has.
 pub fn names_at(pool: &[u32], p: usize) -> usize
     ensures { λ r. ⌜ (r ≡ length (patNames (now (pool .entry)) p)) × (r ≤ 16) ⌝ }
@@ -496,26 +483,6 @@ pub fn lowest_four(nodes: &[u32]) -> Lowest
         }
     }
     Lowest::Sound
-}
-
-// Whether no name stands twice.
-pub fn distinct_in(s: &[u32]) -> bool
-    ensures { λ r. ⌜ r ≡ distinct (binders (now (s .entry))) ⌝ }
-{
-    let mut seen = Marks::none();
-    let mut i: usize = 0;
-    while i < s.len() {
-        let w = s[i];
-        if w <= 63 {
-            let x = wide(w);
-            if seen.has(x) {
-                return false;
-            }
-            seen = seen.with(x);
-        }
-        i += 1;
-    }
-    true
 }
 
 // Whether a value stands at a place of the pool.

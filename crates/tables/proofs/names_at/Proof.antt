@@ -10,7 +10,7 @@ use Rattle.tables.proofs.names_at.Statement.{statement}
 use Rattle.tables.proofs.names_at.Tie as tie
 use Rattle.tables.proofs.names_at.Reads as reads
 use Rattle.tables.proofs.names_at.Lts as lts
-use Rattle.tables.proofs.names_in.Reads as names-in-reads
+use Rattle.values.proofs.names_in.Reads as names-in-reads
 use Rattle.values.proofs.size_at.Reads as size-at-reads
 
 -- src/lib.rt:315:11

@@ -11,7 +11,7 @@ use Rattle.tables.proofs.pattern_fine.Statement.{statement}
 use Rattle.tables.proofs.pattern_fine.Tie as tie
 use Rattle.tables.proofs.pattern_fine.Reads as reads
 use Rattle.tables.proofs.pattern_fine.Lts as lts
-use Rattle.tables.proofs.distinct_in.Reads as distinct-in-reads
+use Rattle.values.proofs.distinct_in.Reads as distinct-in-reads
 use Rattle.values.proofs.size_at.Reads as size-at-reads
 
 -- src/lib.rt:493:11
