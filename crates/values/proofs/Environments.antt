@@ -143,7 +143,14 @@ module _ (e : dec.Env) (p v : List ℕ) (b : Bound) (i k : ℕ) (r : dec.Env) (h
       let t : map (partOf v) (take (k + 1) (b .rows)) ≡ map (partOf v) (take k (b .rows)) ++ (partOf v (getD (b .rows) k d) ∷ []) = rw (add-one, take-suc (b .rows) k d (omega arith), map-append) in
       let z : extend (viewEnv r) (getD p i 0 ∷ []) (viewValue w ∷ []) ≡ extend (viewEnv e) (binders (take (i + 1) p)) (map (partOf v) (take (k + 1) (b .rows))) =
       ap₂ (λ (ρ : Env) (u : List ℕ). extend ρ (getD p i 0 ∷ []) (u ∷ [])) (g .view) x ∙ extend-more (viewEnv e) (binders (take i p)) (getD p i 0 ∷ []) _ _ ∙ ap₂ (extend (viewEnv e)) (sym q) (sym t) in
-      record { names = let u = length-append (binders (take i p)) (getD p i 0 ∷ []) in let o = g .names in let n = ap length q in omega arith; view = y ∙ ap firstEight z ∙ eight-all _ few-names few-vals }
+      record {
+        names =
+            let u = length-append (binders (take i p)) (getD p i 0 ∷ []) in
+            let o = g .names in
+            let n = ap length q in
+            omega arith;
+        view = y ∙ ap firstEight z ∙ eight-all _ few-names few-vals;
+      }
     where
       few-names : length (viewEnv e .names ++ binders (take (i + 1) p)) ≤ 8
       few-names = let a = o .room in let m = binders-front p (i + 1) in omega (arith, length-append (viewEnv e .names) (binders (take (i + 1) p)))

@@ -199,7 +199,9 @@ module _ (v : List ℕ) (j : ℕ) where
   end-is e q = subst (EndIs v j) (sym q) (place (ltb j (length v)) refl)
     where
       word : j < length v → (s : Span) → spanOf (leafOf Name) v j 1 ≡ s → EndIs v j (endOf v j)
-      word h (At e) p = let g = span-grows (leafOf Name) v j e p in subst (EndIs v j) (end-at e p) (of-rest e (end-at e p) (omega arith) (rest-at e p))
+      word h (At e) p =
+          let g = span-grows (leafOf Name) v j e p in
+          subst (EndIs v j) (end-at e p) (of-rest e (end-at e p) (omega arith) (rest-at e p))
       word h Bad p = subst (EndIs v j) (end-bad h p) (of-rest (length v) (end-bad h p) (omega arith) (rest-bad p))
 
       place : (b : Bool) → ltb j (length v) ≡ b → EndIs v j (endOf v j)

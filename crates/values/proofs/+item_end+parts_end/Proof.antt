@@ -69,10 +69,14 @@ parts-returns : (t : ℕ) → parts-lts.Need-returns (parts-calls t) (parts-at t
 parts-returns t c = sym (rw (c .if1 .taken) (span-none _ _ _))
 
 parts-returns-2 : (t : ℕ) → parts-lts.Need-returns-2 (parts-calls t) (parts-at t) parts.Post
-parts-returns-2 t c = let b = c .before .before .before .before in c .parts-end .ensures ∙ sym (span-more _ _ _ _ _ (b .before .if1 .left) (sym (b .item-end .ensures) ∙ c .before .before .j .given .1))
+parts-returns-2 t c =
+    let b = c .before .before .before .before in
+    c .parts-end .ensures ∙ sym (span-more _ _ _ _ _ (b .before .if1 .left) (sym (b .item-end .ensures) ∙ c .before .before .j .given .1))
 
 parts-returns-3 : (t : ℕ) → parts-lts.Need-returns-3 (parts-calls t) (parts-at t) parts.Post
-parts-returns-3 t c = let b = c .before .before in sym (span-stop _ _ _ _ (b .before .if1 .left) (sym (b .item-end .ensures) ∙ c .enum-told .given .1))
+parts-returns-3 t c =
+    let b = c .before .before in
+    sym (span-stop _ _ _ _ (b .before .if1 .left) (sym (b .item-end .ensures) ∙ c .enum-told .given .1))
 
 pub +item-end+parts-end-spec : {M : Type 1} → statement M
 +item-end+parts-end-spec = close μ-item μ-parts (λ t. item-lts.spec (item-calls t)

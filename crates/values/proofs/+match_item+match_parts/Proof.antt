@@ -72,16 +72,22 @@ match-item-returns-5 : (t : ℕ) → match-item-lts.Need-returns-5 (item-calls t
 match-item-returns-5 t c = item-name _ _ (c .before .before .before .before .before .before .before .before .before .before .args .i) (c .before .before .before .before .before .before .before .before .before .before .args .j) (c .before .before .before .before .before .before .before .before .before .before .args .b) _ (c .before .before .before .before .before .before .before .if1 .left) (sym (c .before .before .before .before .before .is-tuple .ensures) ∙ c .before .before .before .before .if2 .left) _ (end-is _ _ _ (c .before .before .before .value-end .ensures)) (c .before .before .if5 .taken) _ (c .before .push .ensures _) (c .up-to .ensures)
 
 match-item-returns-6 : (t : ℕ) → match-item-lts.Need-returns-6 (item-calls t) (match-item-at t) match-item.Post
-match-item-returns-6 t c = let full : length (c .before .before .before .before .before .before .before .before .before .args .b .rows) ≡ 8 = search (needs, unmap) in item-wild _ _ (c .before .before .before .before .before .before .before .before .before .args .i) (c .before .before .before .before .before .before .before .before .before .args .j) (c .before .before .before .before .before .before .before .before .before .args .b) _ (c .before .before .before .before .before .before .if1 .left) (sym (c .before .before .before .before .is-tuple .ensures) ∙ c .before .before .before .if2 .left) _ (end-is _ _ _ (c .before .before .value-end .ensures)) (c .before .if5 .left) full (c .up-to2 .ensures)
+match-item-returns-6 t c =
+    let full : length (c .before .before .before .before .before .before .before .before .before .args .b .rows) ≡ 8 = search (needs, unmap) in
+    item-wild _ _ (c .before .before .before .before .before .before .before .before .before .args .i) (c .before .before .before .before .before .before .before .before .before .args .j) (c .before .before .before .before .before .before .before .before .before .args .b) _ (c .before .before .before .before .before .before .if1 .left) (sym (c .before .before .before .before .is-tuple .ensures) ∙ c .before .before .before .if2 .left) _ (end-is _ _ _ (c .before .before .value-end .ensures)) (c .before .if5 .left) full (c .up-to2 .ensures)
 
 abbrev parts-calls : ℕ → match-parts-lts.Claims
 parts-calls t = (up-to-reads.Asked, up-to-reads.Learnt, match-item-below t, match-item.Post, match-parts-below t, match-parts.Post)
 
 match-parts-returns : (t : ℕ) → match-parts-lts.Need-returns (parts-calls t) (match-parts-at t) match-parts.Post
-match-parts-returns t c = let full : length (c .before .before .before .before .args .b .rows) ≡ 8 = search (needs, unmap) in parts-none _ _ (c .before .before .before .before .args .i) (c .before .before .before .before .args .j) _ (c .before .before .before .before .args .b) _ full (c .before .if1 .taken) (c .up-to .ensures)
+match-parts-returns t c =
+    let full : length (c .before .before .before .before .args .b .rows) ≡ 8 = search (needs, unmap) in
+    parts-none _ _ (c .before .before .before .before .args .i) (c .before .before .before .before .args .j) _ (c .before .before .before .before .args .b) _ full (c .before .if1 .taken) (c .up-to .ensures)
 
 match-parts-match-parts-requires : (t : ℕ) → match-parts-lts.Need-match-parts-requires (parts-calls t) (match-parts-at t) match-parts.Post
-match-parts-match-parts-requires t c κs = let f = item-falls (c .before .before .before .before .before .before .args .p .now) (c .before .before .before .before .before .before .args .v .now) (c .before .before .match-item .result) (c .before .before .before .before .before .before .args .i) _ _ (c .before .if2 .taken) (c .before .before .match-item .ensures) in (omega (arith, f), search needs)
+match-parts-match-parts-requires t c κs =
+    let f = item-falls (c .before .before .before .before .before .before .args .p .now) (c .before .before .before .before .before .before .args .v .now) (c .before .before .match-item .result) (c .before .before .before .before .before .before .args .i) _ _ (c .before .if2 .taken) (c .before .before .match-item .ensures) in
+    (omega (arith, f), search needs)
 
 match-parts-returns-2 : (t : ℕ) → match-parts-lts.Need-returns-2 (parts-calls t) (match-parts-at t) match-parts.Post
 match-parts-returns-2 t c = c .match-parts .ensures ∙ sym (parts-more _ _ _ _ _ (c .before .before .before .before .if1 .left) (sym (c .before .before .before .match-item .ensures) ∙ fit-yes _ _ _ (c .before .before .if2 .taken)))

@@ -30,7 +30,10 @@ returns : tie.Need-returns Inv-loop μ-loop
 returns c = twice (c .before .before .before .before .before .before .before .before .args .s .now) (c .before .before .before .before .before .before .loop .i) (c .before .before .before .before .before .loop-test .taken) (c .before .before .before .before .before .before .loop .inv .1) (c .before .before .before .if1 .taken) (sym (c .before .has-word .ensures) ∙ c .if2 .taken)
 
 loop-again : tie.Need-loop-again Inv-loop μ-loop
-loop-again c = let s = c .before .before .before .before .before .args .s .now in let l = c .before .before .before .loop in (search needs, ⊎-elim (λ q. once-name s (l .i) (c .before .before .loop-test .taken) (l .inv .1) (q .0 .taken) (sym (q .2 .ensures) ∙ q .3 .left)) (λ q. once-other s (l .i) (c .before .before .loop-test .taken) (l .inv .1) (q .left)) (c .if1 .came))
+loop-again c =
+    let s = c .before .before .before .before .before .args .s .now in
+    let l = c .before .before .before .loop in
+    (search needs, ⊎-elim (λ q. once-name s (l .i) (c .before .before .loop-test .taken) (l .inv .1) (q .0 .taken) (sym (q .2 .ensures) ∙ q .3 .left)) (λ q. once-other s (l .i) (c .before .before .loop-test .taken) (l .inv .1) (q .left)) (c .if1 .came))
 
 returns-2 : tie.Need-returns-2 Inv-loop μ-loop
 returns-2 c = once-all _ (c .before .loop .i) (c .loop-test .left) (c .before .loop .inv .1)

@@ -23,10 +23,22 @@ loop-holds : tie.Need-loop-holds Inv-loop μ-loop
 loop-holds c = (search needs, search needs, grown-none _ _ _ _)
 
 mul-q : tie.Need-mul-q Inv-loop μ-loop
-mul-q c = let a = c .before .before .before .before .before .before .args in let l = c .before .before .before .loop in let g = l .inv .2 in let o = c .before .before .before .before .before .before .pre in let m = grown-room (a .e) (a .p .now) (a .v .now) (a .t4) (l .i) (l .k) (l .r) (c .before .before .loop-test .taken) g (c .if1 .taken) in omega (arith, o .room)
+mul-q c =
+    let a = c .before .before .before .before .before .before .args in
+    let l = c .before .before .before .loop in
+    let g = l .inv .2 in
+    let o = c .before .before .before .before .before .before .pre in
+    let m = grown-room (a .e) (a .p .now) (a .v .now) (a .t4) (l .i) (l .k) (l .r) (c .before .before .loop-test .taken) g (c .if1 .taken) in
+    omega (arith, o .room)
 
 element-copy-out-q : tie.Need-element-copy-out-q Inv-loop μ-loop
-element-copy-out-q c = let a = c .before .before .before .before .before .before .args in let l = c .before .before .before .loop in let g = l .inv .2 in let o = c .before .before .before .before .before .before .pre in let m = grown-room (a .e) (a .p .now) (a .v .now) (a .t4) (l .i) (l .k) (l .r) (c .before .before .loop-test .taken) g (c .if1 .taken) in omega (arith, o .room)
+element-copy-out-q c =
+    let a = c .before .before .before .before .before .before .args in
+    let l = c .before .before .before .loop in
+    let g = l .inv .2 in
+    let o = c .before .before .before .before .before .before .pre in
+    let m = grown-room (a .e) (a .p .now) (a .v .now) (a .t4) (l .i) (l .k) (l .r) (c .before .before .loop-test .taken) g (c .if1 .taken) in
+    omega (arith, o .room)
 
 loop-again : tie.Need-loop-again Inv-loop μ-loop
 loop-again c =
@@ -47,7 +59,9 @@ loop-again c =
     (c .if1 .came)
 
 returns : tie.Need-returns Inv-loop μ-loop
-returns c = let a = c .before .before .before .before .args in grown-all (a .e) (a .p .now) (a .v .now) (a .t4) (c .before .loop .i) (c .before .loop .k) (c .before .loop .r) (c .loop-test .left) (c .before .before .before .before .pre .each) (c .before .loop .inv .2)
+returns c =
+    let a = c .before .before .before .before .args in
+    grown-all (a .e) (a .p .now) (a .v .now) (a .t4) (c .before .loop .i) (c .before .loop .k) (c .before .loop .r) (c .loop-test .left) (c .before .before .before .before .pre .each) (c .before .loop .inv .2)
 
 pub with-parts-spec : {M : Type 1} → statement M
 with-parts-spec =
