@@ -285,3 +285,16 @@ all-stored p v n h = go (matches p n v) (bound-le p n v)
     go : (q : Res Fit) → boundOf q ≤ length (binders p) → storedAfter [] q ≡ q
     go (refuse e) l = refl
     go (done m) l = ap (λ (bs : List (List ℕ)). done (fit (m .pattern) (m .value) bs)) (take-all 8 (m .bound) (omega arith))
+
+-- what `matching` says, for a caller: it refuses what `matches` refuses, and gives what `matches` gives
+pub matched-no : (p v : List ℕ) (m : Matched) → fitOf p v m ≡ storedAfter [] (matches p 1 v) → m .fits ≡ false → matches p 1 v ≡ refuse 14
+unfolding storedAfter
+matched-no p v m e f = go (matches p 1 v) (sym e ∙ fit-no p v m f)
+  where
+    go : (q : Res Fit) → storedAfter [] q ≡ refuse 14 → q ≡ refuse 14
+    go (refuse n) z = z
+    go (done k) z = absurd (clash (sym z))
+
+pub matched-yes : (p v : List ℕ) (m : Matched) → fitOf p v m ≡ storedAfter [] (matches p 1 v) → m .fits ≡ true → length (binders p) ≤ 8 →
+    matches p 1 v ≡ done (fit (drop (m .pattern) p) (drop (m .value) v) (viewBound v (m .bound)))
+matched-yes p v m e f h = sym (all-stored p v 1 h) ∙ sym e ∙ fit-yes p v m f

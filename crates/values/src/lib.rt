@@ -5,7 +5,7 @@ ghost use mathlib.Core.List.{List, [], _∷_, _++_};
 ghost use Prim.Native.Nat.{ℕ, _≤_, _+_};
 ghost use lib.ListN.{length, take, drop};
 ghost use Rattle.model.specs.Basics.{has};
-ghost use Rattle.model.specs.Values.{isTuple, isMinted, matches, binders, distinct, at, isValue, value, substitute, extend};
+ghost use Rattle.model.specs.Values.{isTuple, isMinted, matches, binders, distinct, at, isValue, noNames, value, substitute, extend};
 ghost use Rattle.values.specs.Span.{leafOf, spanOf, endOf, sizeOf};
 ghost use Rattle.values.specs.Match.{viewBound, partOf, fitOf, storedAfter};
 ghost use Rattle.values.specs.Env.{viewValue, viewEnv, Stores, tupleOf, firstEight, extendedOf, Given};
@@ -39,7 +39,7 @@ pub fn is_minted(w: u32) -> bool
 }
 
 // Whether w is an item by itself.
-pub fn is_leaf(l: Leaf, w: u32) -> bool
+fn is_leaf(l: Leaf, w: u32) -> bool
     ensures { λ r. ⌜ r ≡ leafOf l w ⌝ }
 {
     match l {
@@ -57,7 +57,7 @@ pub fn is_tuple(w: u32) -> bool
 }
 
 // Where the item at place i ends.
-pub fn item_end(l: Leaf, s: &[u32], i: usize) -> Span
+fn item_end(l: Leaf, s: &[u32], i: usize) -> Span
     ensures { λ r. ⌜ r ≡ spanOf (leafOf l) (now (s .entry)) i 1 ⌝ }
 {
     if i < s.len() {
@@ -75,7 +75,7 @@ pub fn item_end(l: Leaf, s: &[u32], i: usize) -> Span
 }
 
 // Where k items from place i on end.
-pub fn parts_end(l: Leaf, s: &[u32], i: usize, k: u32) -> Span
+fn parts_end(l: Leaf, s: &[u32], i: usize, k: u32) -> Span
     ensures { λ r. ⌜ r ≡ spanOf (leafOf l) (now (s .entry)) i k ⌝ }
 {
     if k == 0 {
@@ -118,7 +118,7 @@ pub fn is_value(s: &[u32]) -> bool
 }
 
 // Where the first value from place j on ends; the end of v where none stands there, and j past the end.
-pub fn value_end(v: &[u32], j: usize) -> usize
+fn value_end(v: &[u32], j: usize) -> usize
     ensures { λ r. ⌜ r ≡ endOf (now (v .entry)) j ⌝ }
 {
     if j < v.len() {
@@ -147,7 +147,7 @@ pub fn names_in(s: &[u32]) -> usize
 }
 
 // Whether w is among the words.
-pub fn has_word(s: &[u32], w: u32) -> bool
+fn has_word(s: &[u32], w: u32) -> bool
     ensures { λ r. ⌜ r ≡ has w (now (s .entry)) ⌝ }
 {
     let mut i: usize = 0;
@@ -189,8 +189,7 @@ pub struct Bound {
     pub n: usize,
 }
 
-// What matching gives: whether the pattern takes the value, the next places in the pattern and in the value, and the parts
-// bound.
+// What matching gives: whether the pattern takes the value, the next places in both, and the parts bound.
 pub struct Matched {
     pub fits: bool,
     pub pattern: usize,
@@ -200,7 +199,7 @@ pub struct Matched {
 
 impl Bound {
     // No parts.
-    pub fn none() -> Bound
+    fn none() -> Bound
         ensures { λ r. ⌜ r .n ≡ 0 ⌝ }
     {
         Bound {
@@ -210,7 +209,7 @@ impl Bound {
     }
 
     // One part more; past the eighth none is stored.
-    pub fn push(mut self, start: usize, len: usize) -> Bound
+    fn push(mut self, start: usize, len: usize) -> Bound
         ensures { λ r. ⌜ ((v : List ℕ) → viewBound v r ≡ take 8 (viewBound v self ++ (partOf v (record { start = start; len = len }) ∷ []))) ⌝ }
     {
         let n = self.n;
@@ -222,7 +221,7 @@ impl Bound {
     }
 
     // How many parts are stored.
-    pub fn count(self) -> usize
+    fn count(self) -> usize
         ensures { λ r. ⌜ ((v : List ℕ) → r ≡ length (viewBound v self)) ⌝ }
     {
         let n = self.n;
@@ -232,7 +231,7 @@ impl Bound {
 
 impl Matched {
     // The pattern does not take the value.
-    pub fn refused() -> Matched
+    fn refused() -> Matched
         ensures { λ r. ⌜ r .fits ≡ false ⌝ }
     {
         Matched {
@@ -244,7 +243,7 @@ impl Matched {
     }
 
     // The pattern up to place i takes the value up to place j.
-    pub fn up_to(i: usize, j: usize, b: Bound) -> Matched
+    fn up_to(i: usize, j: usize, b: Bound) -> Matched
         ensures { λ r. ⌜ r ≡ record { fits = true; pattern = i; value = j; bound = b } ⌝ }
     {
         Matched {
@@ -257,7 +256,7 @@ impl Matched {
 }
 
 // One item of the pattern p, at place i, against one value of the words v, at place j, after the parts b.
-pub fn match_item(p: &[u32], v: &[u32], i: usize, j: usize, b: Bound) -> Matched
+fn match_item(p: &[u32], v: &[u32], i: usize, j: usize, b: Bound) -> Matched
     ensures { λ r. ⌜ fitOf (now (p .entry)) (now (v .entry)) r ≡ storedAfter (viewBound (now (v .entry)) b) (matches (drop i (now (p .entry))) 1 (drop j (now (v .entry)))) ⌝ }
 {
     if p.len() <= i {
@@ -281,7 +280,7 @@ pub fn match_item(p: &[u32], v: &[u32], i: usize, j: usize, b: Bound) -> Matched
 }
 
 // The remaining k parts of a tuple, one after the other.
-pub fn match_parts(p: &[u32], v: &[u32], i: usize, j: usize, k: u32, b: Bound) -> Matched
+fn match_parts(p: &[u32], v: &[u32], i: usize, j: usize, k: u32, b: Bound) -> Matched
     ensures { λ r. ⌜ fitOf (now (p .entry)) (now (v .entry)) r ≡ storedAfter (viewBound (now (v .entry)) b) (matches (drop i (now (p .entry))) k (drop j (now (v .entry)))) ⌝ }
 {
     if k == 0 {
@@ -382,7 +381,7 @@ impl Value {
     }
 
     // The words of v more.
-    pub fn join(self, v: Value) -> Value
+    fn join(self, v: Value) -> Value
         ensures { λ r. ⌜ ((l : List ℕ) → Stores l self → Stores (l ++ viewValue v) r) ⌝ }
     {
         let n = v.count();
@@ -397,6 +396,18 @@ impl Value {
 }
 
 impl Env {
+    // No names in force.
+    pub fn none() -> Env
+        ensures { λ r. ⌜ viewEnv r ≡ noNames ⌝ }
+    {
+        let v = Value::none();
+        Env {
+            names: [0; 8],
+            vals: [v; 8],
+            n: 0,
+        }
+    }
+
     // One name more; past the eighth none is stored.
     pub fn with(mut self, name: u32, v: Value) -> Env
         ensures { λ r. ⌜ viewEnv r ≡ firstEight (extend (viewEnv self) (name ∷ []) (viewValue v ∷ [])) ⌝ }
@@ -414,8 +425,8 @@ impl Env {
     pub fn count(self) -> usize
         ensures { λ r. ⌜ (r ≡ length (viewEnv self .names)) × (r ≡ length (viewEnv self .vals)) × (r ≤ 8) ⌝ }
     {
-        let n = self.n;
-        if n < 8 { n } else { 8 }
+        let k = self.n;
+        if k < 8 { k } else { 8 }
     }
 
     // The value of the last w in force; w itself where there is none.
@@ -454,7 +465,7 @@ pub fn substituted(e: Env, s: &[u32]) -> Value
 }
 
 // The words of a bound part.
-pub fn part_words(v: &[u32], p: Part) -> Value
+fn part_words(v: &[u32], p: Part) -> Value
     ensures { λ r. ⌜ Stores (partOf (now (v .entry)) p) r ⌝ }
 {
     let a = p.start;
