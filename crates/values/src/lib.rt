@@ -221,8 +221,8 @@ impl Bound {
     }
 
     // How many parts are stored.
-    fn count(self) -> usize
-        ensures { λ r. ⌜ ((v : List ℕ) → r ≡ length (viewBound v self)) ⌝ }
+    pub fn count(self) -> usize
+        ensures { λ r. ⌜ ((v : List ℕ) → r ≡ length (viewBound v self)) × (r ≤ 8) ⌝ }
     {
         let n = self.n;
         if n < 8 { n } else { 8 }
@@ -465,7 +465,7 @@ pub fn substituted(e: Env, s: &[u32]) -> Value
 }
 
 // The words of a bound part.
-fn part_words(v: &[u32], p: Part) -> Value
+pub fn part_words(v: &[u32], p: Part) -> Value
     ensures { λ r. ⌜ Stores (partOf (now (v .entry)) p) r ⌝ }
 {
     let a = p.start;
