@@ -6,7 +6,7 @@ use Prim.Native.Nat.{ℕ, _+_, _-_, _<_, _≤_}
 use native.Mathlib.Omega.{arith}
 use native.Mathlib.Numerals.{add-one}
 use borrow.Author.Tests.{le-leb, lt-leb, lt-ltb, eq-eqb, ne-eqb, eqb-true, eqb-false}
-use lib.Dec.{leb, ltb, eqb}
+use lib.Dec.{eqb}
 use lib.ListN.{length, getD, take, set, length-append, length-take, length-map}
 use lib.Seq.{take-suc, take-suc-set, take-all, length-take-le, getD-set-same, getD-set-other}
 use Rattle.model.specs.Basics.{_&_, choose}
@@ -19,7 +19,7 @@ use Rattle.values.specs.declared.Bound.{Bound}
 use Rattle.values.specs.Match.{partOf, viewBound}
 use Rattle.values.specs.Env.{viewValue, viewEnv, Stores, tupleOf, firstEight, canExtend, extendedOf, Given}
 use Rattle.values.proofs.Lists.{view-push, take-count, push-full, push-fits}
-use Rattle.values.proofs.Spans.{left-false, right-false}
+use Rattle.values.proofs.Words.{left-false, right-false}
 use Rattle.values.proofs.Storing.{val}
 use Rattle.values.proofs.Names.{next-name, next-other, binders-front}
 

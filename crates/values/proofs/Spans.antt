@@ -1,26 +1,24 @@
 -- Laws of where items end: one for each way that the code goes.
 use mathlib.Core.Path.{_≡_, refl, sym, ap, _∙_, subst}
-use mathlib.Core.Bool.{Bool, true, false, _&&_, _||_}
-use mathlib.Core.List.{List, [], _∷_, _++_}
+use mathlib.Core.Bool.{Bool, true, false}
+use mathlib.Core.List.{List, [], _∷_}
 use mathlib.Core.Logic.{_⊎_, inl, inr, ⊎-elim}
 use Prim.Native.Nat.{ℕ, zero, suc, _+_, _-_, _<_, _≤_}
-use native.Mathlib.Nat.{zero-add, suc-add, add-assoc, add-zero}
+use native.Mathlib.Nat.{add-zero}
 use native.Mathlib.Omega.{arith}
-use native.Mathlib.Numerals.{add-one}
 use borrow.Author.Tests.{le-leb, lt-leb, eq-eqb, ne-eqb, eqb-true, eqb-false, ltb-true, ltb-false}
-use lib.Dec.{leb, ltb, eqb}
-use lib.ListN.{length, getD, take, drop, length-drop, drop-of-length-le, length-append, length-take}
-use lib.Seq.{drop-cons, drop-drop, drop-length, take-all, take-take, length-take-le}
+use lib.Dec.{ltb, eqb}
+use lib.ListN.{length, getD, take, drop, length-drop, drop-of-length-le, length-take}
+use lib.Seq.{drop-drop, drop-length, take-all, take-take, length-take-le}
 use Rattle.model.specs.Basics.{_&_, _or_, Res, refuse, done, bind, orElse}
-use Rattle.model.specs.Values.{items, isPublic, isPatternLeaf, isName, isTuple, arity, restOf, firstOf, at, isValue, shaped}
-use Rattle.model.proofs.Tests.{both}
+use Rattle.model.specs.Values.{items, isName, isTuple, arity, restOf, firstOf, at, isValue, shaped}
 use Rattle.model.proofs.Items.{items-zero, items-leaf, items-tuple, items-bad, items-add}
 use Rattle.values.proofs.Lists.{at-i}
+use Rattle.values.proofs.Words.{left-false}
 use Rattle.values.specs.Span.{leafOf, found, spanOf, endOf, sizeOf}
 use Rattle.values.specs.declared.Span.{Span}
 use Rattle.values.specs.declared.Span.the-variants.{At, Bad}
-use Rattle.values.specs.declared.Leaf.{Leaf}
-use Rattle.values.specs.declared.Leaf.the-variants.{Public, Pattern, Name}
+use Rattle.values.specs.declared.Leaf.the-variants.{Name}
 
 -- what stands behind the end e of the first value from place j on, and the words of that value
 pub record EndIs (v : List ℕ) (j e : ℕ) : Type 0 where
@@ -45,15 +43,6 @@ module _ (leaf : ℕ → Bool) (e : ℕ) where
       go true u ih ih′ q = let a = ih q in (suc (a .0), a .1, omega (arith, a .2), λ h. omega arith)
       go false true ih ih′ q = let a = ih′ q in (suc (a .0), a .1, omega (arith, a .2), λ h. omega arith)
       go false false ih ih′ q = let z : _≡_ {A = ℕ} 0 1 = cc in absurd (omega arith)
-
-pub left-false : (a b : Bool) → a ≡ false → a & b ≡ false
-unfolding _&_
-left-false a b p = rw p
-
-pub right-false : (a b : Bool) → b ≡ false → a & b ≡ false
-unfolding _&_
-right-false true b p = p
-right-false false b p = refl
 
 -- THE LAWS OF `spanOf`, one for each way the code goes
 module _ (leaf : ℕ → Bool) where

@@ -1,12 +1,12 @@
 -- Tests of a word: one law for each way that the code goes.
-use mathlib.Core.Path.{_≡_, refl, sym, ap, _∙_}
+use mathlib.Core.Path.{_≡_, refl}
 use mathlib.Core.Bool.{Bool, true, false}
 use Prim.Native.Nat.{ℕ, _<_, _≤_}
 use native.Mathlib.Omega.{arith}
 use borrow.Author.Tests.{le-leb, lt-leb}
 use lib.Dec.{leb, eqb}
 use Rattle.model.specs.Basics.{_&_, _or_}
-use Rattle.model.specs.Values.{isPublic, isPatternLeaf, isName, isTuple, isMinted}
+use Rattle.model.specs.Values.{isTuple, isMinted}
 use Rattle.values.specs.Span.{leafOf}
 use Rattle.values.specs.declared.Leaf.{Leaf}
 use Rattle.values.specs.declared.Leaf.the-variants.{Public, Pattern, Name}
@@ -53,3 +53,13 @@ module _ (w : ℕ) where
   pub leaf-name : (l : Leaf) → l ≡ Name → 63 < w → isMinted w ≡ leafOf l w
   unfolding leafOf _or_
   leaf-name l e h = rw (e, lt-leb w 63 h)
+
+-- a conjunction fails where one of its tests fails
+pub left-false : (a b : Bool) → a ≡ false → a & b ≡ false
+unfolding _&_
+left-false a b p = rw p
+
+pub right-false : (a b : Bool) → b ≡ false → a & b ≡ false
+unfolding _&_
+right-false true b p = p
+right-false false b p = refl

@@ -1,3 +1,4 @@
+-- The mutual pair that finds where an item and where k items end. What is left of the words falls.
 use borrow.Author.Needs.{needs}
 use mathlib.Core.Path.{sym, _∙_}
 use Prim.Native.Nat.{_+_, _-_, _*_}

@@ -1,5 +1,5 @@
 -- The mutual pair that matches an item of a pattern and the remaining parts of a tuple. What is left of the pattern falls.
-use mathlib.Core.Path.{_≡_, refl, sym, _∙_}
+use mathlib.Core.Path.{_≡_, sym, _∙_}
 use Prim.Native.Nat.{ℕ, _+_, _-_, _*_, _<_}
 use native.Mathlib.Omega.{arith}
 use borrow.Author.Needs.{needs}

@@ -1,3 +1,4 @@
+-- The loop has not met w among the words passed.
 use mathlib.Core.Path.{_≡_, refl}
 use mathlib.Core.Bool.{false}
 use Prim.Native.Nat.{_≤_, _-_}

@@ -1,3 +1,4 @@
+-- What the words passed stand for is stored.
 use mathlib.Core.Path.{sym, subst}
 use mathlib.Core.Logic.{⊎-elim}
 use Prim.Native.Nat.{_≤_, _-_}

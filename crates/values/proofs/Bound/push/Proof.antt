@@ -1,3 +1,4 @@
+-- A part is written at the count where there is room; a full array stays as it is.
 use mathlib.Core.Path.{_≡_}
 use lib.ListN.{length}
 use borrow.Author.Needs.{needs}

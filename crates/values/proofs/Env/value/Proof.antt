@@ -1,3 +1,4 @@
+-- The value so far is what the first k names and values give; a later name that is w replaces it.
 use mathlib.Core.Path.{_≡_, ap, _∙_}
 use mathlib.Core.List.{[], _∷_, map}
 use mathlib.Core.Logic.{⊎-elim}
