@@ -1,0 +1,26 @@
+use mathlib.Core.Path.{_≡_, refl, sym, ap, ap₂, _∙_, subst}
+use lib.ListN.{getD}
+use Rattle.model.specs.Table.{uses}
+use Rattle.tables.specs.Scope.{in-yes, in-no}
+use native.Mathlib.Omega.{arith}
+use borrow.Author.Needs.{needs}
+use Rattle.tables.proofs.is_child.Statement.{statement}
+use Rattle.tables.proofs.is_child.Tie as tie
+use Rattle.tables.proofs.is_child.Reads as reads
+use Rattle.tables.proofs.is_child.Lts as lts
+use Rattle.tables.proofs.use_of.Reads as use-of-reads
+
+-- src/lib.rt:715:8
+use-of-requires : tie.Need-use-of-requires
+use-of-requires c κs = search needs
+
+-- src/lib.rt:712:1
+returns : tie.Need-returns
+returns c = let a = c .before .before .args in in-yes (getD (uses (a .k)) (a .f) 0) (a .w) (a .m) (sym (c .before .use-of .ensures) ∙ c .if1 .taken)
+
+-- src/lib.rt:712:1
+returns-2 : tie.Need-returns-2
+returns-2 c = let a = c .before .before .args in in-no (getD (uses (a .k)) (a .f) 0) (a .w) (a .m) (λ q. c .if1 .left (c .before .use-of .ensures ∙ q))
+
+pub is-child-spec : {M : Type 1} → statement M
+is-child-spec = tie.close (tie.spec use-of-requires returns returns-2)

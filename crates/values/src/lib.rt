@@ -1,0 +1,522 @@
+// Values and patterns as words: where one ends, matching, environments, substitution.
+ghost use mathlib.Core.Path.{_≡_};
+ghost use mathlib.Core.Bool.{true, false};
+ghost use mathlib.Core.List.{List, [], _∷_, _++_};
+ghost use Prim.Native.Nat.{ℕ, _≤_};
+ghost use lib.ListN.{length, take, drop};
+ghost use Rattle.model.specs.Basics.{has};
+ghost use Rattle.model.specs.Values.{isTuple, isMinted, matches, binders, distinct, at, isValue, noNames, value, substitute, extend};
+ghost use Rattle.values.specs.Span.{leafOf, spanOf, endOf, sizeOf};
+ghost use Rattle.values.specs.Match.{viewBound, partOf, fitOf, storedAfter};
+ghost use Rattle.values.specs.Env.{viewValue, viewEnv, Stores, tupleOf, firstEight, extendedOf, Given};
+
+// Which words are items by themselves: in a table's value, in a table's pattern, in a value that a step handles.
+pub enum Leaf {
+    Public,
+    Pattern,
+    Name,
+}
+
+// Where something ends or how many words it has, or that it is malformed.
+pub enum Span {
+    At(usize),
+    Bad,
+}
+
+// Whether w is a minted name: 65,536 × side + serial, side 1 or 2, serial up to 255.
+pub fn is_minted(w: u32) -> bool
+    ensures { λ r. ⌜ r ≡ isMinted w ⌝ }
+{
+    if w < 65536 {
+        false
+    } else if w <= 65791 {
+        true
+    } else if w < 131072 {
+        false
+    } else {
+        w <= 131327
+    }
+}
+
+// Whether w is an item by itself.
+fn is_leaf(l: Leaf, w: u32) -> bool
+    ensures { λ r. ⌜ r ≡ leafOf l w ⌝ }
+{
+    match l {
+        Leaf::Public => w <= 63,
+        Leaf::Pattern => w <= 63 || w == 4999999,
+        Leaf::Name => w <= 63 || is_minted(w),
+    }
+}
+
+// Whether w is a tuple word, 4,000,000 + k with k up to 15.
+pub fn is_tuple(w: u32) -> bool
+    ensures { λ r. ⌜ r ≡ isTuple w ⌝ }
+{
+    if w < 4000000 { false } else { w <= 4000015 }
+}
+
+// Where the item at place i ends.
+fn item_end(l: Leaf, s: &[u32], i: usize) -> Span
+    ensures { λ r. ⌜ r ≡ spanOf (leafOf l) (now (s .entry)) i 1 ⌝ }
+{
+    if i < s.len() {
+        let w = s[i];
+        if is_leaf(l, w) {
+            Span::At(i + 1)
+        } else if is_tuple(w) {
+            parts_end(l, s, i + 1, w - 4000000)
+        } else {
+            Span::Bad
+        }
+    } else {
+        Span::Bad
+    }
+}
+
+// Where k items from place i on end.
+fn parts_end(l: Leaf, s: &[u32], i: usize, k: u32) -> Span
+    ensures { λ r. ⌜ r ≡ spanOf (leafOf l) (now (s .entry)) i k ⌝ }
+{
+    if k == 0 {
+        Span::At(i)
+    } else {
+        match item_end(l, s, i) {
+            Span::At(j) => parts_end(l, s, j, k - 1),
+            Span::Bad => Span::Bad,
+        }
+    }
+}
+
+// How many words the value or pattern at place p of a pool has: it is malformed where it has over 16 or passes the pool's end.
+pub fn size_at(l: Leaf, pool: &[u32], p: usize) -> Span
+    ensures { λ r. ⌜ r ≡ sizeOf (at (leafOf l) (now (pool .entry)) p) ⌝ }
+{
+    if p < pool.len() {
+        if pool.len() - p < 16 {
+            item_end(l, &pool[p..], 0)
+        } else {
+            let e = p + 16;
+            item_end(l, &pool[p..e], 0)
+        }
+    } else {
+        Span::Bad
+    }
+}
+
+// Whether the words are one value of at most 16 words.
+pub fn is_value(s: &[u32]) -> bool
+    ensures { λ r. ⌜ r ≡ isValue (now (s .entry)) ⌝ }
+{
+    if 16 < s.len() {
+        return false;
+    }
+    match item_end(Leaf::Name, s, 0) {
+        Span::At(e) => e == s.len(),
+        Span::Bad => false,
+    }
+}
+
+// Where the first value from place j on ends; the end of v where none stands there, and j past the end.
+fn value_end(v: &[u32], j: usize) -> usize
+    ensures { λ r. ⌜ r ≡ endOf (now (v .entry)) j ⌝ }
+{
+    if j < v.len() {
+        match item_end(Leaf::Name, v, j) {
+            Span::At(e) => e,
+            Span::Bad => v.len(),
+        }
+    } else {
+        j
+    }
+}
+
+// How many names a pattern has.
+pub fn names_in(s: &[u32]) -> usize
+    ensures { λ r. ⌜ (r ≡ length (binders (now (s .entry)))) × (r ≤ length (now (s .entry))) ⌝ }
+{
+    let mut r: usize = 0;
+    let mut i: usize = 0;
+    while i < s.len() {
+        if s[i] <= 63 {
+            r += 1;
+        }
+        i += 1;
+    }
+    r
+}
+
+// Whether w is among the words.
+fn has_word(s: &[u32], w: u32) -> bool
+    ensures { λ r. ⌜ r ≡ has w (now (s .entry)) ⌝ }
+{
+    let mut i: usize = 0;
+    while i < s.len() {
+        if s[i] == w {
+            return true;
+        }
+        i += 1;
+    }
+    false
+}
+
+// Whether no name stands twice in a pattern.
+pub fn distinct_in(s: &[u32]) -> bool
+    ensures { λ r. ⌜ r ≡ distinct (binders (now (s .entry))) ⌝ }
+{
+    let mut i: usize = 0;
+    while i < s.len() {
+        let w = s[i];
+        if w <= 63 {
+            if has_word(&s[..i], w) {
+                return false;
+            }
+        }
+        i += 1;
+    }
+    true
+}
+
+// A part of a value that a name is bound to: where it starts, and how many words it has.
+pub struct Part {
+    pub start: usize,
+    pub len: usize,
+}
+
+// The parts bound so far, in the order of the names. Eight names are the most that a loaded pattern has.
+pub struct Bound {
+    pub rows: [Part; 8],
+    pub n: usize,
+}
+
+// What matching gives: whether the pattern takes the value, the next places in both, and the parts bound.
+pub struct Matched {
+    pub fits: bool,
+    pub pattern: usize,
+    pub value: usize,
+    pub bound: Bound,
+}
+
+impl Bound {
+    // No parts.
+    fn none() -> Bound
+        ensures { λ r. ⌜ r .n ≡ 0 ⌝ }
+    {
+        Bound {
+            rows: [Part { start: 0, len: 0 }; 8],
+            n: 0,
+        }
+    }
+
+    // One part more; past the eighth none is stored.
+    fn push(mut self, start: usize, len: usize) -> Bound
+        ensures { λ r. ⌜ ((v : List ℕ) → viewBound v r ≡ take 8 (viewBound v self ++ (partOf v (record { start = start; len = len }) ∷ []))) ⌝ }
+    {
+        let n = self.n;
+        if n < 8 {
+            self.rows[n] = Part { start, len };
+            self.n = n + 1;
+        }
+        self
+    }
+
+    // How many parts are stored.
+    pub fn count(self) -> usize
+        ensures { λ r. ⌜ ((v : List ℕ) → r ≡ length (viewBound v self)) × (r ≤ 8) ⌝ }
+    {
+        let n = self.n;
+        if n < 8 { n } else { 8 }
+    }
+}
+
+impl Matched {
+    // The pattern does not take the value.
+    fn refused() -> Matched
+        ensures { λ r. ⌜ r .fits ≡ false ⌝ }
+    {
+        Matched {
+            fits: false,
+            pattern: 0,
+            value: 0,
+            bound: Bound::none(),
+        }
+    }
+
+    // The pattern up to place i takes the value up to place j.
+    fn up_to(i: usize, j: usize, b: Bound) -> Matched
+        ensures { λ r. ⌜ r ≡ record { fits = true; pattern = i; value = j; bound = b } ⌝ }
+    {
+        Matched {
+            fits: true,
+            pattern: i,
+            value: j,
+            bound: b,
+        }
+    }
+}
+
+// One item of the pattern p, at place i, against one value of the words v, at place j, after the parts b.
+fn match_item(p: &[u32], v: &[u32], i: usize, j: usize, b: Bound) -> Matched
+    ensures { λ r. ⌜ fitOf (now (p .entry)) (now (v .entry)) r ≡ storedAfter (viewBound (now (v .entry)) b) (matches (drop i (now (p .entry))) 1 (drop j (now (v .entry)))) ⌝ }
+{
+    if p.len() <= i {
+        return Matched::refused();
+    }
+    let w = p[i];
+    if is_tuple(w) {
+        if v.len() <= j {
+            return Matched::refused();
+        }
+        if v[j] == w {
+            return match_parts(p, v, i + 1, j + 1, w - 4000000, b);
+        }
+        return Matched::refused();
+    }
+    let e = value_end(v, j);
+    if w <= 63 {
+        return Matched::up_to(i + 1, e, b.push(j, e - j));
+    }
+    Matched::up_to(i + 1, e, b)
+}
+
+// The remaining k parts of a tuple, one after the other.
+fn match_parts(p: &[u32], v: &[u32], i: usize, j: usize, k: u32, b: Bound) -> Matched
+    ensures { λ r. ⌜ fitOf (now (p .entry)) (now (v .entry)) r ≡ storedAfter (viewBound (now (v .entry)) b) (matches (drop i (now (p .entry))) k (drop j (now (v .entry)))) ⌝ }
+{
+    if k == 0 {
+        return Matched::up_to(i, j, b);
+    }
+    let m = match_item(p, v, i, j, b);
+    if m.fits {
+        let c = m.bound;
+        return match_parts(p, v, m.pattern, m.value, k - 1, c);
+    }
+    m
+}
+
+// A whole pattern against a value.
+pub fn matching(p: &[u32], v: &[u32]) -> Matched
+    ensures { λ r. ⌜ fitOf (now (p .entry)) (now (v .entry)) r ≡ storedAfter [] (matches (now (p .entry)) 1 (now (v .entry))) ⌝ }
+{
+    match_item(p, v, 0, 0, Bound::none())
+}
+
+// A value of at most 16 words. A length of 17 says that the list which was to be stored is longer.
+pub struct Value {
+    pub words: [u32; 16],
+    pub len: usize,
+}
+
+// An environment: the bound names in force, outermost first, and their values.
+pub struct Env {
+    pub names: [u32; 8],
+    pub vals: [Value; 8],
+    pub n: usize,
+}
+
+impl Value {
+    // No words.
+    pub fn none() -> Value
+        ensures { λ r. ⌜ Stores [] r ⌝ }
+    {
+        Value {
+            words: [0; 16],
+            len: 0,
+        }
+    }
+
+    // One word more: past the sixteenth it is counted and not stored.
+    pub fn push(mut self, w: u32) -> Value
+        ensures { λ r. ⌜ ((l : List ℕ) → Stores l self → Stores (l ++ (w ∷ [])) r) ⌝ }
+    {
+        let n = self.len;
+        if n < 16 {
+            self.words[n] = w;
+            self.len = n + 1;
+        } else {
+            self.len = 17;
+        }
+        self
+    }
+
+    // A name alone.
+    pub fn name(w: u32) -> Value
+        ensures { λ r. ⌜ viewValue r ≡ w ∷ [] ⌝ }
+    {
+        Value::none().push(w)
+    }
+
+    // How many words are stored.
+    pub fn count(self) -> usize
+        ensures { λ r. ⌜ (r ≡ length (viewValue self)) × (r ≤ 16) ⌝ }
+    {
+        let n = self.len;
+        if n < 16 { n } else { 16 }
+    }
+
+    // Whether it is a tuple.
+    pub fn tuple(self) -> bool
+        ensures { λ r. ⌜ r ≡ tupleOf (viewValue self) ⌝ }
+    {
+        let n = self.len;
+        if n == 0 {
+            false
+        } else {
+            let w = self.words[0];
+            4000000 <= w
+        }
+    }
+
+    // The words of a slice.
+    pub fn of(s: &[u32]) -> Value
+        ensures { λ r. ⌜ Stores (now (s .entry)) r ⌝ }
+    {
+        let mut b = Value::none();
+        let mut i: usize = 0;
+        while i < s.len() {
+            b = b.push(s[i]);
+            i += 1;
+        }
+        b
+    }
+
+    // The words of v more.
+    fn join(self, v: Value) -> Value
+        ensures { λ r. ⌜ ((l : List ℕ) → Stores l self → Stores (l ++ viewValue v) r) ⌝ }
+    {
+        let n = v.count();
+        let mut b = self;
+        let mut k: usize = 0;
+        while k < n {
+            b = b.push(v.words[k]);
+            k += 1;
+        }
+        b
+    }
+}
+
+impl Env {
+    // No names in force.
+    pub fn none() -> Env
+        ensures { λ r. ⌜ viewEnv r ≡ noNames ⌝ }
+    {
+        let v = Value::none();
+        Env {
+            names: [0; 8],
+            vals: [v; 8],
+            n: 0,
+        }
+    }
+
+    // One name more; past the eighth none is stored.
+    pub fn with(mut self, name: u32, v: Value) -> Env
+        ensures { λ r. ⌜ viewEnv r ≡ firstEight (extend (viewEnv self) (name ∷ []) (viewValue v ∷ [])) ⌝ }
+    {
+        let n = self.n;
+        if n < 8 {
+            self.names[n] = name;
+            self.vals[n] = v;
+            self.n = n + 1;
+        }
+        self
+    }
+
+    // How many names are in force.
+    pub fn count(self) -> usize
+        ensures { λ r. ⌜ (r ≡ length (viewEnv self .names)) × (r ≡ length (viewEnv self .vals)) × (r ≤ 8) ⌝ }
+    {
+        let k = self.n;
+        if k < 8 { k } else { 8 }
+    }
+
+    // The value of the last w in force; w itself where there is none.
+    pub fn value(self, w: u32) -> Value
+        ensures { λ r. ⌜ viewValue r ≡ value (viewEnv self) w ⌝ }
+    {
+        let n = self.count();
+        let mut v = Value::name(w);
+        let mut k: usize = 0;
+        while k < n {
+            if self.names[k] == w {
+                v = self.vals[k];
+            }
+            k += 1;
+        }
+        v
+    }
+}
+
+// A table's value with its bound names replaced by their values.
+pub fn substituted(e: Env, s: &[u32]) -> Value
+    ensures { λ r. ⌜ Stores (substitute (viewEnv e) (now (s .entry))) r ⌝ }
+{
+    let mut b = Value::none();
+    let mut i: usize = 0;
+    while i < s.len() {
+        let w = s[i];
+        if w <= 63 {
+            b = b.join(e.value(w));
+        } else {
+            b = b.push(w);
+        }
+        i += 1;
+    }
+    b
+}
+
+// The words of a bound part.
+pub fn part_words(v: &[u32], p: Part) -> Value
+    ensures { λ r. ⌜ Stores (partOf (now (v .entry)) p) r ⌝ }
+{
+    let a = p.start;
+    let k = p.len;
+    if a < v.len() {
+        if k < v.len() - a {
+            let e = a + k;
+            Value::of(&v[a..e])
+        } else {
+            Value::of(&v[a..])
+        }
+    } else {
+        Value::none()
+    }
+}
+
+// The names of a pattern with the parts that a match found, where there is room for them.
+fn with_parts(e: Env, p: &[u32], v: &[u32], b: Bound) -> Env
+    requires { ⌜ Given e (now p) (now v) b ⌝ }
+    ensures { λ r. ⌜ viewEnv r ≡ extend (viewEnv e) (binders (now (p .entry))) (viewBound (now (v .entry)) b) ⌝ }
+{
+    let mut r = e;
+    let mut i: usize = 0;
+    let mut k: usize = 0;
+    while i < p.len() {
+        let w = p[i];
+        if w <= 63 {
+            let q = b.rows[k];
+            r = r.with(w, part_words(v, q));
+            k += 1;
+        }
+        i += 1;
+    }
+    r
+}
+
+// An environment with the names of a pattern, bound to the parts of v that a match found; the environment as it was where
+// names and parts differ in number, over eight names would be in force, or v has over 16 words.
+pub fn extended(e: Env, p: &[u32], v: &[u32], b: Bound) -> Env
+    ensures { λ r. ⌜ viewEnv r ≡ extendedOf (viewEnv e) (binders (now (p .entry))) (now (v .entry)) (viewBound (now (v .entry)) b) ⌝ }
+{
+    let k = names_in(p);
+    let n = e.count();
+    if b.count() == k {
+        if k <= 8 - n {
+            if v.len() <= 16 {
+                return with_parts(e, p, v, b);
+            }
+            return e;
+        }
+        return e;
+    }
+    e
+}
