@@ -1,0 +1,16 @@
+use Rattle.tables.proofs.ScopeLaws.{over-few, over-many}
+use borrow.Author.Needs.{needs}
+use native.Mathlib.Omega.{arith}
+use Rattle.tables.proofs.scope.node_if_over.Statement.{statement}
+use Rattle.tables.proofs.scope.node_if_over.Tie as tie
+use Rattle.tables.proofs.scope.node_if_over.Reads as reads
+use Rattle.tables.proofs.scope.node_if_over.Lts as lts
+
+returns : tie.Need-returns
+returns c = over-few _ _ (c .if1 .taken)
+
+returns-2 : tie.Need-returns-2
+returns-2 c = over-many _ _ (c .if1 .left)
+
+pub node-if-over-spec : {M : Type 1} → statement M
+node-if-over-spec = tie.close (tie.spec returns returns-2)
