@@ -5,5 +5,9 @@ ghost use Rattle.scopes.specs.Walk.{Step};
 pub(crate) fn child(n: usize, m: usize, count: usize) -> usize
     ensures { λ r. ⌜ Step n m count r ⌝ }
 {
-    if n < m { if m < count { m } else { count } } else { count }
+    if n < m {
+        if m < count { m } else { count }
+    } else {
+        count
+    }
 }

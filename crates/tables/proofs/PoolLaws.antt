@@ -6,15 +6,15 @@ use mathlib.Core.Logic.{_⊎_, inl, inr, ⊎-elim}
 use Prim.Native.Nat.{ℕ, zero, suc, _+_, _-_, _<_, _≤_}
 use native.Mathlib.Omega.{arith}
 use native.Mathlib.Numerals.{add-one}
-use borrow.Author.Tests.{le-leb, lt-leb, eq-eqb, ne-eqb, eqb-true, eqb-false}
+use borrow.Author.Tests.{le-leb, lt-leb, eq-eqb, ne-eqb, eqb-true, eqb-false, leb-true, leb-false}
 use lib.Dec.{leb, ltb, eqb}
-use lib.ListN.{length, getD, take, drop, set, replicate, take-append-drop}
-use lib.Seq.{take-suc, take-all, getD-set-same, getD-set-other}
+use lib.ListN.{length, getD, take, drop, set, replicate, take-append-drop, length-take, length-drop, drop-of-length-le}
+use lib.Seq.{take-suc, take-all, take-take, length-take-le, getD-set-same, getD-set-other}
 use Rattle.model.specs.Basics.{Res, refuse, done, has, isDone, orElse}
-use Rattle.model.specs.Values.{binders, distinct, at, isPatternLeaf, isPublic}
+use Rattle.model.specs.Values.{binders, distinct, items, at, isPatternLeaf, isPublic}
 use Rattle.model.specs.Checks.{patternOk}
 use Rattle.model.proofs.Tests.{and-left, and-right, and-intro, or-right}
-use Rattle.values.specs.Span.{leafOf, sizeOf, at-words}
+use Rattle.values.specs.Span.{leafOf, sizeOf}
 use Rattle.values.specs.declared.Span.{Span}
 use Rattle.values.specs.declared.Span.the-variants.{At, Bad}
 use Rattle.values.specs.declared.Leaf.{Leaf}
@@ -22,6 +22,39 @@ use Rattle.values.specs.declared.Leaf.the-variants.{Public, Pattern}
 use Rattle.tables.specs.Nodes.{patternNames}
 
 -- WORDS AT A PLACE
+whole : (k : ℕ) (l : List ℕ) → k ≤ 16 → take k l ≡ take k (take 16 l)
+whole k l h = sym (take-take k 16 l h)
+
+place-inside : (leaf : ℕ → Bool) (pool : List ℕ) (p : ℕ) (r : List ℕ) → items leaf 5 (take 16 (drop p pool)) 1 ≡ done r → p < length pool
+unfolding items
+place-inside leaf pool p r e = go (leb (length pool) p) refl
+  where
+    go : (b : Bool) → leb (length pool) p ≡ b → p < length pool
+    go true q =
+        let n : drop p pool ≡ [] = drop-of-length-le pool {i = p} (leb-true (length pool) p q) in
+        let z : _≡_ {A = Res (List ℕ)} (refuse 5) (done r) = sym (ap (λ (l : List ℕ). items leaf 5 (take 16 l) 1) n) ∙ e in
+        let y : _≡_ {A = ℕ} 0 1 = cc in
+        absurd (omega arith)
+    go false q = leb-false (length pool) p q
+
+-- the words of a value or pattern stand at its place, inside the pool, and are at most 16
+at-words : (leaf : ℕ → Bool) (pool : List ℕ) (p : ℕ) (ws : List ℕ) → at leaf pool p ≡ done ws → (ws ≡ take (length ws) (drop p pool)) × (p + length ws ≤ length pool) × (length ws ≤ 16)
+unfolding at
+at-words leaf pool p ws e = go (items leaf 5 (take 16 (drop p pool)) 1) refl e
+  where
+    go : (q : Res (List ℕ)) → items leaf 5 (take 16 (drop p pool)) 1 ≡ q → elim q [ refuse n ↦ refuse n | done r ↦ done (take (length (take 16 (drop p pool)) - length r) (take 16 (drop p pool))) ] ≡ done ws →
+        (ws ≡ take (length ws) (drop p pool)) × (p + length ws ≤ length pool) × (length ws ≤ 16)
+    go (refuse n) a z = let y : _≡_ {A = ℕ} 0 1 = cc in absurd (omega arith)
+    go (done r) a z =
+        let w = take 16 (drop p pool) in
+        let k = length w - length r in
+        let f : take k w ≡ ws = cc in
+        let n : length ws ≡ k = ap length (sym f) ∙ length-take-le k w (omega arith) in
+        let lw = length-take 16 (drop p pool) in
+        let ld = length-drop p pool in
+        let i = place-inside leaf pool p r a in
+        (sym (ap (λ (j : ℕ). take j (drop p pool)) n ∙ whole k (drop p pool) (omega arith) ∙ f), omega arith, omega arith)
+
 pub words-bad : (leaf : ℕ → Bool) (pool : List ℕ) (p : ℕ) → sizeOf (at leaf pool p) ≡ Bad → orElse (at leaf pool p) [] ≡ []
 words-bad leaf pool p e = go (at leaf pool p) e
   where

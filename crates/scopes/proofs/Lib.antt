@@ -1,0 +1,5 @@
+pub mod StepLaws
+pub mod NameLaws
+pub mod FreeUseLaws
+pub mod UnfoldedLaws
+pub mod ScopeBound
