@@ -305,6 +305,7 @@ bound-fit p v m = go (m .fits)
     go true = refl
     go false = refl
 
+
 pub matching-is : (p v : List ℕ) (m : Met) (b : Bound) → b .n ≡ 0 → fitOf p v m ≡ upTo p 1 v (viewBound v b) → length (binders p) ≤ 8 → boundOf v m ≡ bind (matches p 1 v) (λ f. done (f .bound))
 matching-is p v m b z e h =
     let none : viewBound v b ≡ [] = rw z in
