@@ -16,7 +16,7 @@ use Rattle.model.specs.Table.{Table, count, kind, field, uses, fieldUses, child
 use Rattle.model.specs.Checks.{everyField, fieldsOk, timesChild, firstBad, check2, check3, check4, check5, patternOk}
 use Rattle.tables.specs.declared.nodes.Node.{Node}
 use Rattle.tables.specs.Nodes.{table, NodeIs}
-use Rattle.tables.specs.Fields.{useOf, fourFields, unusedOk, kindOk, childOk, treeOk, nameOk, placeOk, childBy, childOf, FieldCounted, NodeCounted}
+use Rattle.tables.specs.Fields.{useOf, fourFields, unusedOk, kindOk, childOk, treeOk, nameOk, placeOk, childBy, childOf, Counted}
 
 and-true : (a : Bool) → a & true ≡ a
 unfolding _&_
@@ -93,41 +93,49 @@ module _ (n c u w : ℕ) where
   unfolding _&_
   child-high e h = rw (eq-eqb u 1 e, lt-ltb n w h)
 
+-- a field counted
 module _ (old : List ℕ) (u w : ℕ) where
-  pub counted-none : ((u ≡ 1) → ⊥) → FieldCounted old u w old
-  counted-none e m h l = rw (ne-eqb u 1 e) (omega arith)
+  pub counted-none : ((u ≡ 1) → ⊥) → Counted old (childBy u w) old
+  counted-none e = record { len = refl; at = λ m h l. rw (ne-eqb u 1 e) (omega arith) }
 
-  pub counted-over : 256 ≤ w → FieldCounted old u w old
-  counted-over g m h l = rw (ne-eqb w m (λ q. omega arith)) (go (eqb u 1))
+  pub counted-over : length old ≤ w → Counted old (childBy u w) old
+  counted-over g = record { len = refl; at = λ m h l. rw (ne-eqb w m (λ q. omega arith)) (go m l (eqb u 1)) }
     where
-      go : (t : Bool) → getD old m 0 ≡ min 2 (getD old m 0 + cond (t && false) 1 0)
-      go true = omega arith
-      go false = omega arith
+      go : (m : ℕ) → getD old m 0 ≤ 2 → (t : Bool) → getD old m 0 ≡ min 2 (getD old m 0 + cond (t && false) 1 0)
+      go m l true = omega arith
+      go m l false = omega arith
 
-  pub counted-full : u ≡ 1 → 2 ≤ getD old w 0 → FieldCounted old u w old
-  counted-full e g m h l = rw (eq-eqb u 1 e) (go (eqb w m) refl)
+  pub counted-full : u ≡ 1 → 2 ≤ getD old w 0 → Counted old (childBy u w) old
+  counted-full e g = record { len = refl; at = λ m h l. rw (eq-eqb u 1 e) (go m l (eqb w m) refl) }
     where
-      go : (t : Bool) → eqb w m ≡ t → getD old m 0 ≡ min 2 (getD old m 0 + cond t 1 0)
-      go true q = let z : getD old w 0 ≡ getD old m 0 = ap (λ (j : ℕ). getD old j 0) (eqb-true w m q) in omega arith
-      go false q = omega arith
+      go : (m : ℕ) → getD old m 0 ≤ 2 → (t : Bool) → eqb w m ≡ t → getD old m 0 ≡ min 2 (getD old m 0 + cond t 1 0)
+      go m l true q = let z : getD old w 0 ≡ getD old m 0 = ap (λ (j : ℕ). getD old j 0) (eqb-true w m q) in omega arith
+      go m l false q = omega arith
 
-  pub counted-more : u ≡ 1 → w < length old → getD old w 0 < 2 → FieldCounted old u w (set old w (getD old w 0 + 1))
-  counted-more e b g m h l = rw (eq-eqb u 1 e) (go (eqb w m) refl)
+  pub counted-more : u ≡ 1 → w < length old → getD old w 0 < 2 → Counted old (childBy u w) (set old w (getD old w 0 + 1))
+  counted-more e b g = record { len = length-set old w (getD old w 0 + 1); at = λ m h l. rw (eq-eqb u 1 e) (go m l (eqb w m) refl) }
     where
-      go : (t : Bool) → eqb w m ≡ t → getD (set old w (getD old w 0 + 1)) m 0 ≡ min 2 (getD old m 0 + cond t 1 0)
-      go true q =
+      go : (m : ℕ) → getD old m 0 ≤ 2 → (t : Bool) → eqb w m ≡ t → getD (set old w (getD old w 0 + 1)) m 0 ≡ min 2 (getD old m 0 + cond t 1 0)
+      go m l true q =
           let s : w ≡ m = eqb-true w m q in
           let z : getD old w 0 ≡ getD old m 0 = ap (λ (j : ℕ). getD old j 0) s in
           ap (λ (j : ℕ). getD (set old w (getD old w 0 + 1)) j 0) (sym s) ∙ getD-set-same old w (getD old w 0 + 1) 0 b ∙ omega arith
-      go false q = getD-set-other old w m (getD old w 0 + 1) 0 (λ s. eqb-false w m q (sym s)) ∙ omega arith
+      go m l false q = getD-set-other old w m (getD old w 0 + 1) 0 (λ s. eqb-false w m q (sym s)) ∙ omega arith
 
-pub node-counted : (old c0 c1 c2 c3 : List ℕ) (x : Node) → FieldCounted old (useOf x 0) (x .a) c0 → FieldCounted c0 (useOf x 1) (x .b) c1 → FieldCounted c1 (useOf x 2) (x .c) c2 → FieldCounted c2 (useOf x 3) (x .d) c3 → NodeCounted old x c3
-node-counted old c0 c1 c2 c3 x p q r s m h l =
-    let a = p m h l in
-    let b = q m h (omega arith) in
-    let c = r m h (omega arith) in
-    let d = s m h (omega arith) in
-    omega arith
+pub node-counted : (old c0 c1 c2 c3 : List ℕ) (x : Node) → Counted old (childBy (useOf x 0) (x .a)) c0 → Counted c0 (childBy (useOf x 1) (x .b)) c1 →
+    Counted c1 (childBy (useOf x 2) (x .c)) c2 → Counted c2 (childBy (useOf x 3) (x .d)) c3 → Counted old (childOf x) c3
+node-counted old c0 c1 c2 c3 x p q r s = record {
+  len = s .len ∙ r .len ∙ q .len ∙ p .len;
+  at = λ m h l.
+      let n0 = p .len in
+      let n1 = q .len in
+      let n2 = r .len in
+      let a = p .at m h l in
+      let b = q .at m (omega arith) (omega arith) in
+      let c = r .at m (omega arith) (omega arith) in
+      let d = s .at m (omega arith) (omega arith) in
+      omega arith;
+}
 
 -- HOW OFTEN A NODE IS A CHILD
 module _ (ns pool : List ℕ) (n : ℕ) (x : Node) (i : NodeIs ns n x) (m : ℕ) where
@@ -146,10 +154,10 @@ module _ (ns pool : List ℕ) (n : ℕ) (x : Node) (i : NodeIs ns n x) (m : ℕ)
   unfolding childTimes
   child-is = rw (i .f1, i .f2, i .f3, i .f4, ← i .k) (child-kind (x .kind))
 
-  pub times-more : (old r : List ℕ) → m < 256 → NodeCounted old x r → getD old m 0 ≡ min 2 (timesChild (table ns pool) m n) → getD r m 0 ≡ min 2 (timesChild (table ns pool) m (n + 1))
+  pub times-more : (old r : List ℕ) → m < length old → Counted old (childOf x) r → getD old m 0 ≡ min 2 (timesChild (table ns pool) m n) → getD r m 0 ≡ min 2 (timesChild (table ns pool) m (n + 1))
   unfolding timesChild
   times-more old r h t e =
-      let z = t m h (omega arith) in
+      let z = t .at m h (omega arith) in
       let c = child-is in
       rw (add-one n) (omega arith)
 

@@ -4,7 +4,7 @@ use mathlib.Core.Bool.{Bool, cond, _&&_}
 use mathlib.Core.List.{List}
 use Prim.Native.Nat.{ℕ, _+_, _<_, _≤_, min}
 use lib.Dec.{leb, ltb, eqb}
-use lib.ListN.{getD}
+use lib.ListN.{length, getD}
 use Rattle.model.specs.Basics.{_&_, _or_, isDone, implies}
 use Rattle.model.specs.Values.{at, isPublic}
 use Rattle.model.specs.Table.{uses}
@@ -51,10 +51,7 @@ childBy u w m = cond (eqb u 1 && eqb w m) 1 0
 abbrev pub childOf : Node → ℕ → ℕ
 childOf x m = childBy (useOf x 0) (x .a) m + (childBy (useOf x 1) (x .b) m + (childBy (useOf x 2) (x .c) m + childBy (useOf x 3) (x .d) m))
 
--- the counts r are the counts `old` with a field, each up to 2
-abbrev pub FieldCounted : (old : List ℕ) (u w : ℕ) (r : List ℕ) → Type 0
-FieldCounted old u w r = (m : ℕ) → m < 256 → getD old m 0 ≤ 2 → getD r m 0 ≡ min 2 (getD old m 0 + childBy u w m)
-
--- the counts r are the counts `old` with all fields of a node
-abbrev pub NodeCounted : (old : List ℕ) → Node → (r : List ℕ) → Type 0
-NodeCounted old x r = (m : ℕ) → m < 256 → getD old m 0 ≤ 2 → getD r m 0 ≡ min 2 (getD old m 0 + childOf x m)
+-- the counts r are the counts `old`, each up to 2, and k more of them for each node m
+pub record Counted (old : List ℕ) (k : ℕ → ℕ) (r : List ℕ) : Type 0 where
+  pub len : length r ≡ length old
+  pub at : (m : ℕ) → m < length old → getD old m 0 ≤ 2 → getD r m 0 ≡ min 2 (getD old m 0 + k m)

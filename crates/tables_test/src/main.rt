@@ -16,8 +16,11 @@ use values::Env;
 use values::Value;
 
 const NOTHING: u8 = 0;
+
 const NODES: u8 = 1;
+
 const POOL: u8 = 2;
+
 const NAME: u8 = 3;
 
 // What is being read: where words go, the number so far, and how many words there are of nodes and of the pool.
