@@ -3,3 +3,4 @@ pub mod NameLaws
 pub mod FreeUseLaws
 pub mod UnfoldedLaws
 pub mod ScopeBound
+pub mod TermSize
