@@ -5,15 +5,15 @@ use mathlib.Core.List.{List, [], _∷_, _++_, map, map-append, append-assoc, app
 use Prim.Native.Nat.{ℕ, zero, suc, _+_, _-_, _<_, _≤_}
 use native.Mathlib.Omega.{arith}
 use native.Mathlib.Numerals.{add-one}
-use borrow.Author.Tests.{le-leb, lt-leb, lt-ltb, leb-true, eqb-true, eqb-false, eq-eqb, ne-eqb}
+use borrow.Author.Tests.{le-leb, lt-leb, lt-ltb, leb-true, eqb-true, eqb-false}
 use lib.Dec.{leb, ltb, eqb}
-use lib.ListN.{length, getD, set, take, drop, length-set, length-map, length-take}
+use lib.ListN.{length, getD, set, take, length-set, length-map, length-take}
 use lib.Seq.{take-suc, getD-set-same, getD-set-other, length-take-le}
 use Rattle.model.specs.Basics.{_&_}
 use Rattle.model.specs.Values.{Env, extend, lookup, value, isNameIn, binders}
-use Rattle.model.specs.Table.{Table, count, term, Term, nil, par, box, new, out, inp, build}
+use Rattle.model.specs.Table.{Table, count, term, Term, build}
 use Rattle.model.specs.Unfolding.{defined, tagDefined, anyNames}
-use Rattle.model.proofs.Environments.{Sized, sized-extend, length-any, look-append}
+use Rattle.model.proofs.Environments.{Sized, sized-extend, look-append}
 use Rattle.model.proofs.Checked.{Checked, sits, Sits, s-nil, s-par, s-box, s-new, s-out, s-inp}
 use Rattle.values.specs.declared.Value.{Value}
 use Rattle.values.specs.declared.Env as dec

@@ -1,17 +1,16 @@
 -- The names in force, found upwards from parent to parent, the last eight of them.
-use mathlib.Core.Path.{_≡_, refl, sym, ap, ap₂, _∙_, subst}
-use mathlib.Core.Bool.{Bool, true, false, not, cond, _&&_}
-use mathlib.Core.List.{List, [], _∷_, _++_, append-assoc, append-nil}
-use mathlib.Core.Logic.{_⊎_, inl, inr, ⊎-elim}
-use Prim.Native.Nat.{ℕ, zero, suc, _+_, _-_, _*_, _<_, _≤_}
+use mathlib.Core.Path.{_≡_, refl, sym, ap, ap₂, _∙_}
+use mathlib.Core.Bool.{Bool, true, false, not, cond}
+use mathlib.Core.List.{List, [], _∷_, _++_}
+use Prim.Native.Nat.{ℕ, zero, suc, _+_, _-_, _<_, _≤_}
 use native.Mathlib.Omega.{arith}
 use native.Mathlib.Numerals.{add-one}
 use borrow.Author.Tests.{not-true, not-false, le-leb, lt-leb, leb-true, leb-false, eq-eqb, ne-eqb}
-use lib.Dec.{leb, ltb, eqb}
-use lib.ListN.{length, getD, take, drop, set, length-append, length-drop, length-set, drop-of-length-le}
-use lib.Seq.{drop-length, drop-cons, drop-set-lt, getD-set-same, drop-append-seam, drop-append-add}
+use lib.Dec.{leb, eqb}
+use lib.ListN.{length, getD, drop, set, length-append, length-drop, length-set, drop-of-length-le}
+use lib.Seq.{drop-length, drop-cons, drop-set-lt, getD-set-same, drop-append-add}
 use Rattle.model.specs.Values.{binders, isPublic}
-use Rattle.model.specs.Table.{Table, count, kind, field, uses, childTimes, bound, scopeUp, scope}
+use Rattle.model.specs.Table.{Table, count, kind, field, childTimes, bound, scopeUp}
 use Rattle.model.proofs.Checked.{up-acc}
 use Rattle.tables.specs.declared.nodes.Node.{Node}
 use Rattle.tables.specs.Nodes.{table, NodeIs, patternNames}

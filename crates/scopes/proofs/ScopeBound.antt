@@ -1,23 +1,24 @@
 -- In a table that passes the checks at most 8 bound names are in force at every node.
 use mathlib.Core.Path.{_≡_, refl, sym, ap, _∙_, subst}
 use mathlib.Core.Bool.{Bool, true, false, cond}
-use mathlib.Core.List.{List, [], _∷_, _++_}
-use mathlib.Core.Logic.{_⊎_, inl, inr, ⊎-elim}
-use Prim.Native.Nat.{ℕ, zero, suc, _+_, _-_, _<_, _≤_, min}
+use mathlib.Core.Logic.{_⊎_, ⊎-elim}
+use Prim.Native.Nat.{ℕ, zero, suc, _+_, _-_, _<_, _≤_}
 use native.Mathlib.Omega.{arith}
 use borrow.Author.Tests.{leb-true, le-leb, ltb-false, eqb-true, eqb-false, ne-eqb}
 use lib.Dec.{leb, ltb, eqb}
 use lib.ListN.{length, length-append}
-use Rattle.model.specs.Basics.{_&_, Res, refuse, done, orElse, isDone, choose}
-use Rattle.model.specs.Values.{at, isPatternLeaf, binders}
-use Rattle.model.specs.Table.{Table, count, kind, field, uses, childTimes, Term, build, term, bound, scopeUp, scope}
-use Rattle.model.specs.Checks.{Fault, found, fault, check1, check2, check3, timesChild, firstBad, over, overAll}
+use Rattle.model.specs.Basics.{Res, refuse, done, isDone, choose}
+use Rattle.model.specs.Values.{at}
+use Rattle.model.specs.Table.{Table, count, kind, field, childTimes, Term, build, term, bound, scopeUp, scope}
+use Rattle.model.specs.Checks.{Fault, found, fault, check1, check2, check3, timesChild, over, overAll}
 use Rattle.model.proofs.Tests.{choose-done, fst, snd, alt}
 use Rattle.model.proofs.Items.{clash}
 use Rattle.model.proofs.Terms.{Child, left, right, in-box, in-new, in-body, term-at}
 use Rattle.model.proofs.Checked.{Checked, checked, is-tree, scope-child}
 use Rattle.tables.specs.Checks.{Passes}
 use Rattle.tables.proofs.CheckLaws.{few}
+use Rattle.scopes.specs.Names.{lastEight}
+use Rattle.scopes.proofs.NameLaws.{last-few}
 
 -- EACH NODE BUT 0 HAS A PARENT
 some-parent : (t : Table) (m k : ℕ) → 1 ≤ timesChild t m k → (j : ℕ) × (j < k) × (1 ≤ childTimes t m j)
@@ -172,3 +173,7 @@ no-fault t p = go (fault t) p
 
 pub passes-checked : (t : Table) → Passes t → Checked t
 passes-checked t p = let q = no-fault t p in checked t (q .0) (q .1)
+
+-- in such a table `names_in_force` gives all the names in force
+pub scope-whole : (t : Table) → Passes t → (n : ℕ) → n < count t → lastEight (scope t n) ≡ scope t n
+scope-whole t p n l = let q = no-fault t p in last-few (scope t n) (scope-few t (q .0) (q .1) n l)

@@ -2,15 +2,14 @@
 -- it at most once, since it has one parent. So a node unfolds to at most 256 particles, boxes and new names.
 use mathlib.Core.Path.{_≡_, refl, sym, ap, ap₂, _∙_, subst}
 use mathlib.Core.Bool.{Bool, true, false, cond}
-use mathlib.Core.List.{List}
-use mathlib.Core.Logic.{_⊎_, inl, inr, ⊎-elim}
+use mathlib.Core.Logic.{_⊎_, ⊎-elim}
 use Prim.Native.Nat.{ℕ, zero, suc, _+_, _-_, _<_, _≤_}
 use native.Mathlib.Nat.{eq-or-lt-of-le}
 use native.Mathlib.Omega.{arith}
 use borrow.Author.Tests.{leb-true, leb-false, eqb-true, eqb-false, eq-eqb, ne-eqb}
 use lib.Dec.{leb, eqb}
-use Rattle.model.specs.Table.{Table, count, kind, field, uses, childTimes, Term, nil, par, box, new, out, inp, build, term}
-use Rattle.model.specs.Checks.{check2, check3, timesChild, fault}
+use Rattle.model.specs.Table.{Table, count, kind, field, childTimes, Term, nil, par, box, new, out, inp, build, term}
+use Rattle.model.specs.Checks.{check2, check3, timesChild}
 use Rattle.model.specs.Unfolding.{particlesIn, boxesIn, newNamesIn}
 use Rattle.model.proofs.Tests.{fst, snd, alt}
 use Rattle.model.proofs.Terms.{Child, left, right, in-box, in-new, in-body, term-at}

@@ -19,6 +19,7 @@ use tables::pool::words_at;
 use values::Env;
 use values::Leaf;
 
+// A word as a number.
 fn wide(x: u32) -> usize
     ensures { λ r. ⌜ r ≡ x ⌝ }
 {

@@ -6,26 +6,26 @@ ghost use Rattle.model.specs.Table.{count, term};
 ghost use Rattle.tables.specs.Nodes.{table};
 ghost use Rattle.tables.specs.Scope.{Walks};
 ghost use Rattle.tables.specs.Checks.{Passes};
-ghost use Rattle.scopes.specs.Unfolded.{cap, sumOf, UnfoldsTo};
+ghost use Rattle.scopes.specs.Unfolded.{cap, sumOf, Few, CappedTo, UnfoldsTo};
 use super::walk::child;
 use tables::nodes::node_at;
 
-// Three counts, each up to 257. 257 stands for any number past 256, the largest limit on one of them, so that a test
-// against a limit has the same answer.
+// Three counts, each at most 256. Of a table that passes checks 1 to 6 they are exact: it has at most 256 nodes, each at
+// most once in a term. Of any other table a sum past 256 is 256.
 pub struct Unfolded {
     pub particles: usize,
     pub boxes: usize,
     pub names: usize,
 }
 
-// The sum of two numbers, up to 257.
+// The sum of two numbers, 256 where it is more.
 fn sum(a: usize, b: usize) -> usize
     ensures { λ r. ⌜ r ≡ cap (a + b) ⌝ }
 {
-    if a < 257 {
-        if b < 257 - a { a + b } else { 257 }
+    if a < 256 {
+        if b < 256 - a { a + b } else { 256 }
     } else {
-        257
+        256
     }
 }
 
@@ -44,7 +44,7 @@ impl Unfolded {
 
 // The counts of the term at node n. The nodes above n are the falling measure.
 fn counts(nodes: &[u32], n: usize) -> Unfolded
-    ensures { λ r. ⌜ ((pool : List ℕ) → Walks (table (now (nodes .entry)) pool) n → UnfoldsTo (term (table (now (nodes .entry)) pool) n) r) ⌝ }
+    ensures { λ r. ⌜ Few r × ((pool : List ℕ) → Walks (table (now (nodes .entry)) pool) n → CappedTo (term (table (now (nodes .entry)) pool) n) r) ⌝ }
 {
     let c = nodes.len() / 5;
     if c <= n {
@@ -92,9 +92,9 @@ fn counts(nodes: &[u32], n: usize) -> Unfolded
     }
 }
 
-// How many particles, boxes and new names the term at node n unfolds to, each up to 257.
+// How many particles, boxes and new names the term at node n unfolds to.
 pub fn unfolded_at(nodes: &[u32], n: usize) -> Unfolded
-    ensures { λ r. ⌜ ((pool : List ℕ) → Passes (table (now (nodes .entry)) pool) → n < count (table (now (nodes .entry)) pool) → UnfoldsTo (term (table (now (nodes .entry)) pool) n) r) ⌝ }
+    ensures { λ r. ⌜ Few r × ((pool : List ℕ) → Passes (table (now (nodes .entry)) pool) → n < count (table (now (nodes .entry)) pool) → UnfoldsTo (term (table (now (nodes .entry)) pool) n) r) ⌝ }
 {
     counts(nodes, n)
 }

@@ -1,24 +1,22 @@
 -- All the checks of a table, in order.
-use mathlib.Core.Path.{_≡_, refl, sym, ap, ap₂, _∙_}
-use mathlib.Core.Bool.{Bool, true, false, not, cond}
-use mathlib.Core.List.{List, [], _∷_, _++_}
-use Prim.Native.Nat.{ℕ, zero, suc, _+_, _-_, _*_, _/_, _%_, _<_, _≤_}
+use mathlib.Core.Path.{_≡_, refl, sym, ap, _∙_}
+use mathlib.Core.Bool.{Bool, true, false}
+use mathlib.Core.List.{List}
+use Prim.Native.Nat.{ℕ, zero, suc, _-_, _/_, _%_, _<_, _≤_}
 use native.Mathlib.Omega.{arith}
 use borrow.Author.Tests.{leb-true, le-leb, lt-leb, eq-eqb, ne-eqb}
-use lib.Dec.{leb, ltb, eqb}
+use lib.Dec.{leb}
 use lib.ListN.{length}
-use Rattle.model.specs.Basics.{_&_, choose, Res, refuse, done}
+use Rattle.model.specs.Basics.{_&_, choose, Res, refuse, done, isDone}
 use Rattle.model.specs.Table.{Table, count}
 use Rattle.model.specs.Checks.{Fault, found, fault, check1, overAll, firstBad, check2, check3, check4, check5}
 use Rattle.model.proofs.Tests.{fst, snd}
 use Rattle.model.proofs.Checked.{Checked, no-bad, is-tree}
-use Rattle.tables.specs.declared.checks.Lowest.{Lowest}
 use Rattle.tables.specs.declared.checks.Lowest.the-variants.{At, Nowhere}
-use Rattle.tables.specs.declared.checks.Verdict.{Verdict}
 use Rattle.tables.specs.declared.checks.Verdict.the-variants.{Passed, Refused}
 use Rattle.tables.specs.Nodes.{table}
 use Rattle.tables.specs.Scope.{Walks}
-use Rattle.tables.specs.Checks.{lowestOf, verdictOf}
+use Rattle.tables.specs.Checks.{lowestOf, verdictOf, Passes}
 
 -- what is left to be checked after k
 unfoldable pub after : ℕ → Table → Res Fault
@@ -97,7 +95,7 @@ module _ (t : Table) where
   unfolding after
   pass6 p e = ap verdictOf (sym (p .so ∙ found-not _ _ _ e))
 
-  -- what the check1 say, and that a table that passes 2 to 5 is a tree
+  -- what check 1 says, and that a table that passes 2 to 5 is a tree
   pub few : check1 t ≡ true → count t ≤ 256
   unfolding check1
   few e = leb-true (count t) 256 (fst _ _ (snd _ _ (snd _ _ e)))
@@ -119,7 +117,7 @@ module _ (t : Table) where
   pub walks-root : PassedTo t 5 → Walks t 0
   walks-root p = record { tree = is-tree t (checked-by p); inside = some (p .size) }
 
--- the check1
+-- CHECK 1
 module _ (ns pool : List ℕ) where
   pub sizes-mod : ((length ns % 5 ≡ 0) → ⊥) → false ≡ check1 (table ns pool)
   unfolding check1 _&_
@@ -136,3 +134,11 @@ module _ (ns pool : List ℕ) where
   pub sizes-pool : length ns % 5 ≡ 0 → 1 ≤ length ns / 5 → length ns / 5 ≤ 256 → leb (length pool) 1024 ≡ check1 (table ns pool)
   unfolding check1 _&_
   sizes-pool m a b = rw (eq-eqb (length ns % 5) 0 m, le-leb 1 (length ns / 5) a, le-leb (length ns / 5) 256 b)
+
+-- what the answer of `check` says
+pub passed : (t : Table) → Passed ≡ verdictOf (fault t) → Passes t
+passed t e = go (fault t) e
+  where
+    go : (q : Res Fault) → Passed ≡ verdictOf q → isDone q ≡ false
+    go (refuse n) z = refl
+    go (done f) z = let y : _≡_ {A = ℕ} 0 1 = cc in absurd (omega arith)

@@ -1,19 +1,19 @@
 -- The tests and counts of a node that was read are those of its table: checks 2 to 5, node by node.
 use mathlib.Core.Path.{_≡_, refl, sym, ap, ap₂, _∙_}
-use mathlib.Core.Bool.{Bool, true, false, not, cond, _&&_}
-use mathlib.Core.List.{List, [], _∷_, _++_}
-use mathlib.Core.Logic.{_⊎_, inl, inr, ⊎-elim}
-use Prim.Native.Nat.{ℕ, zero, suc, _+_, _-_, _*_, _<_, _≤_, min}
+use mathlib.Core.Bool.{Bool, true, false, cond, _&&_}
+use mathlib.Core.List.{List, []}
+use mathlib.Core.Logic.{_⊎_, inl, inr}
+use Prim.Native.Nat.{ℕ, zero, suc, _+_, _-_, _<_, _≤_, min}
 use native.Mathlib.Omega.{arith}
 use native.Mathlib.Numerals.{add-one}
 use borrow.Author.Tests.{le-leb, lt-leb, lt-ltb, le-ltb, eq-eqb, ne-eqb, eqb-true, eqb-false}
 use lib.Dec.{leb, ltb, eqb}
-use lib.ListN.{length, getD, take, drop, set, length-set, List·getD-eq-default}
+use lib.ListN.{length, getD, set, length-set, List·getD-eq-default}
 use lib.Seq.{getD-set-same, getD-set-other}
-use Rattle.model.specs.Basics.{_&_, _or_, Res, refuse, done, isDone, implies}
-use Rattle.model.specs.Values.{at, isPublic}
-use Rattle.model.specs.Table.{Table, count, kind, field, uses, fieldUses, childFields, childTimes}
-use Rattle.model.specs.Checks.{everyField, fieldsOk, timesChild, firstBad, check2, check3, check4, check5, patternOk}
+use Rattle.model.specs.Basics.{_&_, _or_, refuse, done, implies}
+use Rattle.model.specs.Values.{at}
+use Rattle.model.specs.Table.{count, kind, field, uses, fieldUses, childFields, childTimes}
+use Rattle.model.specs.Checks.{everyField, fieldsOk, timesChild, firstBad, check2, check3, check4, check5}
 use Rattle.tables.specs.declared.nodes.Node.{Node}
 use Rattle.tables.specs.Nodes.{table, NodeIs}
 use Rattle.tables.specs.Fields.{useOf, fourFields, unusedOk, kindOk, childOk, treeOk, nameOk, placeOk, childBy, childOf, Counted}

@@ -1,13 +1,12 @@
 -- The words at a place of the pool, as `size_at` finds them; a pattern's names, and whether one stands twice.
-use mathlib.Core.Path.{_≡_, refl, sym, ap, ap₂, _∙_}
+use mathlib.Core.Path.{_≡_, refl, sym, ap, _∙_}
 use mathlib.Core.Bool.{Bool, true, false, not, cond, _&&_, _||_, false≢true}
 use mathlib.Core.List.{List, [], _∷_, _++_, append-nil}
-use mathlib.Core.Logic.{_⊎_, inl, inr, ⊎-elim}
 use Prim.Native.Nat.{ℕ, zero, suc, _+_, _-_, _<_, _≤_}
 use native.Mathlib.Omega.{arith}
 use native.Mathlib.Numerals.{add-one}
 use borrow.Author.Tests.{le-leb, lt-leb, eq-eqb, ne-eqb, eqb-true, eqb-false, leb-true, leb-false}
-use lib.Dec.{leb, ltb, eqb}
+use lib.Dec.{leb, eqb}
 use lib.ListN.{length, getD, take, drop, set, replicate, take-append-drop, length-take, length-drop, drop-of-length-le}
 use lib.Seq.{take-suc, take-all, take-take, length-take-le, getD-set-same, getD-set-other}
 use Rattle.model.specs.Basics.{Res, refuse, done, has, isDone, orElse}
@@ -15,11 +14,8 @@ use Rattle.model.specs.Values.{binders, distinct, items, at, isPatternLeaf, isP
 use Rattle.model.specs.Checks.{patternOk}
 use Rattle.model.proofs.Tests.{and-left, and-right, and-intro, or-right}
 use Rattle.values.specs.Span.{leafOf, sizeOf}
-use Rattle.values.specs.declared.Span.{Span}
 use Rattle.values.specs.declared.Span.the-variants.{At, Bad}
-use Rattle.values.specs.declared.Leaf.{Leaf}
 use Rattle.values.specs.declared.Leaf.the-variants.{Public, Pattern}
-use Rattle.tables.specs.Nodes.{patternNames}
 
 -- WORDS AT A PLACE
 whole : (k : ℕ) (l : List ℕ) → k ≤ 16 → take k l ≡ take k (take 16 l)

@@ -1,20 +1,18 @@
 -- Check 6 by a walk over node numbers.
-use mathlib.Core.Path.{_≡_, refl, sym, ap, ap₂, _∙_}
-use mathlib.Core.Bool.{Bool, true, false, not, cond}
-use mathlib.Core.List.{List, [], _∷_, _++_}
-use Prim.Native.Nat.{ℕ, zero, suc, _+_, _-_, _*_, _<_, _≤_, min}
+use mathlib.Core.Path.{_≡_, refl, sym}
+use mathlib.Core.List.{List, [], _∷_}
+use Prim.Native.Nat.{ℕ, suc, _+_, _-_, _<_, _≤_, min}
 use native.Mathlib.Omega.{arith}
 use native.Mathlib.Numerals.{add-one}
 use borrow.Author.Tests.{le-leb, lt-leb, lt-ltb, le-ltb}
-use lib.Dec.{leb, ltb, eqb}
-use lib.ListN.{length, getD, take, drop, length-append}
-use lib.Seq.{take-suc, take-all}
-use Rattle.model.specs.Basics.{choose, Res, refuse, done}
-use Rattle.model.specs.Values.{binders, isPublic}
-use Rattle.model.specs.Table.{Table, count, Term, build, term}
+use lib.Dec.{ltb}
+use lib.ListN.{length, getD, take, length-append}
+use lib.Seq.{take-suc}
+use Rattle.model.specs.Basics.{choose, refuse, done}
+use Rattle.model.specs.Values.{binders}
+use Rattle.model.specs.Table.{Table, build, term}
 use Rattle.model.specs.Checks.{over, overAll}
 use Rattle.tables.specs.declared.nodes.Node.{Node}
-use Rattle.tables.specs.declared.checks.Lowest.{Lowest}
 use Rattle.tables.specs.declared.checks.Lowest.the-variants.{At, Nowhere}
 use Rattle.tables.specs.Nodes.{table, NodeIs, patternNames}
 use Rattle.tables.specs.Scope.{Walks, nodeIfOver, overAt}

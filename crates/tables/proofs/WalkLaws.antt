@@ -1,11 +1,11 @@
 -- What a walk over node numbers may rest on: its calls, and a function of terms at a node by the node's kind.
 use mathlib.Core.Path.{_≡_, refl, sym, ap, _∙_}
 use mathlib.Core.List.{List}
-use Prim.Native.Nat.{ℕ, zero, suc, _+_, _-_, _*_, _/_, _<_, _≤_}
+use Prim.Native.Nat.{ℕ, zero, suc, _+_, _-_, _*_, _<_, _≤_}
 use native.Mathlib.Omega.{arith}
-use lib.ListN.{length, getD}
-use Rattle.model.specs.Table.{Table, count, kind, field, Term, nil, par, box, new, out, inp, build, term}
-use Rattle.model.proofs.Terms.{Tree, Child, left, right, in-box, in-new, in-body, term-at}
+use lib.ListN.{getD}
+use Rattle.model.specs.Table.{Table, count, kind, field, Term, nil, build, term}
+use Rattle.model.proofs.Terms.{Child, left, right, in-box, in-new, in-body, term-at}
 use Rattle.tables.specs.declared.nodes.Node.{Node}
 use Rattle.tables.specs.Nodes.{table, NodeIs}
 use Rattle.tables.specs.Scope.{Walks}

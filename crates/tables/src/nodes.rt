@@ -15,6 +15,7 @@ pub struct Node {
     pub d: usize,
 }
 
+// A word as a number.
 pub(crate) fn wide(x: u32) -> usize
     ensures { λ r. ⌜ r ≡ x ⌝ }
 {

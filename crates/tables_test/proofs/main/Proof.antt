@@ -1,3 +1,4 @@
+-- `tables_test::main` meets its contract.
 use Prim.Native.Nat.{_≤_, _-_}
 use lib.ListN.{length}
 use mathlib.Core.Path.{_≡_}
@@ -5,8 +6,6 @@ use borrow.Author.Needs.{needs}
 use native.Mathlib.Omega.{arith}
 use Rattle.tables_test.proofs.main.Statement.{statement}
 use Rattle.tables_test.proofs.main.Tie as tie
-use Rattle.tables_test.proofs.main.Reads as reads
-use Rattle.tables_test.proofs.main.Lts as lts
 use Rattle.io.proofs.large_buffer.Reads as large-buffer-reads
 use Rattle.io.proofs.read_full.Reads as read-full-reads
 use Rattle.tables_test.proofs.step.Reads as step-reads

@@ -1,15 +1,13 @@
-use mathlib.Core.Path.{_≡_, refl, sym, ap, ap₂, _∙_}
+-- `scopes::free_uses::defined_at` meets its contract.
+use mathlib.Core.Path.{_≡_}
 use lib.ListN.{length}
 use Rattle.tables.specs.Nodes.{table}
 use Rattle.scopes.proofs.StepLaws.{walks-at}
 use Rattle.scopes.proofs.ScopeBound.{passes-checked}
 use Rattle.scopes.proofs.FreeUseLaws.{unmap, fits-is}
-use native.Mathlib.Omega.{arith}
 use borrow.Author.Needs.{needs}
 use Rattle.scopes.proofs.free_uses.defined_at.Statement.{statement}
 use Rattle.scopes.proofs.free_uses.defined_at.Tie as tie
-use Rattle.scopes.proofs.free_uses.defined_at.Reads as reads
-use Rattle.scopes.proofs.free_uses.defined_at.Lts as lts
 use Rattle.scopes.proofs.free_uses.clear.Reads as clear-reads
 use Rattle.scopes.proofs.free_uses.tuple_names.Reads as tuple-names-reads
 

@@ -1,5 +1,6 @@
-use mathlib.Core.Path.{_≡_, refl, sym, ap, ap₂, _∙_}
-use mathlib.Core.Bool.{Bool, false}
+-- `scopes::free_uses::hide_names` meets its contract.
+use mathlib.Core.Path.{_≡_, refl, ap, _∙_}
+use mathlib.Core.Bool.{false}
 use mathlib.Core.List.{List}
 use mathlib.Core.Logic.{⊎-elim}
 use Prim.Native.Nat.{ℕ, _≤_, _-_}
@@ -10,11 +11,8 @@ use Rattle.tables.specs.declared.marks.Marks.{Marks}
 use Rattle.scopes.specs.FreeUses.{hide}
 use Rattle.scopes.proofs.FreeUseLaws.{hide-name, hide-other}
 use borrow.Author.Needs.{needs}
-use native.Mathlib.Omega.{arith}
 use Rattle.scopes.proofs.free_uses.hide_names.Statement.{statement}
 use Rattle.scopes.proofs.free_uses.hide_names.Tie as tie
-use Rattle.scopes.proofs.free_uses.hide_names.Reads as reads
-use Rattle.scopes.proofs.free_uses.hide_names.Lts as lts
 use Rattle.scopes.proofs.free_uses.wide.Reads as wide-reads
 use Rattle.tables.proofs.marks.Marks.put.Reads as put-reads
 

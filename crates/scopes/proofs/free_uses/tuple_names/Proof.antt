@@ -1,6 +1,7 @@
-use mathlib.Core.Path.{_≡_, refl, sym, ap, ap₂, _∙_}
+-- `scopes::free_uses::tuple_names` meets its contract.
+use mathlib.Core.Path.{_≡_, ap, ap₂, _∙_}
 use mathlib.Core.Bool.{Bool, false}
-use mathlib.Core.List.{List, [], _∷_, map}
+use mathlib.Core.List.{[], _∷_, map}
 use Prim.Native.Nat.{ℕ, _≤_, _<_, _-_}
 use lib.ListN.{length, take, getD, set, length-set}
 use Rattle.model.specs.Values.{lookup}
@@ -10,8 +11,6 @@ use borrow.Author.Needs.{needs}
 use native.Mathlib.Omega.{arith}
 use Rattle.scopes.proofs.free_uses.tuple_names.Statement.{statement}
 use Rattle.scopes.proofs.free_uses.tuple_names.Tie as tie
-use Rattle.scopes.proofs.free_uses.tuple_names.Reads as reads
-use Rattle.scopes.proofs.free_uses.tuple_names.Lts as lts
 use Rattle.scopes.proofs.free_uses.wide.Reads as wide-reads
 use Rattle.tables.proofs.marks.Marks.none.Reads as none-reads
 use Rattle.tables.proofs.marks.Marks.put.Reads as put-reads

@@ -1,12 +1,10 @@
+-- `scopes::free_uses::unmarked` meets its contract.
 use mathlib.Core.Bool.{true, false}
-use mathlib.Core.Path.{_≡_, refl, sym, ap, ap₂, _∙_}
+use mathlib.Core.Path.{sym, _∙_}
 use Rattle.scopes.proofs.FreeUseLaws.{use-chan, use-low, use-tag}
-use native.Mathlib.Omega.{arith}
 use borrow.Author.Needs.{needs}
 use Rattle.scopes.proofs.free_uses.unmarked.Statement.{statement}
 use Rattle.scopes.proofs.free_uses.unmarked.Tie as tie
-use Rattle.scopes.proofs.free_uses.unmarked.Reads as reads
-use Rattle.scopes.proofs.free_uses.unmarked.Lts as lts
 use Rattle.tables.proofs.marks.Marks.has.Reads as has-reads
 
 has-requires : tie.Need-has-requires

@@ -1,11 +1,7 @@
-use mathlib.Core.Path.{_≡_, refl, sym, ap, ap₂, _∙_}
+-- `scopes::names::any_of_four` meets its contract.
 use Rattle.scopes.proofs.NameLaws.{any-1, any-2, any-3, any-4}
-use borrow.Author.Needs.{needs}
-use native.Mathlib.Omega.{arith}
 use Rattle.scopes.proofs.names.any_of_four.Statement.{statement}
 use Rattle.scopes.proofs.names.any_of_four.Tie as tie
-use Rattle.scopes.proofs.names.any_of_four.Reads as reads
-use Rattle.scopes.proofs.names.any_of_four.Lts as lts
 
 returns : tie.Need-returns
 returns c = any-1 (c .before .args .a) (c .before .args .b) (c .before .args .c) (c .before .args .d) (c .if1 .taken)

@@ -1,13 +1,11 @@
+-- `scopes::names::is_child` meets its contract.
 use lib.ListN.{getD}
 use Rattle.model.specs.Table.{uses}
-use mathlib.Core.Path.{_≡_, refl, sym, ap, ap₂, _∙_}
+use mathlib.Core.Path.{sym, _∙_}
 use Rattle.scopes.proofs.NameLaws.{child-yes, child-no}
-use native.Mathlib.Omega.{arith}
 use borrow.Author.Needs.{needs}
 use Rattle.scopes.proofs.names.is_child.Statement.{statement}
 use Rattle.scopes.proofs.names.is_child.Tie as tie
-use Rattle.scopes.proofs.names.is_child.Reads as reads
-use Rattle.scopes.proofs.names.is_child.Lts as lts
 use Rattle.tables.proofs.nodes.use_of.Reads as use-of-reads
 
 use-of-requires : tie.Need-use-of-requires

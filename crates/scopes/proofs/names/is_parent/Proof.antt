@@ -1,11 +1,9 @@
-use mathlib.Core.Path.{_≡_, refl, sym, ap, ap₂, _∙_}
+-- `scopes::names::is_parent` meets its contract.
+use mathlib.Core.Path.{_∙_}
 use Rattle.scopes.proofs.NameLaws.{parent-by}
-use native.Mathlib.Omega.{arith}
 use borrow.Author.Needs.{needs}
 use Rattle.scopes.proofs.names.is_parent.Statement.{statement}
 use Rattle.scopes.proofs.names.is_parent.Tie as tie
-use Rattle.scopes.proofs.names.is_parent.Reads as reads
-use Rattle.scopes.proofs.names.is_parent.Lts as lts
 use Rattle.scopes.proofs.names.any_of_four.Reads as any-of-four-reads
 use Rattle.scopes.proofs.names.is_child.Reads as is-child-reads
 

@@ -1,5 +1,6 @@
-use mathlib.Core.Path.{_≡_, refl, sym, ap, ap₂, _∙_}
-use mathlib.Core.List.{List, []}
+-- `scopes::names::names_in_force` meets its contract.
+use mathlib.Core.Path.{_≡_, sym, ap, _∙_}
+use mathlib.Core.List.{List}
 use Prim.Native.Nat.{ℕ, _≤_, _-_}
 use lib.ListN.{length}
 use Rattle.model.specs.Table.{scope, scopeUp}
@@ -10,8 +11,6 @@ use borrow.Author.Needs.{needs}
 use native.Mathlib.Omega.{arith}
 use Rattle.scopes.proofs.names.names_in_force.Statement.{statement}
 use Rattle.scopes.proofs.names.names_in_force.Tie as tie
-use Rattle.scopes.proofs.names.names_in_force.Reads as reads
-use Rattle.scopes.proofs.names.names_in_force.Lts as lts
 use Rattle.scopes.proofs.names.Names.none.Reads as none-reads
 use Rattle.scopes.proofs.names.Names.with_bound.Reads as with-bound-reads
 use Rattle.scopes.proofs.names.is_parent.Reads as is-parent-reads

@@ -1,7 +1,7 @@
-use mathlib.Core.Path.{_≡_, refl, sym, ap, ap₂, _∙_}
-use Prim.Native.Nat.{_-_, _/_, _≤_}
+-- `scopes::unfolded::counts` meets its contract.
+use Prim.Native.Nat.{_-_, _/_}
 use lib.ListN.{length}
-use Rattle.scopes.proofs.UnfoldedLaws.{counts-par, counts-box, counts-new, counts-particle, counts-nil}
+use Rattle.scopes.proofs.UnfoldedLaws.{counts-par, counts-box, counts-new, counts-particle, counts-nil, sum-few}
 use borrow.Author.Needs.{needs}
 use native.Mathlib.Omega.{arith}
 use Prim.Native.Nat.{ℕ, _<_}
@@ -35,7 +35,7 @@ counts-returns : (t : ℕ) → counts-lts.Need-returns (
   plus-reads.Asked,
   plus-reads.Learnt,
 ) (counts-at t) counts.Post
-counts-returns t c = λ pool w. let z = w .inside in absurd (omega arith)
+counts-returns t c = (record { particles = omega arith; boxes = omega arith; names = omega arith }, λ pool w. let z = w .inside in absurd (omega arith))
 
 counts-node-at-requires : (t : ℕ) → counts-lts.Need-node-at-requires (
   node-at-reads.Asked,
@@ -119,7 +119,7 @@ counts-returns-2 : (t : ℕ) → counts-lts.Need-returns-2 (
   plus-reads.Asked,
   plus-reads.Learnt,
 ) (counts-at t) counts.Post
-counts-returns-2 t c = let a = c .before .before .before .before .before .before .before .before .before .before .args in let ns = a .nodes .now in λ pool w. counts-par ns pool (a .n) w _ (c .before .before .before .before .before .before .before .node-at .ensures) (c .before .before .before .before .before .if2 .taken) _ _ (c .before .before .before .before .child .ensures) (c .before .before .child2 .ensures) _ _ (c .before .before .before .counts .ensures pool) (c .before .counts2 .ensures pool) _ (c .plus .ensures)
+counts-returns-2 t c = let a = c .before .before .before .before .before .before .before .before .before .before .args in let ns = a .nodes .now in (sum-few _ _ _ (c .plus .ensures), λ pool w. counts-par ns pool (a .n) w _ (c .before .before .before .before .before .before .before .node-at .ensures) (c .before .before .before .before .before .if2 .taken) _ _ (c .before .before .before .before .child .ensures) (c .before .before .child2 .ensures) _ _ (c .before .before .before .counts .ensures .1 pool) (c .before .counts2 .ensures .1 pool) _ (c .plus .ensures))
 
 counts-child-requires-3 : (t : ℕ) → counts-lts.Need-child-requires-3 (
   node-at-reads.Asked,
@@ -167,7 +167,7 @@ counts-returns-3 : (t : ℕ) → counts-lts.Need-returns-3 (
   plus-reads.Asked,
   plus-reads.Learnt,
 ) (counts-at t) counts.Post
-counts-returns-3 t c = let a = c .before .before .before .before .before .before .before .before .before .before .args in let ns = a .nodes .now in λ pool w. counts-box ns pool (a .n) w _ (c .before .before .before .before .before .before .before .node-at .ensures) (c .before .before .before .if3 .taken) _ (c .before .before .child3 .ensures) _ (c .before .counts3 .ensures pool) _ (c .plus2 .ensures)
+counts-returns-3 t c = let a = c .before .before .before .before .before .before .before .before .before .before .args in let ns = a .nodes .now in (sum-few _ _ _ (c .plus2 .ensures), λ pool w. counts-box ns pool (a .n) w _ (c .before .before .before .before .before .before .before .node-at .ensures) (c .before .before .before .if3 .taken) _ (c .before .before .child3 .ensures) _ (c .before .counts3 .ensures .1 pool) _ (c .plus2 .ensures))
 
 counts-child-requires-4 : (t : ℕ) → counts-lts.Need-child-requires-4 (
   node-at-reads.Asked,
@@ -215,7 +215,7 @@ counts-returns-4 : (t : ℕ) → counts-lts.Need-returns-4 (
   plus-reads.Asked,
   plus-reads.Learnt,
 ) (counts-at t) counts.Post
-counts-returns-4 t c = let a = c .before .before .before .before .before .before .before .before .before .before .before .before .args in let ns = a .nodes .now in λ pool w. counts-new ns pool (a .n) w _ (c .before .before .before .before .before .before .before .before .before .node-at .ensures) (c .before .before .before .if4 .taken) _ (c .before .before .child4 .ensures) _ (c .before .counts4 .ensures pool) _ (c .plus3 .ensures)
+counts-returns-4 t c = let a = c .before .before .before .before .before .before .before .before .before .before .before .before .args in let ns = a .nodes .now in (sum-few _ _ _ (c .plus3 .ensures), λ pool w. counts-new ns pool (a .n) w _ (c .before .before .before .before .before .before .before .before .before .node-at .ensures) (c .before .before .before .if4 .taken) _ (c .before .before .child4 .ensures) _ (c .before .counts4 .ensures .1 pool) _ (c .plus3 .ensures))
 
 counts-returns-5 : (t : ℕ) → counts-lts.Need-returns-5 (
   node-at-reads.Asked,
@@ -227,7 +227,7 @@ counts-returns-5 : (t : ℕ) → counts-lts.Need-returns-5 (
   plus-reads.Asked,
   plus-reads.Learnt,
 ) (counts-at t) counts.Post
-counts-returns-5 t c = let a = c .before .before .before .before .before .before .before .before .before .before .before .args in let ns = a .nodes .now in λ pool w. counts-particle ns pool (a .n) w _ (c .before .before .before .before .before .before .before .before .node-at .ensures) (c .if5 .taken)
+counts-returns-5 t c = let a = c .before .before .before .before .before .before .before .before .before .before .before .args in let ns = a .nodes .now in (record { particles = omega arith; boxes = omega arith; names = omega arith }, λ pool w. counts-particle ns pool (a .n) w _ (c .before .before .before .before .before .before .before .before .node-at .ensures) (c .if5 .taken))
 
 counts-returns-6 : (t : ℕ) → counts-lts.Need-returns-6 (
   node-at-reads.Asked,
@@ -239,7 +239,7 @@ counts-returns-6 : (t : ℕ) → counts-lts.Need-returns-6 (
   plus-reads.Asked,
   plus-reads.Learnt,
 ) (counts-at t) counts.Post
-counts-returns-6 t c = let a = c .before .before .before .before .before .before .before .before .before .before .before .args in let ns = a .nodes .now in λ pool w. counts-nil ns pool (a .n) w _ (c .before .before .before .before .before .before .before .before .node-at .ensures) (c .before .before .before .before .before .before .if2 .left) (c .before .before .before .before .if3 .left) (c .before .before .if4 .left) (c .if5 .left)
+counts-returns-6 t c = let a = c .before .before .before .before .before .before .before .before .before .before .before .args in let ns = a .nodes .now in (record { particles = omega arith; boxes = omega arith; names = omega arith }, λ pool w. counts-nil ns pool (a .n) w _ (c .before .before .before .before .before .before .before .before .node-at .ensures) (c .before .before .before .before .before .before .if2 .left) (c .before .before .before .before .if3 .left) (c .before .before .if4 .left) (c .if5 .left))
 
 pub +counts-spec : {M : Type 1} → statement M
 +counts-spec = close μ-counts λ t. counts-lts.spec (

@@ -1,12 +1,10 @@
+-- `tables::checks::check` meets its contract.
 use Rattle.tables.proofs.CheckLaws.{fail2, fail3, fail4, fail5, fail6, few, pass1, pass2, pass3, pass4, pass5, pass6, size-bad, walks-root}
 use Rattle.tables.specs.Nodes.{table}
-use mathlib.Core.Path.{_≡_, refl, sym, ap, ap₂, _∙_, subst}
-use native.Mathlib.Omega.{arith}
+use mathlib.Core.Path.{sym, _∙_}
 use borrow.Author.Needs.{needs}
 use Rattle.tables.proofs.checks.check.Statement.{statement}
 use Rattle.tables.proofs.checks.check.Tie as tie
-use Rattle.tables.proofs.checks.check.Reads as reads
-use Rattle.tables.proofs.checks.check.Lts as lts
 use Rattle.tables.proofs.checks.lowest_bad_place.Reads as lowest-bad-place-reads
 use Rattle.tables.proofs.checks.lowest_bad_name.Reads as lowest-bad-name-reads
 use Rattle.tables.proofs.checks.lowest_bad_scope.Reads as lowest-bad-scope-reads

@@ -1,17 +1,16 @@
+-- `tables::checks::lowest_bad_child` meets its contract.
 use Rattle.tables.proofs.FieldLaws.{bad-here, bad-more, bad-none, bad-start, tree-is}
 use Rattle.tables.specs.Checks.{lowestOf}
 use Rattle.tables.specs.Nodes.{table}
 use mathlib.Core.Path.{_≡_, refl, sym, ap, _∙_}
 use mathlib.Core.List.{List}
-use Prim.Native.Nat.{ℕ, _≤_, _<_, _-_, _/_}
+use Prim.Native.Nat.{ℕ, _≤_, _-_, _/_}
 use lib.ListN.{length, getD}
 use Rattle.model.specs.Checks.{firstBad, check3}
 use borrow.Author.Needs.{needs}
 use native.Mathlib.Omega.{arith}
 use Rattle.tables.proofs.checks.lowest_bad_child.Statement.{statement}
 use Rattle.tables.proofs.checks.lowest_bad_child.Tie as tie
-use Rattle.tables.proofs.checks.lowest_bad_child.Reads as reads
-use Rattle.tables.proofs.checks.lowest_bad_child.Lts as lts
 use Rattle.tables.proofs.fields.tree_ok.Reads as tree-ok-reads
 use Rattle.tables.proofs.nodes.node_at.Reads as node-at-reads
 use Rattle.tables.proofs.children.times_child.Reads as times-child-reads

@@ -1,17 +1,15 @@
+-- `tables::checks::lowest_bad_name` meets its contract.
 use Rattle.tables.proofs.FieldLaws.{bad-here, bad-more, bad-none, bad-start, names-are}
 use Rattle.tables.specs.Checks.{lowestOf}
 use Rattle.tables.specs.Nodes.{table}
-use mathlib.Core.Path.{_≡_, refl, sym, ap, ap₂, _∙_}
+use mathlib.Core.Path.{_≡_, refl, sym, ap, _∙_}
 use mathlib.Core.List.{List}
-use Prim.Native.Nat.{ℕ, _≤_, _<_, _-_, _/_}
+use Prim.Native.Nat.{ℕ, _≤_, _-_, _/_}
 use lib.ListN.{length}
 use Rattle.model.specs.Checks.{firstBad, check4}
 use borrow.Author.Needs.{needs}
-use native.Mathlib.Omega.{arith}
 use Rattle.tables.proofs.checks.lowest_bad_name.Statement.{statement}
 use Rattle.tables.proofs.checks.lowest_bad_name.Tie as tie
-use Rattle.tables.proofs.checks.lowest_bad_name.Reads as reads
-use Rattle.tables.proofs.checks.lowest_bad_name.Lts as lts
 use Rattle.tables.proofs.fields.names_ok.Reads as names-ok-reads
 use Rattle.tables.proofs.nodes.node_at.Reads as node-at-reads
 

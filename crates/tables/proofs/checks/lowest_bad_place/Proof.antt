@@ -1,17 +1,14 @@
+-- `tables::checks::lowest_bad_place` meets its contract.
 use Rattle.tables.proofs.FieldLaws.{bad-here, bad-more, bad-none, bad-start, places-are}
 use Rattle.tables.specs.Checks.{lowestOf}
 use Rattle.tables.specs.Nodes.{table}
-use mathlib.Core.Path.{_≡_, refl, sym, ap, ap₂, _∙_, subst}
-use mathlib.Core.List.{List}
-use Prim.Native.Nat.{ℕ, _≤_, _<_, _-_, _/_}
+use mathlib.Core.Path.{_≡_, refl, sym, ap, _∙_}
+use Prim.Native.Nat.{_≤_, _-_, _/_}
 use lib.ListN.{length}
 use Rattle.model.specs.Checks.{firstBad, check5}
 use borrow.Author.Needs.{needs}
-use native.Mathlib.Omega.{arith}
 use Rattle.tables.proofs.checks.lowest_bad_place.Statement.{statement}
 use Rattle.tables.proofs.checks.lowest_bad_place.Tie as tie
-use Rattle.tables.proofs.checks.lowest_bad_place.Reads as reads
-use Rattle.tables.proofs.checks.lowest_bad_place.Lts as lts
 use Rattle.tables.proofs.fields.places_ok.Reads as places-ok-reads
 use Rattle.tables.proofs.nodes.node_at.Reads as node-at-reads
 

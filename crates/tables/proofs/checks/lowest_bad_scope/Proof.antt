@@ -1,10 +1,8 @@
+-- `tables::checks::lowest_bad_scope` meets its contract.
 use Rattle.tables.proofs.ScopeLaws.{scope-at, scope-none}
-use native.Mathlib.Omega.{arith}
 use borrow.Author.Needs.{needs}
 use Rattle.tables.proofs.checks.lowest_bad_scope.Statement.{statement}
 use Rattle.tables.proofs.checks.lowest_bad_scope.Tie as tie
-use Rattle.tables.proofs.checks.lowest_bad_scope.Reads as reads
-use Rattle.tables.proofs.checks.lowest_bad_scope.Lts as lts
 use Rattle.tables.proofs.scope.lowest_over.Reads as lowest-over-reads
 
 lowest-over-requires : tie.Need-lowest-over-requires

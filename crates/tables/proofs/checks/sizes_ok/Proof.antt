@@ -1,11 +1,7 @@
+-- `tables::checks::sizes_ok` meets its contract.
 use Rattle.tables.proofs.CheckLaws.{sizes-many, sizes-mod, sizes-none, sizes-pool}
-use mathlib.Core.Path.{_≡_, refl, sym, ap, ap₂, _∙_, subst}
-use borrow.Author.Needs.{needs}
-use native.Mathlib.Omega.{arith}
 use Rattle.tables.proofs.checks.sizes_ok.Statement.{statement}
 use Rattle.tables.proofs.checks.sizes_ok.Tie as tie
-use Rattle.tables.proofs.checks.sizes_ok.Reads as reads
-use Rattle.tables.proofs.checks.sizes_ok.Lts as lts
 
 returns : tie.Need-returns
 returns c = sizes-none _ _ (c .before .if1 .taken) (c .if2 .taken)

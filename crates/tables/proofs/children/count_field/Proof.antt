@@ -1,13 +1,11 @@
-use mathlib.Core.Path.{_≡_, refl, sym, ap, ap₂, _∙_}
-use lib.ListN.{length, getD}
+-- `tables::children::count_field` meets its contract.
+use mathlib.Core.Path.{sym, _∙_}
+use lib.ListN.{getD}
 use Rattle.model.specs.Table.{uses}
 use Rattle.tables.proofs.FieldLaws.{counted-more, counted-full, counted-over, counted-none}
-use native.Mathlib.Omega.{arith}
 use borrow.Author.Needs.{needs}
 use Rattle.tables.proofs.children.count_field.Statement.{statement}
 use Rattle.tables.proofs.children.count_field.Tie as tie
-use Rattle.tables.proofs.children.count_field.Reads as reads
-use Rattle.tables.proofs.children.count_field.Lts as lts
 use Rattle.tables.proofs.nodes.use_of.Reads as use-of-reads
 
 use-of-requires : tie.Need-use-of-requires

@@ -1,11 +1,8 @@
-use mathlib.Core.Path.{_≡_, refl, sym, ap, ap₂, _∙_}
+-- `tables::children::count_node` meets its contract.
 use Rattle.tables.proofs.FieldLaws.{node-counted}
-use native.Mathlib.Omega.{arith}
 use borrow.Author.Needs.{needs}
 use Rattle.tables.proofs.children.count_node.Statement.{statement}
 use Rattle.tables.proofs.children.count_node.Tie as tie
-use Rattle.tables.proofs.children.count_node.Reads as reads
-use Rattle.tables.proofs.children.count_node.Lts as lts
 use Rattle.tables.proofs.children.count_field.Reads as count-field-reads
 
 count-field-requires : tie.Need-count-field-requires

@@ -1,4 +1,5 @@
-use mathlib.Core.Path.{_≡_, refl, sym, ap, ap₂, _∙_}
+-- `tables::children::times_child` meets its contract.
+use mathlib.Core.Path.{_≡_, refl, _∙_}
 use mathlib.Core.List.{List}
 use Prim.Native.Nat.{ℕ, _≤_, _<_, _-_, _/_, min}
 use lib.ListN.{length, getD, getD-replicate}
@@ -9,8 +10,6 @@ use borrow.Author.Needs.{needs}
 use native.Mathlib.Omega.{arith}
 use Rattle.tables.proofs.children.times_child.Statement.{statement}
 use Rattle.tables.proofs.children.times_child.Tie as tie
-use Rattle.tables.proofs.children.times_child.Reads as reads
-use Rattle.tables.proofs.children.times_child.Lts as lts
 use Rattle.tables.proofs.children.count_node.Reads as count-node-reads
 use Rattle.tables.proofs.nodes.node_at.Reads as node-at-reads
 

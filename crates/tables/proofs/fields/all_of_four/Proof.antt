@@ -1,10 +1,7 @@
+-- `tables::fields::all_of_four` meets its contract.
 use Rattle.tables.proofs.FieldLaws.{four-1, four-2, four-3, four-4}
-use borrow.Author.Needs.{needs}
-use native.Mathlib.Omega.{arith}
 use Rattle.tables.proofs.fields.all_of_four.Statement.{statement}
 use Rattle.tables.proofs.fields.all_of_four.Tie as tie
-use Rattle.tables.proofs.fields.all_of_four.Reads as reads
-use Rattle.tables.proofs.fields.all_of_four.Lts as lts
 
 returns : tie.Need-returns
 returns c = four-4 _ _ _ _ (c .before .before .if1 .taken) (c .before .if2 .taken) (c .if3 .taken)

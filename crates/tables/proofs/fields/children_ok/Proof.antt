@@ -1,11 +1,9 @@
+-- `tables::fields::children_ok` meets its contract.
 use Rattle.tables.proofs.FieldLaws.{fields-by}
 use Rattle.tables.specs.Fields.{childOk}
-use native.Mathlib.Omega.{arith}
 use borrow.Author.Needs.{needs}
 use Rattle.tables.proofs.fields.children_ok.Statement.{statement}
 use Rattle.tables.proofs.fields.children_ok.Tie as tie
-use Rattle.tables.proofs.fields.children_ok.Reads as reads
-use Rattle.tables.proofs.fields.children_ok.Lts as lts
 use Rattle.tables.proofs.fields.child_ok.Reads as child-ok-reads
 use Rattle.tables.proofs.fields.all_of_four.Reads as all-of-four-reads
 

@@ -1,12 +1,9 @@
+-- `tables::fields::kind_ok` meets its contract.
 use Rattle.tables.proofs.FieldLaws.{fields-by, kind-known, kind-unknown}
 use Rattle.tables.specs.Fields.{unusedOk}
-use mathlib.Core.Path.{_≡_, refl, sym, ap, ap₂, _∙_}
-use native.Mathlib.Omega.{arith}
 use borrow.Author.Needs.{needs}
 use Rattle.tables.proofs.fields.kind_ok.Statement.{statement}
 use Rattle.tables.proofs.fields.kind_ok.Tie as tie
-use Rattle.tables.proofs.fields.kind_ok.Reads as reads
-use Rattle.tables.proofs.fields.kind_ok.Lts as lts
 use Rattle.tables.proofs.fields.unused_ok.Reads as unused-ok-reads
 use Rattle.tables.proofs.fields.all_of_four.Reads as all-of-four-reads
 

@@ -1,5 +1,6 @@
+-- `tables::fields::name_ok` meets its contract.
 use Rattle.tables.proofs.FieldLaws.{first-use, no-use, second-use}
-use mathlib.Core.Path.{_≡_, refl, sym, ap, ap₂, _∙_}
+use mathlib.Core.Path.{sym, _∙_}
 use lib.Dec.{leb}
 use lib.ListN.{getD}
 use Rattle.model.specs.Table.{uses}
@@ -7,8 +8,6 @@ use native.Mathlib.Omega.{arith}
 use borrow.Author.Needs.{needs}
 use Rattle.tables.proofs.fields.name_ok.Statement.{statement}
 use Rattle.tables.proofs.fields.name_ok.Tie as tie
-use Rattle.tables.proofs.fields.name_ok.Reads as reads
-use Rattle.tables.proofs.fields.name_ok.Lts as lts
 use Rattle.tables.proofs.nodes.use_of.Reads as use-of-reads
 
 use-of-requires : tie.Need-use-of-requires

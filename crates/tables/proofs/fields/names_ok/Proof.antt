@@ -1,12 +1,9 @@
+-- `tables::fields::names_ok` meets its contract.
 use Rattle.tables.proofs.FieldLaws.{fields-by}
 use Rattle.tables.specs.Fields.{nameOk}
-use mathlib.Core.Path.{_≡_, refl, sym, ap, ap₂, _∙_}
-use native.Mathlib.Omega.{arith}
 use borrow.Author.Needs.{needs}
 use Rattle.tables.proofs.fields.names_ok.Statement.{statement}
 use Rattle.tables.proofs.fields.names_ok.Tie as tie
-use Rattle.tables.proofs.fields.names_ok.Reads as reads
-use Rattle.tables.proofs.fields.names_ok.Lts as lts
 use Rattle.tables.proofs.fields.all_of_four.Reads as all-of-four-reads
 use Rattle.tables.proofs.fields.name_ok.Reads as name-ok-reads
 

@@ -1,5 +1,6 @@
+-- `tables::fields::place_ok` meets its contract.
 use Rattle.tables.proofs.FieldLaws.{first-use, no-use, second-use}
-use mathlib.Core.Path.{_≡_, refl, sym, ap, ap₂, _∙_, subst}
+use mathlib.Core.Path.{sym, _∙_}
 use Rattle.model.specs.Basics.{isDone}
 use Rattle.model.specs.Values.{at, isPublic}
 use Rattle.model.specs.Table.{uses}
@@ -9,8 +10,6 @@ use native.Mathlib.Omega.{arith}
 use borrow.Author.Needs.{needs}
 use Rattle.tables.proofs.fields.place_ok.Statement.{statement}
 use Rattle.tables.proofs.fields.place_ok.Tie as tie
-use Rattle.tables.proofs.fields.place_ok.Reads as reads
-use Rattle.tables.proofs.fields.place_ok.Lts as lts
 use Rattle.tables.proofs.pool.pattern_ok.Reads as pattern-ok-reads
 use Rattle.tables.proofs.nodes.use_of.Reads as use-of-reads
 use Rattle.tables.proofs.pool.value_ok.Reads as value-ok-reads

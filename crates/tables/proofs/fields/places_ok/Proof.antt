@@ -1,12 +1,9 @@
+-- `tables::fields::places_ok` meets its contract.
 use Rattle.tables.proofs.FieldLaws.{fields-by}
 use Rattle.tables.specs.Fields.{placeOk}
-use mathlib.Core.Path.{_≡_, refl, sym, ap, ap₂, _∙_, subst}
-use native.Mathlib.Omega.{arith}
 use borrow.Author.Needs.{needs}
 use Rattle.tables.proofs.fields.places_ok.Statement.{statement}
 use Rattle.tables.proofs.fields.places_ok.Tie as tie
-use Rattle.tables.proofs.fields.places_ok.Reads as reads
-use Rattle.tables.proofs.fields.places_ok.Lts as lts
 use Rattle.tables.proofs.fields.all_of_four.Reads as all-of-four-reads
 use Rattle.tables.proofs.fields.place_ok.Reads as place-ok-reads
 

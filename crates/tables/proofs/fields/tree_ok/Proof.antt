@@ -1,11 +1,9 @@
+-- `tables::fields::tree_ok` meets its contract.
 use Rattle.tables.proofs.FieldLaws.{tree-bad, tree-once, tree-root}
-use mathlib.Core.Path.{_≡_, refl, sym, ap, _∙_}
-use native.Mathlib.Omega.{arith}
+use mathlib.Core.Path.{sym, _∙_}
 use borrow.Author.Needs.{needs}
 use Rattle.tables.proofs.fields.tree_ok.Statement.{statement}
 use Rattle.tables.proofs.fields.tree_ok.Tie as tie
-use Rattle.tables.proofs.fields.tree_ok.Reads as reads
-use Rattle.tables.proofs.fields.tree_ok.Lts as lts
 use Rattle.tables.proofs.fields.children_ok.Reads as children-ok-reads
 
 children-ok-requires : tie.Need-children-ok-requires

@@ -1,13 +1,11 @@
+-- `tables::fields::unused_ok` meets its contract.
 use Rattle.tables.proofs.FieldLaws.{unused-zero, used}
-use mathlib.Core.Path.{_≡_, refl, sym, ap, ap₂, _∙_}
+use mathlib.Core.Path.{sym, _∙_}
 use lib.ListN.{getD}
 use Rattle.model.specs.Table.{uses}
-use native.Mathlib.Omega.{arith}
 use borrow.Author.Needs.{needs}
 use Rattle.tables.proofs.fields.unused_ok.Statement.{statement}
 use Rattle.tables.proofs.fields.unused_ok.Tie as tie
-use Rattle.tables.proofs.fields.unused_ok.Reads as reads
-use Rattle.tables.proofs.fields.unused_ok.Lts as lts
 use Rattle.tables.proofs.nodes.use_of.Reads as use-of-reads
 
 use-of-requires : tie.Need-use-of-requires

@@ -1,11 +1,10 @@
-use mathlib.Core.Path.{_≡_, refl, sym, ap, ap₂, _∙_}
+-- `tables::nodes::field_at` meets its contract.
+use mathlib.Core.Path.{sym}
 use lib.ListN.{List·getD-eq-default}
 use native.Mathlib.Omega.{arith}
 use borrow.Author.Needs.{needs}
 use Rattle.tables.proofs.nodes.field_at.Statement.{statement}
 use Rattle.tables.proofs.nodes.field_at.Tie as tie
-use Rattle.tables.proofs.nodes.field_at.Reads as reads
-use Rattle.tables.proofs.nodes.field_at.Lts as lts
 
 -- src/nodes.rt:29:17
 mul-i : tie.Need-mul-i

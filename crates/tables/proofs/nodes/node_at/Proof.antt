@@ -1,11 +1,9 @@
-use mathlib.Core.Path.{_≡_, refl, sym, ap, ap₂, _∙_}
+-- `tables::nodes::node_at` meets its contract.
+use mathlib.Core.Path.{_∙_}
 use mathlib.Core.List.{[]}
-use native.Mathlib.Omega.{arith}
 use borrow.Author.Needs.{needs}
 use Rattle.tables.proofs.nodes.node_at.Statement.{statement}
 use Rattle.tables.proofs.nodes.node_at.Tie as tie
-use Rattle.tables.proofs.nodes.node_at.Reads as reads
-use Rattle.tables.proofs.nodes.node_at.Lts as lts
 use Rattle.tables.proofs.nodes.field_at.Reads as field-at-reads
 use Rattle.tables.proofs.nodes.wide.Reads as wide-reads
 

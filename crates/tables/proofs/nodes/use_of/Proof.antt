@@ -1,10 +1,8 @@
+-- `tables::nodes::use_of` meets its contract.
 use Rattle.tables.proofs.FieldLaws.{use-field, use-kind}
-use native.Mathlib.Omega.{arith}
 use borrow.Author.Needs.{needs}
 use Rattle.tables.proofs.nodes.use_of.Statement.{statement}
 use Rattle.tables.proofs.nodes.use_of.Tie as tie
-use Rattle.tables.proofs.nodes.use_of.Reads as reads
-use Rattle.tables.proofs.nodes.use_of.Lts as lts
 
 mul-row : tie.Need-mul-row
 mul-row c = search needs

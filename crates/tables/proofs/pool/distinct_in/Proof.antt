@@ -1,5 +1,6 @@
+-- `tables::pool::distinct_in` meets its contract.
 use Rattle.tables.proofs.PoolLaws.{Seen, seen-all, seen-name, seen-none, seen-other, seen-twice}
-use mathlib.Core.Path.{_≡_, refl, sym, ap, ap₂, _∙_, subst}
+use mathlib.Core.Path.{_≡_, sym, ap, _∙_, subst}
 use mathlib.Core.Bool.{Bool, true, false}
 use mathlib.Core.List.{List}
 use mathlib.Core.Logic.{⊎-elim}
@@ -8,11 +9,8 @@ use lib.ListN.{length, take, set, getD, length-set}
 use Rattle.model.specs.Values.{binders}
 use Rattle.tables.specs.declared.marks.Marks.{Marks}
 use borrow.Author.Needs.{needs}
-use native.Mathlib.Omega.{arith}
 use Rattle.tables.proofs.pool.distinct_in.Statement.{statement}
 use Rattle.tables.proofs.pool.distinct_in.Tie as tie
-use Rattle.tables.proofs.pool.distinct_in.Reads as reads
-use Rattle.tables.proofs.pool.distinct_in.Lts as lts
 use Rattle.tables.proofs.marks.Marks.has.Reads as has-reads
 use Rattle.tables.proofs.marks.Marks.none.Reads as none-reads
 use Rattle.tables.proofs.marks.Marks.put.Reads as put-reads

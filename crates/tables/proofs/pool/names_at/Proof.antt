@@ -1,4 +1,5 @@
-use mathlib.Core.Path.{_≡_, refl, sym, ap, ap₂, _∙_}
+-- `tables::pool::names_at` meets its contract.
+use mathlib.Core.Path.{ap, _∙_}
 use mathlib.Core.List.{List}
 use Prim.Native.Nat.{ℕ}
 use lib.ListN.{length}
@@ -9,8 +10,6 @@ use native.Mathlib.Omega.{arith}
 use borrow.Author.Needs.{needs}
 use Rattle.tables.proofs.pool.names_at.Statement.{statement}
 use Rattle.tables.proofs.pool.names_at.Tie as tie
-use Rattle.tables.proofs.pool.names_at.Reads as reads
-use Rattle.tables.proofs.pool.names_at.Lts as lts
 use Rattle.tables.proofs.pool.names_in.Reads as names-in-reads
 use Rattle.tables.proofs.pool.words_at.Reads as words-at-reads
 

@@ -1,8 +1,9 @@
+-- `tables::pool::names_in` meets its contract.
 use Rattle.tables.proofs.ScopeLaws.{names-more, names-same}
-use mathlib.Core.Path.{_≡_, refl, sym, ap, _∙_}
+use mathlib.Core.Path.{_≡_, refl, ap, _∙_}
 use mathlib.Core.List.{List}
 use mathlib.Core.Logic.{⊎-elim}
-use Prim.Native.Nat.{ℕ, _≤_, _<_, _-_}
+use Prim.Native.Nat.{ℕ, _≤_, _-_}
 use lib.ListN.{length, take}
 use lib.Seq.{take-all}
 use Rattle.model.specs.Values.{binders}
@@ -10,8 +11,6 @@ use borrow.Author.Needs.{needs}
 use native.Mathlib.Omega.{arith}
 use Rattle.tables.proofs.pool.names_in.Statement.{statement}
 use Rattle.tables.proofs.pool.names_in.Tie as tie
-use Rattle.tables.proofs.pool.names_in.Reads as reads
-use Rattle.tables.proofs.pool.names_in.Lts as lts
 
 abbrev Inv-loop : tie.InvT-loop
 Inv-loop s r₀ i₀ r i = (i ≤ length s) × (r ≤ i) × (r ≡ length (binders (take i s)))

@@ -1,6 +1,6 @@
+-- `tables::pool::pattern_ok` meets its contract.
 use Rattle.tables.proofs.PoolLaws.{words-found, pat-at, pat-bad}
-use mathlib.Core.Path.{_≡_, refl, sym, ap, ap₂, _∙_, subst}
-use mathlib.Core.List.{List}
+use mathlib.Core.Path.{_≡_, sym, ap, _∙_}
 use Prim.Native.Nat.{ℕ, _+_, _-_}
 use lib.ListN.{take, drop}
 use Rattle.model.specs.Values.{binders, distinct}
@@ -8,8 +8,6 @@ use native.Mathlib.Omega.{arith}
 use borrow.Author.Needs.{needs}
 use Rattle.tables.proofs.pool.pattern_ok.Statement.{statement}
 use Rattle.tables.proofs.pool.pattern_ok.Tie as tie
-use Rattle.tables.proofs.pool.pattern_ok.Reads as reads
-use Rattle.tables.proofs.pool.pattern_ok.Lts as lts
 use Rattle.tables.proofs.pool.distinct_in.Reads as distinct-in-reads
 use Rattle.values.proofs.size_at.Reads as size-at-reads
 

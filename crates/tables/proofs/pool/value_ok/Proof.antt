@@ -1,11 +1,9 @@
+-- `tables::pool::value_ok` meets its contract.
 use Rattle.tables.proofs.PoolLaws.{done-at, done-bad}
-use mathlib.Core.Path.{_≡_, refl, sym, ap, ap₂, _∙_, subst}
-use native.Mathlib.Omega.{arith}
+use mathlib.Core.Path.{sym, _∙_}
 use borrow.Author.Needs.{needs}
 use Rattle.tables.proofs.pool.value_ok.Statement.{statement}
 use Rattle.tables.proofs.pool.value_ok.Tie as tie
-use Rattle.tables.proofs.pool.value_ok.Reads as reads
-use Rattle.tables.proofs.pool.value_ok.Lts as lts
 use Rattle.values.proofs.size_at.Reads as size-at-reads
 
 size-at-requires : tie.Need-size-at-requires

@@ -1,5 +1,5 @@
-use mathlib.Core.Path.{_≡_, refl, sym, ap, ap₂, _∙_}
-use mathlib.Core.List.{List}
+-- `tables::pool::words_at` meets its contract.
+use mathlib.Core.Path.{_≡_, sym, ap, _∙_}
 use Prim.Native.Nat.{ℕ, _+_, _-_}
 use lib.ListN.{take, drop}
 use Rattle.tables.proofs.PoolLaws.{words-found, words-bad}
@@ -7,8 +7,6 @@ use native.Mathlib.Omega.{arith}
 use borrow.Author.Needs.{needs}
 use Rattle.tables.proofs.pool.words_at.Statement.{statement}
 use Rattle.tables.proofs.pool.words_at.Tie as tie
-use Rattle.tables.proofs.pool.words_at.Reads as reads
-use Rattle.tables.proofs.pool.words_at.Lts as lts
 use Rattle.values.proofs.size_at.Reads as size-at-reads
 
 -- src/pool.rt:20:11

@@ -1,8 +1,9 @@
+-- `tables::scope::lowest_over` meets its contract.
 use Rattle.tables.proofs.ScopeLaws.{over-box, over-inp, over-leaf, over-new, over-par}
 use Rattle.tables.proofs.WalkLaws.{on-body, on-box, on-left, on-new, on-right}
 use Rattle.tables.specs.Nodes.{table}
 use Rattle.tables.specs.Scope.{overAt}
-use mathlib.Core.Path.{_≡_, refl, sym, ap, ap₂, _∙_}
+use mathlib.Core.Path.{sym, ap, ap₂, _∙_}
 use Prim.Native.Nat.{_-_, _+_, min}
 use Rattle.model.specs.Table.{count}
 use borrow.Author.Needs.{needs}

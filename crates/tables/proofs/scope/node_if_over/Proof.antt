@@ -1,10 +1,7 @@
+-- `tables::scope::node_if_over` meets its contract.
 use Rattle.tables.proofs.ScopeLaws.{over-few, over-many}
-use borrow.Author.Needs.{needs}
-use native.Mathlib.Omega.{arith}
 use Rattle.tables.proofs.scope.node_if_over.Statement.{statement}
 use Rattle.tables.proofs.scope.node_if_over.Tie as tie
-use Rattle.tables.proofs.scope.node_if_over.Reads as reads
-use Rattle.tables.proofs.scope.node_if_over.Lts as lts
 
 returns : tie.Need-returns
 returns c = over-few _ _ (c .if1 .taken)

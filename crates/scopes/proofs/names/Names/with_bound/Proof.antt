@@ -1,17 +1,15 @@
-use mathlib.Core.Path.{_≡_, refl, sym, ap, ap₂, _∙_}
-use mathlib.Core.List.{List, [], _∷_, _++_}
+-- `scopes::names::Names::with_bound` meets its contract.
+use mathlib.Core.Path.{_≡_, sym, ap, _∙_}
+use mathlib.Core.List.{List, _∷_, _++_}
 use Prim.Native.Nat.{ℕ}
 use lib.ListN.{length}
 use Rattle.model.specs.Values.{binders}
 use Rattle.values.specs.Span.{leafOf}
 use Rattle.scopes.specs.Names.{viewNames, lastEight}
 use Rattle.scopes.proofs.NameLaws.{bound-new, bound-input, bound-none, view-few, last-few}
-use native.Mathlib.Omega.{arith}
 use borrow.Author.Needs.{needs}
 use Rattle.scopes.proofs.names.Names.with_bound.Statement.{statement}
 use Rattle.scopes.proofs.names.Names.with_bound.Tie as tie
-use Rattle.scopes.proofs.names.Names.with_bound.Reads as reads
-use Rattle.scopes.proofs.names.Names.with_bound.Lts as lts
 use Rattle.scopes.proofs.names.Names.with_outer.Reads as with-outer-reads
 use Rattle.scopes.proofs.names.Names.with_pattern.Reads as with-pattern-reads
 use Rattle.tables.proofs.nodes.field_at.Reads as field-at-reads

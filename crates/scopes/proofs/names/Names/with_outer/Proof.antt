@@ -1,12 +1,10 @@
-use mathlib.Core.Path.{_≡_, refl, sym, ap, ap₂, _∙_}
+-- `scopes::names::Names::with_outer` meets its contract.
+use mathlib.Core.Path.{_≡_}
 use lib.ListN.{length}
 use Rattle.scopes.proofs.NameLaws.{outer-in, outer-over, outer-full}
-use native.Mathlib.Omega.{arith}
 use borrow.Author.Needs.{needs}
 use Rattle.scopes.proofs.names.Names.with_outer.Statement.{statement}
 use Rattle.scopes.proofs.names.Names.with_outer.Tie as tie
-use Rattle.scopes.proofs.names.Names.with_outer.Reads as reads
-use Rattle.scopes.proofs.names.Names.with_outer.Lts as lts
 
 sub-self : tie.Need-sub-self
 sub-self c = search needs

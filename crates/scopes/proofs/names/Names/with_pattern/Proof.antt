@@ -1,4 +1,5 @@
-use mathlib.Core.Path.{_≡_, refl, sym, ap, ap₂, _∙_}
+-- `scopes::names::Names::with_pattern` meets its contract.
+use mathlib.Core.Path.{_≡_}
 use mathlib.Core.List.{_++_}
 use Prim.Native.Nat.{_≤_, _-_}
 use lib.ListN.{length, drop}
@@ -9,8 +10,6 @@ use borrow.Author.Needs.{needs}
 use native.Mathlib.Omega.{arith}
 use Rattle.scopes.proofs.names.Names.with_pattern.Statement.{statement}
 use Rattle.scopes.proofs.names.Names.with_pattern.Tie as tie
-use Rattle.scopes.proofs.names.Names.with_pattern.Reads as reads
-use Rattle.scopes.proofs.names.Names.with_pattern.Lts as lts
 use Rattle.scopes.proofs.names.Names.with_outer.Reads as with-outer-reads
 
 abbrev Inv-loop : tie.InvT-loop

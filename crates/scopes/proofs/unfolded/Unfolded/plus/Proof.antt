@@ -1,11 +1,8 @@
-use mathlib.Core.Path.{_≡_, refl, sym, ap, ap₂, _∙_}
+-- `scopes::unfolded::Unfolded::plus` meets its contract.
 use Rattle.scopes.proofs.UnfoldedLaws.{three-same}
-use native.Mathlib.Omega.{arith}
 use borrow.Author.Needs.{needs}
 use Rattle.scopes.proofs.unfolded.Unfolded.plus.Statement.{statement}
 use Rattle.scopes.proofs.unfolded.Unfolded.plus.Tie as tie
-use Rattle.scopes.proofs.unfolded.Unfolded.plus.Reads as reads
-use Rattle.scopes.proofs.unfolded.Unfolded.plus.Lts as lts
 use Rattle.scopes.proofs.unfolded.sum.Reads as sum-reads
 
 sum-requires : tie.Need-sum-requires

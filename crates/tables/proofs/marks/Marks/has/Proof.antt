@@ -1,12 +1,11 @@
-use mathlib.Core.Path.{_≡_, refl, sym, ap, _∙_}
+-- `tables::marks::Marks::has` meets its contract.
+use mathlib.Core.Path.{_≡_, sym}
 use mathlib.Core.Bool.{false}
 use lib.ListN.{length, List·getD-eq-default}
 use native.Mathlib.Omega.{arith}
 use borrow.Author.Needs.{needs}
 use Rattle.tables.proofs.marks.Marks.has.Statement.{statement}
 use Rattle.tables.proofs.marks.Marks.has.Tie as tie
-use Rattle.tables.proofs.marks.Marks.has.Reads as reads
-use Rattle.tables.proofs.marks.Marks.has.Lts as lts
 
 element-copy-out-result : tie.Need-element-copy-out-result
 element-copy-out-result c = search needs

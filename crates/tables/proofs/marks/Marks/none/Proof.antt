@@ -1,12 +1,8 @@
-use mathlib.Core.Path.{_≡_, refl, sym, ap, ap₂, _∙_}
+-- `tables::marks::Marks::none` meets its contract.
 use mathlib.Core.Bool.{false}
 use Rattle.tables.proofs.PoolLaws.{same-everywhere}
-use borrow.Author.Needs.{needs}
-use native.Mathlib.Omega.{arith}
 use Rattle.tables.proofs.marks.Marks.none.Statement.{statement}
 use Rattle.tables.proofs.marks.Marks.none.Tie as tie
-use Rattle.tables.proofs.marks.Marks.none.Reads as reads
-use Rattle.tables.proofs.marks.Marks.none.Lts as lts
 
 returns : tie.Need-returns
 returns c = λ m. same-everywhere 64 m false

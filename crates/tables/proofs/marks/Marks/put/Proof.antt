@@ -1,12 +1,11 @@
-use mathlib.Core.Path.{_≡_, refl, sym, ap, ap₂, _∙_, subst}
+-- `tables::marks::Marks::put` meets its contract.
+use mathlib.Core.Path.{_≡_, sym}
 use lib.ListN.{length}
 use lib.Seq.{set-out}
 use native.Mathlib.Omega.{arith}
 use borrow.Author.Needs.{needs}
 use Rattle.tables.proofs.marks.Marks.put.Statement.{statement}
 use Rattle.tables.proofs.marks.Marks.put.Tie as tie
-use Rattle.tables.proofs.marks.Marks.put.Reads as reads
-use Rattle.tables.proofs.marks.Marks.put.Lts as lts
 
 element-write-self : tie.Need-element-write-self
 element-write-self c = search needs
