@@ -1,302 +1,57 @@
--- The four fields of a node, tested and counted.
-use mathlib.Core.Path.{_≡_, refl, sym, ap, ap₂, _∙_}
-use mathlib.Core.Bool.{Bool, true, false, not, cond, _&&_}
-use mathlib.Core.List.{List, [], _∷_, _++_}
-use mathlib.Core.Logic.{_⊎_, inl, inr, ⊎-elim}
-use Prim.Native.Nat.{ℕ, zero, suc, _+_, _-_, _*_, _<_, _≤_, min}
-use native.Mathlib.Omega.{arith}
-use native.Mathlib.Numerals.{add-one}
-use borrow.Author.Tests.{le-leb, lt-leb, lt-ltb, le-ltb, eq-eqb, ne-eqb, eqb-true, eqb-false}
+-- Tests of the four fields of a node, and counts of its children: checks 2 to 5 of crate model, for a node that was read.
+use mathlib.Core.Path.{_≡_}
+use mathlib.Core.Bool.{Bool, cond, _&&_}
+use mathlib.Core.List.{List}
+use Prim.Native.Nat.{ℕ, _+_, _<_, _≤_, min}
 use lib.Dec.{leb, ltb, eqb}
-use lib.ListN.{length, getD, take, drop, set, length-set, List·getD-eq-default}
-use lib.Seq.{getD-set-same, getD-set-other}
-use Rattle.model.specs.Basics.{_&_, _or_, Res, refuse, done, isDone, implies}
+use lib.ListN.{length, getD}
+use Rattle.model.specs.Basics.{_&_, _or_, isDone, implies}
 use Rattle.model.specs.Values.{at, isPublic}
-use Rattle.model.specs.Table.{Table, count, kind, field, uses, fieldUses, childFields, childTimes}
-use Rattle.model.specs.Checks.{everyField, fieldsOk, timesChild, firstBad, check2, check3, check4, check5, patternOk}
-use Rattle.values.proofs.Spans.{eqb-same}
-use Rattle.tables.specs.declared.Node.{Node}
-use Rattle.tables.specs.declared.Lowest.{Lowest}
-use Rattle.tables.specs.declared.Lowest.the-variants.{At, Sound}
-use Rattle.tables.specs.Walk.{tab, NodeIs}
+use Rattle.model.specs.Table.{uses}
+use Rattle.model.specs.Checks.{patternOk}
+use Rattle.tables.specs.declared.nodes.Node.{Node}
 
--- a test of the four fields of a node
+-- how a node uses its field i + 1
 abbrev pub useOf : Node → ℕ → ℕ
 useOf x i = getD (uses (x .kind)) i 0
 
-unfoldable pub fields4 : (ℕ → ℕ → Bool) → Node → Bool
-fields4 f x = f (useOf x 0) (x .a) & (f (useOf x 1) (x .b) & (f (useOf x 2) (x .c) & f (useOf x 3) (x .d)))
+-- a test of all four fields of a node, by their use and their word
+unfoldable pub fourFields : (ℕ → ℕ → Bool) → Node → Bool
+fourFields f x = f (useOf x 0) (x .a) & (f (useOf x 1) (x .b) & (f (useOf x 2) (x .c) & f (useOf x 3) (x .d)))
 
-and-true : (a : Bool) → a & true ≡ a
-unfolding _&_
-and-true true = refl
-and-true false = refl
+-- check 2 of a field: used, or 0
+abbrev pub unusedOk : ℕ → ℕ → Bool
+unusedOk u w = implies (eqb u 0) (eqb w 0)
 
--- where unused fields pass the test, or the kind is one of the seven
-module _ (f : ℕ → ℕ → Bool) (ns pool : List ℕ) (n : ℕ) (x : Node) (i : NodeIs ns n x) where
-  by-kind : (k a b c d : ℕ) → (leb k 6 ≡ true) ⊎ ((w : ℕ) → f 0 w ≡ true) →
-      everyField f (tab ns pool) n 1 (uses k) ≡ f (getD (uses k) 0 0) (field (tab ns pool) n 1) & (f (getD (uses k) 1 0) (field (tab ns pool) n 2) & (f (getD (uses k) 2 0) (field (tab ns pool) n 3) & (f (getD (uses k) 3 0) (field (tab ns pool) n 4) & true)))
-  unfolding _&_
-  by-kind zero a b c d o = refl
-  by-kind (suc zero) a b c d o = refl
-  by-kind (suc (suc zero)) a b c d o = refl
-  by-kind (suc (suc (suc zero))) a b c d o = refl
-  by-kind (suc (suc (suc (suc zero)))) a b c d o = refl
-  by-kind (suc (suc (suc (suc (suc zero))))) a b c d o = refl
-  by-kind (suc (suc (suc (suc (suc (suc zero)))))) a b c d o = refl
-  by-kind (suc (suc (suc (suc (suc (suc (suc k))))))) a b c d (inl e) = absurd (bad (sym e ∙ lt-leb (suc (suc (suc (suc (suc (suc (suc k))))))) 6 (omega arith)))
-    where
-      bad : true ≡ false → ⊥
-      bad z = let y : _≡_ {A = ℕ} 0 1 = cc in omega arith
-  by-kind (suc (suc (suc (suc (suc (suc (suc k))))))) a b c d (inr h) = rw (h (field (tab ns pool) n 1), h (field (tab ns pool) n 2), h (field (tab ns pool) n 3), h (field (tab ns pool) n 4))
+-- check 2 of a node: a known kind, and unused fields 0
+unfoldable pub kindOk : Node → Bool
+kindOk x = leb (x .kind) 6 & fourFields unusedOk x
 
-  pub fields-are : (leb (x .kind) 6 ≡ true) ⊎ ((w : ℕ) → f 0 w ≡ true) → fieldsOk (tab ns pool) f n ≡ fields4 f x
-  unfolding fields4
-  fields-are o = rw (i .f1, i .f2, i .f3, i .f4, ← i .k) (by-kind (x .kind) 0 0 0 0 o ∙ rw (and-true (f (useOf x 3) (field (tab ns pool) n 4))))
-
-abbrev pub childOk : ℕ → ℕ → ℕ → ℕ → Bool
+-- check 3 of a field of node n, of c: no child, or one above n and in the table
+abbrev pub childOk : (n c : ℕ) → ℕ → ℕ → Bool
 childOk n c u w = implies (eqb u 1) (ltb n w & ltb w c)
 
--- the counts after a field of use u, with word w
-abbrev pub one : ℕ → ℕ → ℕ → ℕ
-one u w m = cond (eqb u 1 && eqb w m) 1 0
+-- check 3 of node n, of c, which is a child k times
+unfoldable pub treeOk : (n c k : ℕ) → Node → Bool
+treeOk n c k x = fourFields (childOk n c) x & (eqb n 0 or eqb k 1)
 
-abbrev pub Counted : List ℕ → ℕ → ℕ → List ℕ → Type 0
-Counted old u w r = (m : ℕ) → m < 256 → getD old m 0 ≤ 2 → getD r m 0 ≡ min 2 (getD old m 0 + one u w m)
+-- check 4 of a field: a name up to 63, a tag up to 65
+abbrev pub nameOk : ℕ → ℕ → Bool
+nameOk u w = implies (eqb u 2) (leb w 63) & implies (eqb u 3) (leb w 65)
 
--- the counts after a node
-abbrev pub Tallied : List ℕ → Node → List ℕ → Type 0
-Tallied old x r = (m : ℕ) → m < 256 → getD old m 0 ≤ 2 → getD r m 0 ≡ min 2 (getD old m 0 + (one (useOf x 0) (x .a) m + (one (useOf x 1) (x .b) m + (one (useOf x 2) (x .c) m + one (useOf x 3) (x .d) m))))
+-- check 5 of a field: a value or a pattern stands at its place
+abbrev pub placeOk : List ℕ → ℕ → ℕ → Bool
+placeOk pool u w = implies (eqb u 4) (isDone (at isPublic pool w)) & implies (eqb u 5) (patternOk pool w)
 
--- THE LAWS OF THE TABLE OF USES
-pub use-kind : (k f : ℕ) → 7 ≤ k → 0 ≡ getD (uses k) f 0
-use-kind k f h = sym (ap (λ (l : List ℕ). getD l f 0) (List·getD-eq-default fieldUses [] h))
+-- how often m is a child by a field: 1 where the field is a child field that names m
+abbrev pub childBy : (u w m : ℕ) → ℕ
+childBy u w m = cond (eqb u 1 && eqb w m) 1 0
 
-pub use-field : (k f : ℕ) → k < 7 → 4 ≤ f → 0 ≡ getD (uses k) f 0
-use-field zero f h l = sym (List·getD-eq-default (uses 0) 0 l)
-use-field (suc zero) f h l = sym (List·getD-eq-default (uses 1) 0 l)
-use-field (suc (suc zero)) f h l = sym (List·getD-eq-default (uses 2) 0 l)
-use-field (suc (suc (suc zero))) f h l = sym (List·getD-eq-default (uses 3) 0 l)
-use-field (suc (suc (suc (suc zero)))) f h l = sym (List·getD-eq-default (uses 4) 0 l)
-use-field (suc (suc (suc (suc (suc zero))))) f h l = sym (List·getD-eq-default (uses 5) 0 l)
-use-field (suc (suc (suc (suc (suc (suc zero)))))) f h l = sym (List·getD-eq-default (uses 6) 0 l)
-use-field (suc (suc (suc (suc (suc (suc (suc k))))))) f h l = absurd (omega arith)
+-- how often m is a child of a node
+abbrev pub childOf : Node → ℕ → ℕ
+childOf x m = childBy (useOf x 0) (x .a) m + (childBy (useOf x 1) (x .b) m + (childBy (useOf x 2) (x .c) m + childBy (useOf x 3) (x .d) m))
 
--- four tests at once
-pub four-1 : (a b c d : Bool) → a ≡ false → false ≡ a & (b & (c & d))
-unfolding _&_
-four-1 a b c d e = rw e
-
-pub four-2 : (a b c d : Bool) → a ≡ true → b ≡ false → false ≡ a & (b & (c & d))
-unfolding _&_
-four-2 a b c d e f = rw (e, f)
-
-pub four-3 : (a b c d : Bool) → a ≡ true → b ≡ true → c ≡ false → false ≡ a & (b & (c & d))
-unfolding _&_
-four-3 a b c d e f g = rw (e, f, g)
-
-pub four-4 : (a b c d : Bool) → a ≡ true → b ≡ true → c ≡ true → d ≡ a & (b & (c & d))
-unfolding _&_
-four-4 a b c d e f g = rw (e, f, g)
-
-pub fields-by : (f : ℕ → ℕ → Bool) (x : Node) (r a b c d : Bool) → r ≡ a & (b & (c & d)) → a ≡ f (useOf x 0) (x .a) → b ≡ f (useOf x 1) (x .b) → c ≡ f (useOf x 2) (x .c) → d ≡ f (useOf x 3) (x .d) → r ≡ fields4 f x
-unfolding fields4
-fields-by f x r a b c d e p q s t = e ∙ ap₂ _&_ p (ap₂ _&_ q (ap₂ _&_ s t))
-
--- a child field
-module _ (n c u w : ℕ) where
-  pub child-none : ((u ≡ 1) → ⊥) → true ≡ childOk n c u w
-  child-none e = rw (ne-eqb u 1 e)
-
-  pub child-low : u ≡ 1 → w ≤ n → false ≡ childOk n c u w
-  unfolding _&_
-  child-low e h = rw (eq-eqb u 1 e, le-ltb n w h)
-
-  pub child-high : u ≡ 1 → n < w → ltb w c ≡ childOk n c u w
-  unfolding _&_
-  child-high e h = rw (eq-eqb u 1 e, lt-ltb n w h)
-
-module _ (old : List ℕ) (u w : ℕ) where
-  pub counted-none : ((u ≡ 1) → ⊥) → Counted old u w old
-  counted-none e m h l = rw (ne-eqb u 1 e) (omega arith)
-
-  pub counted-over : 256 ≤ w → Counted old u w old
-  counted-over g m h l = rw (ne-eqb w m (λ q. omega arith)) (go (eqb u 1))
-    where
-      go : (t : Bool) → getD old m 0 ≡ min 2 (getD old m 0 + cond (t && false) 1 0)
-      go true = omega arith
-      go false = omega arith
-
-  pub counted-full : u ≡ 1 → 2 ≤ getD old w 0 → Counted old u w old
-  counted-full e g m h l = rw (eq-eqb u 1 e) (go (eqb w m) refl)
-    where
-      go : (t : Bool) → eqb w m ≡ t → getD old m 0 ≡ min 2 (getD old m 0 + cond t 1 0)
-      go true q = let z : getD old w 0 ≡ getD old m 0 = ap (λ (j : ℕ). getD old j 0) (eqb-true w m q) in omega arith
-      go false q = omega arith
-
-  pub counted-more : u ≡ 1 → w < length old → getD old w 0 < 2 → Counted old u w (set old w (getD old w 0 + 1))
-  counted-more e b g m h l = rw (eq-eqb u 1 e) (go (eqb w m) refl)
-    where
-      go : (t : Bool) → eqb w m ≡ t → getD (set old w (getD old w 0 + 1)) m 0 ≡ min 2 (getD old m 0 + cond t 1 0)
-      go true q =
-          let s : w ≡ m = eqb-true w m q in
-          let z : getD old w 0 ≡ getD old m 0 = ap (λ (j : ℕ). getD old j 0) s in
-          ap (λ (j : ℕ). getD (set old w (getD old w 0 + 1)) j 0) (sym s) ∙ getD-set-same old w (getD old w 0 + 1) 0 b ∙ omega arith
-      go false q = getD-set-other old w m (getD old w 0 + 1) 0 (λ s. eqb-false w m q (sym s)) ∙ omega arith
-
-pub tallied : (old c0 c1 c2 c3 : List ℕ) (x : Node) → Counted old (useOf x 0) (x .a) c0 → Counted c0 (useOf x 1) (x .b) c1 → Counted c1 (useOf x 2) (x .c) c2 → Counted c2 (useOf x 3) (x .d) c3 → Tallied old x c3
-tallied old c0 c1 c2 c3 x p q r s m h l =
-    let a = p m h l in
-    let b = q m h (omega arith) in
-    let c = r m h (omega arith) in
-    let d = s m h (omega arith) in
-    omega arith
-
-abbrev pub lowestOf : Res ℕ → Lowest
-lowestOf (refuse e) = Sound
-lowestOf (done n) = At n
-
--- HOW OFTEN A NODE IS A CHILD
-module _ (ns pool : List ℕ) (n : ℕ) (x : Node) (i : NodeIs ns n x) (m : ℕ) where
-  child-kind : (k : ℕ) → childFields (tab ns pool) m n 1 (uses k) ≡
-      one (getD (uses k) 0 0) (field (tab ns pool) n 1) m + (one (getD (uses k) 1 0) (field (tab ns pool) n 2) m + (one (getD (uses k) 2 0) (field (tab ns pool) n 3) m + one (getD (uses k) 3 0) (field (tab ns pool) n 4) m))
-  child-kind zero = refl
-  child-kind (suc zero) = refl
-  child-kind (suc (suc zero)) = refl
-  child-kind (suc (suc (suc zero))) = refl
-  child-kind (suc (suc (suc (suc zero)))) = refl
-  child-kind (suc (suc (suc (suc (suc zero))))) = omega arith
-  child-kind (suc (suc (suc (suc (suc (suc zero)))))) = omega arith
-  child-kind (suc (suc (suc (suc (suc (suc (suc k))))))) = refl
-
-  pub child-is : childTimes (tab ns pool) m n ≡ one (useOf x 0) (x .a) m + (one (useOf x 1) (x .b) m + (one (useOf x 2) (x .c) m + one (useOf x 3) (x .d) m))
-  unfolding childTimes
-  child-is = rw (i .f1, i .f2, i .f3, i .f4, ← i .k) (child-kind (x .kind))
-
-  pub tally-more : (old r : List ℕ) → m < 256 → Tallied old x r → getD old m 0 ≡ min 2 (timesChild (tab ns pool) m n) → getD r m 0 ≡ min 2 (timesChild (tab ns pool) m (n + 1))
-  unfolding timesChild
-  tally-more old r h t e =
-      let z = t m h (omega arith) in
-      let c = child-is in
-      rw (add-one n) (omega arith)
-
--- the first node at which a test fails
-module _ (f : ℕ → Bool) (c i : ℕ) where
-  pub bad-more : i < c → f i ≡ true → firstBad f (c - i) i ≡ firstBad f (c - (i + 1)) (i + 1)
-  unfolding firstBad
-  bad-more h e = ap (λ (k : ℕ). firstBad f k i) step ∙ rw (e, firstBad)
-    where
-      step : c - i ≡ suc (c - (i + 1))
-      step = omega arith
-
-  pub bad-here : i < c → f i ≡ false → firstBad f (c - i) i ≡ done i
-  unfolding firstBad
-  bad-here h e = ap (λ (k : ℕ). firstBad f k i) step ∙ rw (e, firstBad)
-    where
-      step : c - i ≡ suc (c - (i + 1))
-      step = omega arith
-
-  pub bad-none : c ≤ i → firstBad f (c - i) i ≡ refuse 0
-  unfolding firstBad
-  bad-none h = ap (λ (k : ℕ). firstBad f k i) step
-    where
-      step : c - i ≡ 0
-      step = omega arith
-
--- CHECK 3
-unfoldable pub fine3 : ℕ → ℕ → ℕ → Node → Bool
-fine3 n c k x = fields4 (childOk n c) x & (eqb n 0 or eqb k 1)
-
-pub fine3-is : (ns pool : List ℕ) (n k : ℕ) (x : Node) → NodeIs ns n x → k ≡ min 2 (timesChild (tab ns pool) n (count (tab ns pool))) → fine3 n (count (tab ns pool)) k x ≡ check3 (tab ns pool) n
-unfolding fine3 check3
-fine3-is ns pool n k x i e =
-    ap₂ _&_ (sym (fields-are (childOk n (count (tab ns pool))) ns pool n x i (inr λ w. refl)))
-    (ap (λ (b : Bool). eqb n 0 or b) (eqb-same k 1 (timesChild (tab ns pool) n (count (tab ns pool))) 1 (λ q. omega arith) (λ q. omega arith)))
-
-pub fine-no : (n c k : ℕ) (x : Node) → fields4 (childOk n c) x ≡ false → false ≡ fine3 n c k x
-unfolding fine3 _&_
-fine-no n c k x e = rw e
-
-pub fine-root : (n c k : ℕ) (x : Node) → fields4 (childOk n c) x ≡ true → n ≡ 0 → true ≡ fine3 n c k x
-unfolding fine3 _&_ _or_
-fine-root n c k x e z = rw (e, eq-eqb n 0 z)
-
-pub fine-once : (n c k : ℕ) (x : Node) → fields4 (childOk n c) x ≡ true → ((n ≡ 0) → ⊥) → eqb k 1 ≡ fine3 n c k x
-unfolding fine3 _&_ _or_
-fine-once n c k x e z = rw (e, ne-eqb n 0 z)
-
-pub tally-none : (ns pool : List ℕ) (m k : ℕ) → k ≡ 0 → k ≡ min 2 (timesChild (tab ns pool) m 0)
-unfolding timesChild
-tally-none ns pool m k e = e
-
-pub tally-all : (ns pool : List ℕ) (m k n c : ℕ) → n ≡ c → k ≡ min 2 (timesChild (tab ns pool) m n) → k ≡ min 2 (timesChild (tab ns pool) m c)
-tally-all ns pool m k n c e p = p ∙ ap (λ (j : ℕ). min 2 (timesChild (tab ns pool) m j)) e
-
-pub bad-start : (f : ℕ → Bool) (c : ℕ) → firstBad f c 0 ≡ firstBad f (c - 0) 0
-bad-start f c = ap (λ (k : ℕ). firstBad f k 0) same
-  where
-    same : c ≡ c - 0
-    same = omega arith
-
--- CHECK 2
-abbrev pub blankOk : ℕ → ℕ → Bool
-blankOk u w = implies (eqb u 0) (eqb w 0)
-
-unfoldable pub fine2 : Node → Bool
-fine2 x = leb (x .kind) 6 & fields4 blankOk x
-
-pub fine2-is : (ns pool : List ℕ) (n : ℕ) (x : Node) → NodeIs ns n x → fine2 x ≡ check2 (tab ns pool) n
-unfolding fine2 check2 _&_
-fine2-is ns pool n x i = go (leb (x .kind) 6) refl ∙ ap (λ (j : ℕ). leb j 6 & fieldsOk (tab ns pool) blankOk n) (i .k)
-  where
-    go : (b : Bool) → leb (x .kind) 6 ≡ b → b & fields4 blankOk x ≡ b & fieldsOk (tab ns pool) blankOk n
-    go true e = sym (fields-are blankOk ns pool n x i (inl e))
-    go false e = refl
-
-pub two-yes : (x : Node) (r : Bool) → x .kind ≤ 6 → r ≡ fields4 blankOk x → r ≡ fine2 x
-unfolding fine2 _&_
-two-yes x r h e = e ∙ rw (le-leb (x .kind) 6 h)
-
-pub two-no : (x : Node) → 6 < x .kind → false ≡ fine2 x
-unfolding fine2 _&_
-two-no x h = rw (lt-leb (x .kind) 6 h)
-
-pub blank-at : (u w : ℕ) → u ≡ 0 → eqb w 0 ≡ blankOk u w
-blank-at u w e = rw (eq-eqb u 0 e)
-
-pub blank-not : (u w : ℕ) → ((u ≡ 0) → ⊥) → true ≡ blankOk u w
-blank-not u w e = rw (ne-eqb u 0 e)
-
--- CHECK 4
-abbrev pub namedOk : ℕ → ℕ → Bool
-namedOk u w = implies (eqb u 2) (leb w 63) & implies (eqb u 3) (leb w 65)
-
-pub fine4-is : (ns pool : List ℕ) (n : ℕ) (x : Node) → NodeIs ns n x → fields4 namedOk x ≡ check4 (tab ns pool) n
-unfolding check4 _&_
-fine4-is ns pool n x i = sym (fields-are namedOk ns pool n x i (inr λ w. refl))
-
--- a field with one of two uses
-module _ (u a b : ℕ) (p q : Bool) (d : (a ≡ b) → ⊥) where
-  pub first-use : u ≡ a → p ≡ implies (eqb u a) p & implies (eqb u b) q
-  unfolding _&_
-  first-use e = rw (eq-eqb u a e, ne-eqb u b (λ z. d (sym e ∙ z))) (go p)
-    where
-      go : (p : Bool) → p ≡ p & true
-      go true = refl
-      go false = refl
-
-  pub second-use : u ≡ b → q ≡ implies (eqb u a) p & implies (eqb u b) q
-  unfolding _&_
-  second-use e = rw (ne-eqb u a (λ z. d (sym z ∙ e)), eq-eqb u b e)
-
-  pub no-use : ((u ≡ a) → ⊥) → ((u ≡ b) → ⊥) → true ≡ implies (eqb u a) p & implies (eqb u b) q
-  unfolding _&_
-  no-use e f = rw (ne-eqb u a e, ne-eqb u b f)
-
--- CHECK 5
-abbrev pub placedOk : List ℕ → ℕ → ℕ → Bool
-placedOk pool u w = implies (eqb u 4) (isDone (at isPublic pool w)) & implies (eqb u 5) (patternOk pool w)
-
-pub fine5-is : (ns pool : List ℕ) (n : ℕ) (x : Node) → NodeIs ns n x → fields4 (placedOk pool) x ≡ check5 (tab ns pool) n
-unfolding check5 _&_
-fine5-is ns pool n x i = sym (fields-are (placedOk pool) ns pool n x i (inr λ w. refl))
+-- the counts r are the counts `old`, each up to 2, and k more of them for each node m
+pub record Counted (old : List ℕ) (k : ℕ → ℕ) (r : List ℕ) : Type 0 where
+  pub len : length r ≡ length old
+  pub at : (m : ℕ) → m < length old → getD old m 0 ≤ 2 → getD r m 0 ≡ min 2 (getD old m 0 + k m)

@@ -1,0 +1,37 @@
+-- `scopes::names::is_parent` meets its contract.
+use mathlib.Core.Path.{_∙_}
+use Rattle.scopes.proofs.NameLaws.{parent-by}
+use borrow.Author.Needs.{needs}
+use Rattle.scopes.proofs.names.is_parent.Statement.{statement}
+use Rattle.scopes.proofs.names.is_parent.Tie as tie
+use Rattle.scopes.proofs.names.any_of_four.Reads as any-of-four-reads
+use Rattle.scopes.proofs.names.is_child.Reads as is-child-reads
+
+is-child-requires : tie.Need-is-child-requires
+is-child-requires c κs = search needs
+
+is-child-requires-2 : tie.Need-is-child-requires-2
+is-child-requires-2 c κs = search needs
+
+is-child-requires-3 : tie.Need-is-child-requires-3
+is-child-requires-3 c κs = search needs
+
+is-child-requires-4 : tie.Need-is-child-requires-4
+is-child-requires-4 c κs = search needs
+
+any-of-four-requires : tie.Need-any-of-four-requires
+any-of-four-requires c κs = search needs
+
+returns : tie.Need-returns
+returns c = c .any-of-four .ensures ∙ parent-by (c .before .before .before .before .before .args .x) (c .before .before .before .before .before .args .m) _ _ _ _ (c .before .before .before .before .is-child .ensures) (c .before .before .before .is-child2 .ensures) (c .before .before .is-child3 .ensures) (c .before .is-child4 .ensures)
+
+pub is-parent-spec : {M : Type 1} → statement M
+is-parent-spec =
+    tie.close
+    (tie.spec
+    is-child-requires
+    is-child-requires-2
+    is-child-requires-3
+    is-child-requires-4
+    any-of-four-requires
+    returns)
