@@ -22,7 +22,7 @@ use Rattle.tables.specs.declared.nodes.Node.{Node}
 use Rattle.tables.specs.Nodes.{table, NodeIs, patternNames}
 use Rattle.tables.specs.Scope.{Walks}
 use Rattle.tables.proofs.WalkLaws.{at-kind, at-input, at-nil}
-use Rattle.tables.proofs.PoolLaws.{binders-append}
+use Rattle.values.proofs.Names.{binders-append}
 use Rattle.scopes.specs.Walk.{Step}
 use Rattle.scopes.specs.FreeUses.{nameClear, tagClear, hide, clearIn, clearAt}
 use Rattle.scopes.proofs.StepLaws.{to-left, to-right, to-box, to-new, to-body}

@@ -18,7 +18,7 @@ use Rattle.tables.specs.Nodes.{table, NodeIs, patternNames}
 use Rattle.tables.specs.Scope.{Walks, nodeIfOver, overAt}
 use Rattle.tables.specs.Checks.{lowestOf}
 use Rattle.tables.proofs.WalkLaws.{at-kind, at-input, at-leaf}
-use Rattle.tables.proofs.PoolLaws.{binders-append}
+use Rattle.values.proofs.Names.{binders-append}
 
 pub over-few : (k n : ℕ) → k ≤ 8 → 256 ≡ nodeIfOver k n
 unfolding nodeIfOver

@@ -10,7 +10,7 @@ use native.Mathlib.Omega.{arith}
 use borrow.Author.Needs.{needs}
 use Rattle.tables.proofs.pool.names_at.Statement.{statement}
 use Rattle.tables.proofs.pool.names_at.Tie as tie
-use Rattle.tables.proofs.pool.names_in.Reads as names-in-reads
+use Rattle.values.proofs.names_in.Reads as names-in-reads
 use Rattle.tables.proofs.pool.words_at.Reads as words-at-reads
 
 -- src/pool.rt:48:14
