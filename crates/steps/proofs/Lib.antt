@@ -1,0 +1,7 @@
+pub mod Settling
+pub mod CoreSteps
+pub mod Held
+pub mod LobbySteps
+pub mod ParticleSteps
+pub mod EnterSteps
+pub mod Outcomes

@@ -1,0 +1,60 @@
+// The steps of a side but meet: each takes a side by value and gives its label, its value and the side after it, or a refusal beside the old side.
+ghost use mathlib.Core.Path.{_≡_};
+ghost use Rattle.steps.specs.Asked.{Says, numberOf};
+use sides::Side;
+use values::Value;
+
+mod enter_step;
+mod lobby_steps;
+mod particle_steps;
+mod take_step;
+
+pub use enter_step::enter;
+pub use lobby_steps::down;
+pub use lobby_steps::leave;
+pub use lobby_steps::pass;
+pub use particle_steps::descend;
+pub use particle_steps::up;
+pub use take_step::take;
+
+// A step's label, or the number of its refusal.
+pub enum Said {
+    In,
+    Out,
+    Silent,
+    Refused(u32),
+}
+
+pub struct SideStep {
+    pub said: Said,
+    pub value: Value,
+    pub side: Side,
+}
+
+// What a check of a step answers: the position that it may act on, or the number of a refusal.
+pub enum Offer {
+    At(usize),
+    Refused(u32),
+}
+
+impl Offer {
+    // The number of a refusal.
+    fn number(self) -> u32
+        ensures { λ r. ⌜ r ≡ numberOf self ⌝ }
+    {
+        match self {
+            Offer::At(_) => 0,
+            Offer::Refused(n) => n,
+        }
+    }
+}
+
+impl SideStep {
+    // What is said, with no value, beside a side.
+    fn plain(said: Said, side: Side) -> Self
+        ensures { λ r. ⌜ Says said side r ⌝ }
+    {
+        let value = Value::none();
+        SideStep { said, value, side }
+    }
+}

@@ -1,0 +1,30 @@
+use mathlib.Core.Path.{ap₂, _∙_}
+use Prim.Native.Nat.{_+_}
+use lib.ListN.{length}
+use borrow.Author.Tests.{leb-true}
+use Rattle.model.specs.Values.{word}
+use Rattle.values.specs.Env.{viewEnv}
+use Rattle.unfolding.specs.Views.{viewNews}
+use borrow.Author.Needs.{needs}
+use Rattle.unfolding.proofs.settle.box_name.Statement.{statement}
+use Rattle.unfolding.proofs.settle.box_name.Tie as tie
+
+-- src/settle.rt:169:13
+env-below-requires : tie.Need-env-below-requires
+env-below-requires c κs = c .before .pre
+
+-- src/settle.rt:169:36
+word-of-byte-requires : tie.Need-word-of-byte-requires
+word-of-byte-requires c κs = search needs
+
+-- src/settle.rt:169:5
+word-at-requires : tie.Need-word-at-requires
+word-at-requires c κs = search needs
+
+-- src/settle.rt:164:1
+returns : tie.Need-returns
+returns c = let a = c .before .before .before .before .args in λ h. c .word-at .ensures ∙ ap₂ word (c .before .before .env-below .ensures (leb-true (length (viewEnv (a .e) .names) + length (viewNews (a .q .news) .names)) 8 h)) (c .before .word-of-byte .ensures .0)
+
+pub box-name-spec : {M : Type 1} → statement M
+box-name-spec =
+    tie.close (tie.spec env-below-requires word-of-byte-requires word-at-requires returns)

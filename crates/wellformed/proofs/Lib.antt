@@ -1,0 +1,5 @@
+pub mod RowLaws
+pub mod HeldLaws
+pub mod ListLaws
+pub mod ParticleLaws
+pub mod WholeLaws

@@ -1,0 +1,68 @@
+-- `values_ok`: The values before k are held.
+use mathlib.Core.Path.{_∙_, _≡_, refl, sym}
+use mathlib.Core.List.{map}
+use Prim.Native.Nat.{_-_, _≤_}
+use native.Mathlib.Omega.{arith}
+use borrow.Author.Needs.{needs}
+use lib.ListN.{length, take}
+use Rattle.model.specs.WellFormed.{wfValue}
+use Rattle.values.specs.Env.{viewValue}
+use Rattle.sides.proofs.Lists.{unmap}
+use Rattle.wellformed.specs.Clauses.{countsOf}
+use Rattle.wellformed.proofs.RowLaws.{Passed, from-every, rows-all, rows-more, rows-not}
+use Rattle.wellformed.proofs.lists.values_ok.Statement.{statement}
+use Rattle.wellformed.proofs.lists.values_ok.Tie as tie
+
+abbrev Inv-loop : tie.InvT-loop
+Inv-loop c1 c2 n vals m k₀ k = (k ≤ m) × Passed (λ j x. wfValue (countsOf c1 c2) x) (map viewValue (take n vals)) 0 k
+
+abbrev μ-loop : tie.MeasureT-loop
+μ-loop c1 c2 n vals m k₀ k = m - k
+
+capped-requires : tie.Need-capped-requires Inv-loop μ-loop
+capped-requires c κs = search needs
+
+loop-holds : tie.Need-loop-holds Inv-loop μ-loop
+loop-holds c = (omega arith, refl)
+
+mul-x : tie.Need-mul-x Inv-loop μ-loop
+mul-x c = omega arith
+
+array-copy-out-x : tie.Need-array-copy-out-x Inv-loop μ-loop
+array-copy-out-x c = omega arith
+
+held-value-requires : tie.Need-held-value-requires Inv-loop μ-loop
+held-value-requires c κs = search needs
+
+add-k : tie.Need-add-k Inv-loop μ-loop
+add-k c = omega arith
+
+loop-less : tie.Need-loop-less Inv-loop μ-loop
+loop-less c = omega arith
+
+loop-again : tie.Need-loop-again Inv-loop μ-loop
+loop-again c =
+    let a = c .before .before .before .before .before .before .args in
+    let k = countsOf (a .c1) (a .c2) in
+    let l = a .t3 in
+    let full : length (l) ≡ 8 = search unmap in
+    (omega arith, rows-more viewValue (λ j x. wfValue k x) l (a .n) 8 _ full (c .before .before .before .before .before .capped .ensures) (c .before .before .before .before .loop .k) _ (omega arith) (sym (c .before .held-value .ensures) ∙ c .if1 .taken) (c .before .before .before .before .loop .inv .1))
+
+returns : tie.Need-returns Inv-loop μ-loop
+returns c =
+    let a = c .before .before .before .before .before .before .args in
+    let k = countsOf (a .c1) (a .c2) in
+    let l = a .t3 in
+    let full : length (l) ≡ 8 = search unmap in
+    rows-not viewValue (λ j x. wfValue k x) l (a .n) 8 _ full (c .before .before .before .before .before .capped .ensures) (c .before .before .before .before .loop .k) _ (omega arith) (sym (c .before .held-value .ensures) ∙ c .if1 .left) (c .before .before .before .before .loop .inv .1) ∙ from-every (wfValue k) 0 _
+
+returns-2 : tie.Need-returns-2 Inv-loop μ-loop
+returns-2 c =
+    let a = c .before .before .before .args in
+    let k = countsOf (a .c1) (a .c2) in
+    let l = a .t3 in
+    let full : length (l) ≡ 8 = search unmap in
+    rows-all viewValue (λ j x. wfValue k x) l (a .n) 8 _ full (c .before .before .capped .ensures) (c .before .loop .k) (omega arith) (c .before .loop .inv .1) ∙ from-every (wfValue k) 0 _
+
+pub values-ok-spec : {M : Type 1} → statement M
+values-ok-spec = tie.close (tie.spec Inv-loop μ-loop capped-requires loop-holds mul-x array-copy-out-x held-value-requires add-k loop-less loop-again returns returns-2)

@@ -1,0 +1,94 @@
+//! How often each label, load number, refusal and line fault came up.
+
+use crate::steps::Label;
+use crate::Outcome;
+use std::collections::BTreeMap;
+
+/// Something worth counting in an output.
+#[derive(Clone, Copy, Debug, PartialEq, Eq, PartialOrd, Ord)]
+pub enum Feature {
+    /// A label: `in`, `out` or `tau`.
+    Label(&'static str),
+    /// A load refusal's number.
+    Load(u32),
+    /// A step refusal's number.
+    Refusal(u32),
+    /// A line fault.
+    Line,
+    /// Tables that load.
+    Loaded,
+}
+
+/// Every feature that a set of inputs should reach.
+pub fn all_features() -> Vec<Feature> {
+    let mut all: Vec<Feature> = ["in", "out", "tau"].map(Feature::Label).to_vec();
+    all.extend((1..=7).map(Feature::Load));
+    all.extend((10..=17).map(Feature::Refusal));
+    all.extend([Feature::Line, Feature::Loaded]);
+    all
+}
+
+/// The features of an outcome, each as often as it occurs.
+pub fn features(outcome: &Outcome) -> Vec<Feature> {
+    match outcome {
+        Outcome::Line(_) => vec![Feature::Line],
+        Outcome::Refused(refusal) => vec![Feature::Load(refusal.number)],
+        Outcome::Ran(answers) => {
+            let of_answer = |answer: &crate::steps::Answer| match &answer.outcome {
+                Ok(Label::In(_)) => Feature::Label("in"),
+                Ok(Label::Out(_)) => Feature::Label("out"),
+                Ok(Label::Silent) => Feature::Label("tau"),
+                Err(refusal) => Feature::Refusal(refusal.number()),
+            };
+            let mut found = vec![Feature::Loaded];
+            found.extend(answers.iter().map(of_answer));
+            found
+        }
+    }
+}
+
+/// Counts of features.
+#[derive(Clone, Debug, Default)]
+pub struct Tally {
+    counts: BTreeMap<Feature, usize>,
+}
+
+impl Tally {
+    /// Counts an outcome's features; true if one of them is new.
+    pub fn add(&mut self, outcome: &Outcome) -> bool {
+        let mut new = false;
+        for feature in features(outcome) {
+            let count = self.counts.entry(feature).or_insert(0);
+            new |= *count == 0;
+            *count += 1;
+        }
+        new
+    }
+
+    /// How often a feature came up.
+    pub fn count(&self, feature: Feature) -> usize {
+        self.counts.get(&feature).copied().unwrap_or(0)
+    }
+
+    /// The features that never came up.
+    pub fn missing(&self) -> Vec<Feature> {
+        let mut all = all_features();
+        all.retain(|feature| self.count(*feature) == 0);
+        all
+    }
+
+    /// A line for each feature.
+    pub fn print(&self) -> String {
+        let line = |feature: Feature| {
+            let name = match feature {
+                Feature::Label(label) => format!("label {label}"),
+                Feature::Load(number) => format!("load {number}"),
+                Feature::Refusal(number) => format!("refusal {number}"),
+                Feature::Line => String::from("line fault"),
+                Feature::Loaded => String::from("loaded"),
+            };
+            format!("{name}: {}\n", self.count(feature))
+        };
+        all_features().into_iter().map(line).collect()
+    }
+}
