@@ -1,0 +1,28 @@
+use mathlib.Core.Path.{_≡_, refl, sym, ap, _∙_}
+use Rattle.tables.specs.declared.checks.Verdict.{Verdict}
+use Rattle.interpreter.specs.Loading.{atSide}
+use native.Mathlib.Omega.{arith}
+use borrow.Author.Needs.{needs}
+use Rattle.interpreter.proofs.loading.at_side.Statement.{statement}
+use Rattle.interpreter.proofs.loading.at_side.Tie as tie
+use Rattle.interpreter.proofs.loading.at_side.Reads as reads
+use Rattle.interpreter.proofs.loading.at_side.Lts as lts
+
+-- src/loading.rt:58:28
+enum-told : tie.Need-enum-told
+enum-told c = search needs
+
+-- src/loading.rt:59:26
+enum-known-v : tie.Need-enum-known-v
+enum-known-v c = search needs
+
+-- src/loading.rt:54:1
+returns : tie.Need-returns
+returns c = search needs
+
+-- src/loading.rt:54:1
+returns-2 : tie.Need-returns-2
+returns-2 c = sym (ap (λ (y : Verdict). atSide y (c .before .before .before .args .side)) (c .before .v .given .1))
+
+pub at-side-spec : {M : Type 1} → statement M
+at-side-spec = tie.close (tie.spec enum-told enum-known-v returns returns-2)
