@@ -126,7 +126,7 @@ pub enum Stage {
     Down(Name),
     /// Came up out of box 0 on this channel.
     Arrived(Name),
-    /// On its way to the street, on `out`.
+    /// On its way to the environment, on `out`.
     Leaving,
 }
 

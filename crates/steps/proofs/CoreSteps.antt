@@ -206,8 +206,8 @@ module _ (s : Core) (sh : every short (s .contents .particles) ≡ true) (few : 
     unfolding descendParticle
     descend-13 t = settled-refused _ _ (descend-at i j (output b ch g v) x e f ∙ need-false _ _ _ t)
 
-    pub descend-13-street : j ≡ 0 → settled (descend s i j) ≡ refuse 13
-    descend-13-street z = descend-13 (no-left _ _ (ap not (eq-eqb j 0 z)))
+    pub descend-13-handler-box : j ≡ 0 → settled (descend s i j) ≡ refuse 13
+    descend-13-handler-box z = descend-13 (no-left _ _ (ap not (eq-eqb j 0 z)))
 
     pub descend-13-parent : (x .parent ≡ b → ⊥) → settled (descend s i j) ≡ refuse 13
     descend-13-parent n = descend-13 (no-right _ _ (no-left _ _ (ne-eqb _ _ n)))

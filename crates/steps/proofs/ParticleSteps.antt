@@ -64,8 +64,8 @@ module _ (o : Side) (i : ℕ) (ok : Sane o) (full : Full o) where
       descend-no-output e = core.descend-input (viewCore o) (ok .short-outputs) (ok .few) i j _ _ _ _ (input-at o ok full i d h e) (box-at o ok full j y b)
 
       module _ (e : getD (o .particles .rows) i d .«is_output» ≡ true) where
-        pub descend-street : j ≡ 0 → settled (descend (viewCore o) i j) ≡ refuse 13
-        descend-street z = core.descend-13-street (viewCore o) (ok .short-outputs) (ok .few) i j _ _ _ _ _ (output-at o ok full i d h e) (box-at o ok full j y b) z
+        pub descend-handler-box : j ≡ 0 → settled (descend (viewCore o) i j) ≡ refuse 13
+        descend-handler-box z = core.descend-13-handler-box (viewCore o) (ok .short-outputs) (ok .few) i j _ _ _ _ _ (output-at o ok full i d h e) (box-at o ok full j y b) z
 
         pub descend-parent : (getD (o .boxes .rows) j y .parent ≡ getD (o .particles .rows) i d .at → ⊥) → settled (descend (viewCore o) i j) ≡ refuse 13
         descend-parent n = core.descend-13-parent (viewCore o) (ok .short-outputs) (ok .few) i j _ _ _ _ _ (output-at o ok full i d h e) (box-at o ok full j y b) n

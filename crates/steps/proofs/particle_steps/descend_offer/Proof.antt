@@ -1,7 +1,7 @@
 use mathlib.Core.Path.{refl, sym, _∙_}
 use Rattle.sides.proofs.Lists.{unmap}
 use Rattle.steps.proofs.Held.{Full, particles-cap, boxes-cap}
-use Rattle.steps.proofs.ParticleSteps.{descend-past, descend-no-box, descend-no-output, descend-street, descend-parent, descend-name, descend-may}
+use Rattle.steps.proofs.ParticleSteps.{descend-past, descend-no-box, descend-no-output, descend-handler-box, descend-parent, descend-name, descend-may}
 use borrow.Author.Tests.{not-true, not-false}
 use native.Mathlib.Omega.{arith}
 use borrow.Author.Needs.{needs}
@@ -33,7 +33,7 @@ returns-3 : tie.Need-returns-3
 returns-3 c = let x = c .before .before .before .before .before .before .before .before in let o = x .args .o in let i = x .args .i in let j = x .args .j in descend-no-output o i (x .pre) (full x) _ (c .before .before .before .before .before .if1 .left) j (record { name = 0; parent = 0 }) (c .before .before .before .before .if2 .left) (not-true _ (c .if3 .taken))
 
 returns-4 : tie.Need-returns-4
-returns-4 c = let x = c .before .before .before .before .before .before .before .before .before in let o = x .args .o in let i = x .args .i in let j = x .args .j in descend-street o i (x .pre) (full x) _ (c .before .before .before .before .before .before .if1 .left) j (record { name = 0; parent = 0 }) (c .before .before .before .before .before .if2 .left) (not-false _ (c .before .if3 .left)) (c .if4 .taken)
+returns-4 c = let x = c .before .before .before .before .before .before .before .before .before in let o = x .args .o in let i = x .args .i in let j = x .args .j in descend-handler-box o i (x .pre) (full x) _ (c .before .before .before .before .before .before .if1 .left) j (record { name = 0; parent = 0 }) (c .before .before .before .before .before .if2 .left) (not-false _ (c .before .if3 .left)) (c .if4 .taken)
 
 returns-5 : tie.Need-returns-5
 returns-5 c = let x = c .before .before .before .before .before .before .before .before .before .before .before .before in let o = x .args .o in let i = x .args .i in let j = x .args .j in descend-parent o i (x .pre) (full x) _ (c .before .before .before .before .before .before .before .before .before .if1 .left) j _ (c .before .before .before .before .before .before .before .before .if2 .left) (not-false _ (c .before .before .before .before .if3 .left)) (c .if5 .taken)
