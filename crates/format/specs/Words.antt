@@ -1,0 +1,87 @@
+-- A run by words: how steps are asked for, and how answers are given.
+use mathlib.Core.List.{List, [], _∷_, _++_}
+use mathlib.Core.Option.{Option, none, some}
+use Prim.Native.Nat.{ℕ, zero, suc, _*_}
+use mathlib.Core.Bool.{true, false}
+use lib.Dec.{ltb}
+use lib.ListN.{length, take, drop}
+use Rattle.model.specs.Side.{State}
+use Rattle.model.specs.Load.{Composition, Refused, Loaded, refused, ok, load}
+use Rattle.model.specs.Step.{Label, silent, enters, leaves, Step, Answer, labelled, refusal, step}
+use Rattle.model.specs.Answer.{given}
+
+-- a step before the steps of the rest; none where there are none
+unfoldable pub before : Step → Option (List Step) → Option (List Step)
+before x none = none
+before x (some xs) = some (x ∷ xs)
+
+-- the steps of a list of words, after c words that the step before has: for each step kind, side, i, j, the count of its
+-- value words, and these. None where the list breaks off
+unfoldable pub stepsAfter : List ℕ → (c : ℕ) → Option (List Step)
+stepsAfter [] zero = some []
+stepsAfter [] (suc c) = none
+stepsAfter (w ∷ ws) (suc c) = stepsAfter ws c
+stepsAfter (k ∷ []) zero = none
+stepsAfter (k ∷ n ∷ []) zero = none
+stepsAfter (k ∷ n ∷ i ∷ []) zero = none
+stepsAfter (k ∷ n ∷ i ∷ j ∷ []) zero = none
+stepsAfter (k ∷ n ∷ i ∷ j ∷ c ∷ ws) zero = before (record { kind = k; side = n; i = i; j = j; words = take c ws }) (stepsAfter ws c)
+
+abbrev pub stepsOf : List ℕ → Option (List Step)
+stepsOf ws = stepsAfter ws 0
+
+-- a step in words
+abbrev pub stepWords : Step → List ℕ
+stepWords x = x .kind ∷ x .side ∷ x .i ∷ x .j ∷ length (x .words) ∷ x .words
+
+abbrev pub allStepWords : List Step → List ℕ
+allStepWords [] = []
+allStepWords (x ∷ xs) = stepWords x ++ allStepWords xs
+
+-- what an answer says, in two words: 0 silent, 1 in, 2 out, 3 refused; and the refusal's number
+abbrev pub saidWords : Answer → List ℕ
+saidWords (labelled silent n v) = 0 ∷ 0 ∷ []
+saidWords (labelled enters n v) = 1 ∷ 0 ∷ []
+saidWords (labelled leaves n v) = 2 ∷ 0 ∷ []
+saidWords (refusal k n) = 3 ∷ k ∷ []
+
+-- an answer in 20 words: what it says, its side, its value's length, and 16 words, zero past the length
+abbrev pub answerWords : Answer → List ℕ
+answerWords a = saidWords a ++ (given a .side ∷ given a .len ∷ given a .words)
+
+abbrev pub allAnswerWords : List Answer → List ℕ
+allAnswerWords [] = []
+allAnswerWords (a ∷ xs) = answerWords a ++ allAnswerWords xs
+
+-- the answers of a run from s. Each step gets what the step before returned or left; a refusal does not end the run
+unfoldable pub answers : Composition → State → List Step → List Answer
+answers b s [] = []
+answers b s (x ∷ xs) = let r = step b s x in r .answer ∷ answers b (r .after) xs
+
+-- what a run comes to: its steps break off, the words lent for the answers are too few, load refuses, or the answers
+pub data Ran : Type 0 where
+  brokenOff tooShort : Ran
+  unloaded : Refused → Ran
+  answered : List Answer → Ran
+
+-- a run of the steps in a list of words, with room for some words
+unfoldable pub runOf : Composition → List ℕ → (room : ℕ) → Ran
+runOf b ws room =
+    elim (stepsOf ws) [
+      | none ↦ brokenOff
+      | some xs ↦ elim (ltb room (20 * length xs)) [
+        | true ↦ tooShort
+        | false ↦ elim (load b) [ refused e ↦ unloaded e | ok s ↦ answered (answers b s xs) ]
+      ]
+    ]
+
+-- the words that a run writes
+abbrev pub writtenBy : Ran → List ℕ
+writtenBy brokenOff = []
+writtenBy tooShort = []
+writtenBy (unloaded e) = []
+writtenBy (answered xs) = allAnswerWords xs
+
+-- a lent list with some words written at its start
+abbrev pub onto : (written lent : List ℕ) → List ℕ
+onto ws l = ws ++ drop (length ws) l

@@ -1,0 +1,1 @@
+// A run by words and a run by lines: definitions and their laws. No code.
