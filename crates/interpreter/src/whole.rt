@@ -84,7 +84,7 @@ fn refused(s: State, side: u32) -> Stepped
 }
 
 // A step of a state that is well formed for tables that load takes.
-fn step_unchecked(
+pub(crate) fn step_unchecked(
     wrapper: u32,
     nodes1: &[u32],
     pool1: &[u32],
