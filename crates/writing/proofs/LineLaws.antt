@@ -17,6 +17,7 @@ value-in ws side n s e =
     let i : 4 + n - 4 ≡ min (getD ws 3 0) 16 = omega arith in
     rw (s, i)
 
+-- by the first word: silent, in, out, and any other
 pub says-silent : (ws : List ℕ) → getD ws 0 0 ≡ 0 → wordTau ≡ sayingIn ws
 unfolding sayingIn
 says-silent ws e = simp (eq-eqb _ _ e)
@@ -39,6 +40,7 @@ part-at answers from =
     let e : from + 20 - from ≡ 20 = omega arith in
     rw e
 
+-- these are 20
 pub part-length : (answers : List ℕ) (from : ℕ) → from + 20 ≤ length answers → length (take (from + 20 - from) (drop from answers)) ≡ 20
 part-length answers from h = ap length (part-at answers from) ∙ length-take-le 20 (drop from answers) (omega (arith, length-drop from answers))
 

@@ -2,8 +2,8 @@
 //
 // Each exported function answers how many bytes it wrote. Its contract equates these with a definition of crate format, and asks
 // nothing of the caller. Each inner function writes at a place of the buffer and answers the next place.
-mod lines;
-mod numbers;
+mod lines; // the line of an answer
+mod numbers; // bytes, numbers and fields
 
 ghost use mathlib.Core.Path.{_≡_};
 ghost use mathlib.Core.List.{List, _∷_, _++_};

@@ -29,7 +29,9 @@ put-requires : tie.Need-put-requires Inv-loop μ-loop
 put-requires c κs = search needs
 
 loop-holds : tie.Need-loop-holds Inv-loop μ-loop
-loop-holds c = (search needs, search needs, omega (arith, c .put .ensures .end), search needs, λ xs e w. ap (λ l. l ++ answerLines 0 xs) (c .put .ensures .text))
+loop-holds c =
+    let first = c .put .ensures in
+    (search needs, search needs, omega (arith, first .end), search needs, λ xs e w. ap (λ l. l ++ answerLines 0 xs) (first .text))
 
 put-line-requires : tie.Need-put-line-requires Inv-loop μ-loop
 put-line-requires c κs = search needs
@@ -41,7 +43,11 @@ loop-less : tie.Need-loop-less Inv-loop μ-loop
 loop-less c = search needs
 
 loop-again : tie.Need-loop-again Inv-loop μ-loop
-loop-again c = let a = c .before .before .before .before .before .before .before .before .before .args in let l = c .before .before .before .before .loop in (search needs, search needs, omega (arith, c .put-line .ensures .1), c .put-line .ensures .0 .same ∙ l .inv .3, λ xs e w. line-more (a .answers .now) _ _ _ (a .n) (l .k) (l .at) _ xs (search needs) e w (search needs) (c .put-line .ensures .0) (l .inv .4 xs e w))
+loop-again c =
+    let a = c .before .before .before .before .before .before .before .before .before .args in
+    let l = c .before .before .before .before .loop in
+    let line = c .put-line .ensures in
+    (search needs, search needs, omega (arith, line .1), line .0 .same ∙ l .inv .3, λ xs e w. line-more (a .answers .now) _ _ _ (a .n) (l .k) (l .at) _ xs (search needs) e w (search needs) (line .0) (l .inv .4 xs e w))
 
 returns-2 : tie.Need-returns-2 Inv-loop μ-loop
 returns-2 c = let l = c .before .loop in (omega arith, λ xs e h w. line-none _ _ (l .k) xs (omega arith) (l .inv .4 xs e w))

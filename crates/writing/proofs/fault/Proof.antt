@@ -20,7 +20,11 @@ put-requires-2 : tie.Need-put-requires-2
 put-requires-2 c κs = search needs
 
 returns : tie.Need-returns
-returns c = (search needs, joined (joined (c .before .before .before .before .before .put .ensures) (c .before .before .before .put-field .ensures .0)) (c .put2 .ensures) .text)
+returns c =
+    let first = c .before .before .before .before .before .put .ensures in
+    let field = c .before .before .before .put-field .ensures in
+    let last = c .put2 .ensures in
+    (search needs, joined (joined first (field .0)) last .text)
 
 pub fault-spec : {M : Type 1} → statement M
 fault-spec =

@@ -28,7 +28,16 @@ put-requires-2 : tie.Need-put-requires-2
 put-requires-2 c κs = search needs
 
 returns : tie.Need-returns
-returns c = let a = c .before .before .before .before .before .before .before .before .before .before .before .before .args in let two = spelled (fields-joined (a .number ∷ []) (a .side ∷ [])) (joined (c .before .before .before .before .before .before .before .put-field .ensures .0) (c .before .before .before .before .before .put-field2 .ensures .0)) in let three = spelled (fields-joined (a .number ∷ a .side ∷ []) (a .node ∷ [])) (joined two (c .before .before .before .put-field3 .ensures .0)) in (search needs, joined (joined (c .before .before .before .before .before .before .before .before .before .put .ensures) three) (c .put2 .ensures) .text)
+returns c =
+    let a = c .before .before .before .before .before .before .before .before .before .before .before .before .args in
+    let field = c .before .before .before .before .before .before .before .put-field .ensures in
+    let second = c .before .before .before .before .before .put-field2 .ensures in
+    let third = c .before .before .before .put-field3 .ensures in
+    let first = c .before .before .before .before .before .before .before .before .before .put .ensures in
+    let last = c .put2 .ensures in
+    let two = spelled (fields-joined (a .number ∷ []) (a .side ∷ [])) (joined (field .0) (second .0)) in
+    let three = spelled (fields-joined (a .number ∷ a .side ∷ []) (a .node ∷ [])) (joined two (third .0)) in
+    (search needs, joined (joined first three) last .text)
 
 pub refused-spec : {M : Type 1} → statement M
 refused-spec =

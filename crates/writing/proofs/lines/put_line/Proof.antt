@@ -35,7 +35,11 @@ part-put-saying-end : tie.Need-part-put-saying-end
 part-put-saying-end c = search needs
 
 put-saying-requires : tie.Need-put-saying-requires
-put-saying-requires c κs = let a = c .before .before .before .before .before .before .before .before .before .before .before .before .before .args in (part-length (a .answers .now) (20 * a .index) (search needs), omega (arith, c .before .before .before .before .before .before .before .before .before .put-number .ensures .0 .same, c .before .before .before .before .put .ensures .same, c .before .before .before .before .put .ensures .end, c .before .before .before .before .before .before .before .before .before .put-number .ensures .1 .1 (search needs), c .before .before .before .before .before .before .before .before .before .before .before .before .before .pre))
+put-saying-requires c κs =
+    let a = c .before .before .before .before .before .before .before .before .before .before .before .before .before .args in
+    let number = c .before .before .before .before .before .before .before .before .before .put-number .ensures in
+    let first = c .before .before .before .before .put .ensures in
+    (part-length (a .answers .now) (20 * a .index) (search needs), omega (arith, number .0 .same, first .same, first .end, number .1 .1 (search needs), c .before .before .before .before .before .before .before .before .before .before .before .before .before .pre))
 
 slice-aggregate-put-2 : tie.Need-slice-aggregate-put-2
 slice-aggregate-put-2 c = search needs
@@ -47,7 +51,13 @@ same-length : tie.Need-same-length
 same-length c = search needs
 
 returns : tie.Need-returns
-returns c = let a = c .before .before .before .before .before .before .before .before .before .before .before .before .before .before .before .before .before .before .before .before .before .args in (spelled (line-in (a .index) _ _ (part-at (a .answers .now) (20 * a .index))) (joined (joined (joined (c .before .before .before .before .before .before .before .before .before .before .before .before .before .before .before .before .before .put-number .ensures .0) (c .before .before .before .before .before .before .before .before .before .before .before .before .put .ensures)) (c .before .before .before .before .before .before .before .put-saying .ensures .0)) (c .before .before .put2 .ensures)), omega (arith, c .before .before .before .before .before .before .before .before .before .before .before .before .before .before .before .before .before .put-number .ensures .1 .1 (search needs), c .before .before .before .before .before .before .before .before .before .before .before .before .put .ensures .end, c .before .before .before .before .before .before .before .put-saying .ensures .1, c .before .before .put2 .ensures .end))
+returns c =
+    let a = c .before .before .before .before .before .before .before .before .before .before .before .before .before .before .before .before .before .before .before .before .before .args in
+    let number = c .before .before .before .before .before .before .before .before .before .before .before .before .before .before .before .before .before .put-number .ensures in
+    let first = c .before .before .before .before .before .before .before .before .before .before .before .before .put .ensures in
+    let saying = c .before .before .before .before .before .before .before .put-saying .ensures in
+    let last = c .before .before .put2 .ensures in
+    (spelled (line-in (a .index) _ _ (part-at (a .answers .now) (20 * a .index))) (joined (joined (joined (number .0) first) (saying .0)) last), omega (arith, number .1 .1 (search needs), first .end, saying .1, last .end))
 
 pub put-line-spec : {M : Type 1} → statement M
 put-line-spec =

@@ -19,7 +19,10 @@ same-length : tie.Need-same-length
 same-length c = search needs
 
 returns : tie.Need-returns
-returns c = let a = c .before .before .before .before .before .before .before .before .before .args in (spelled (says-silent (a .words .now) (c .before .before .before .before .before .if1 .taken)) (c .before .before .put .ensures), omega (arith, c .before .before .put .ensures .end))
+returns c =
+    let a = c .before .before .before .before .before .before .before .before .before .args in
+    let first = c .before .before .put .ensures in
+    (spelled (says-silent (a .words .now) (c .before .before .before .before .before .if1 .taken)) first, omega (arith, first .end))
 
 slice-aggregate-put-2 : tie.Need-slice-aggregate-put-2
 slice-aggregate-put-2 c = search needs
@@ -34,7 +37,11 @@ same-length-2 : tie.Need-same-length-2
 same-length-2 c = search needs
 
 returns-2 : tie.Need-returns-2
-returns-2 c = let a = c .before .before .before .before .before .before .before .before .before .before .before .before .before .before .args in (spelled (says-enters (a .words .now) (c .before .before .before .before .before .before .before .before .before .if2 .taken)) (joined (c .before .before .before .before .before .before .put2 .ensures) (c .before .before .put-value .ensures .0)), omega (arith, c .before .before .before .before .before .before .put2 .ensures .end, c .before .before .put-value .ensures .1))
+returns-2 c =
+    let a = c .before .before .before .before .before .before .before .before .before .before .before .before .before .before .args in
+    let first = c .before .before .before .before .before .before .put2 .ensures in
+    let value = c .before .before .put-value .ensures in
+    (spelled (says-enters (a .words .now) (c .before .before .before .before .before .before .before .before .before .if2 .taken)) (joined first (value .0)), omega (arith, first .end, value .1))
 
 slice-aggregate-put-3 : tie.Need-slice-aggregate-put-3
 slice-aggregate-put-3 c = search needs
@@ -49,7 +56,11 @@ same-length-3 : tie.Need-same-length-3
 same-length-3 c = search needs
 
 returns-3 : tie.Need-returns-3
-returns-3 c = let a = c .before .before .before .before .before .before .before .before .before .before .before .before .before .before .before .args in (spelled (says-leaves (a .words .now) (c .before .before .before .before .before .before .before .before .before .if3 .taken)) (joined (c .before .before .before .before .before .before .put3 .ensures) (c .before .before .put-value2 .ensures .0)), omega (arith, c .before .before .before .before .before .before .put3 .ensures .end, c .before .before .put-value2 .ensures .1))
+returns-3 c =
+    let a = c .before .before .before .before .before .before .before .before .before .before .before .before .before .before .before .args in
+    let first = c .before .before .before .before .before .before .put3 .ensures in
+    let value = c .before .before .put-value2 .ensures in
+    (spelled (says-leaves (a .words .now) (c .before .before .before .before .before .before .before .before .before .if3 .taken)) (joined first (value .0)), omega (arith, first .end, value .1))
 
 slice-aggregate-put-4 : tie.Need-slice-aggregate-put-4
 slice-aggregate-put-4 c = search needs
@@ -70,7 +81,12 @@ same-length-4 : tie.Need-same-length-4
 same-length-4 c = search needs
 
 returns-4 : tie.Need-returns-4
-returns-4 c = let a = c .before .before .before .before .before .before .before .before .before .before .before .before .before .before .before .before .before .args in (spelled (says-refused (a .words .now) _ (c .before .before .before .before .before .before .before .before .before .before .before .before .before .if1 .left) (c .before .before .before .before .before .before .before .before .before .before .before .before .if2 .left) (c .before .before .before .before .before .before .before .before .before .before .before .if3 .left) (c .before .before .before .wide .ensures .0)) (joined (c .before .before .before .before .before .before .before .before .put4 .ensures) (c .before .before .put-field .ensures .0)), omega (arith, c .before .before .before .before .before .before .before .before .put4 .ensures .end, c .before .before .put-field .ensures .1 .1 (c .before .before .before .wide .ensures .1)))
+returns-4 c =
+    let a = c .before .before .before .before .before .before .before .before .before .before .before .before .before .before .before .before .before .args in
+    let word = c .before .before .before .wide .ensures in
+    let first = c .before .before .before .before .before .before .before .before .put4 .ensures in
+    let field = c .before .before .put-field .ensures in
+    (spelled (says-refused (a .words .now) _ (c .before .before .before .before .before .before .before .before .before .before .before .before .before .if1 .left) (c .before .before .before .before .before .before .before .before .before .before .before .before .if2 .left) (c .before .before .before .before .before .before .before .before .before .before .before .if3 .left) (word .0)) (joined first (field .0)), omega (arith, first .end, field .1 .1 (word .1)))
 
 pub put-saying-spec : {M : Type 1} → statement M
 put-saying-spec =

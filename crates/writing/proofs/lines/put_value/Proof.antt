@@ -36,13 +36,23 @@ part-put-fields-end : tie.Need-part-put-fields-end
 part-put-fields-end c = search needs
 
 put-fields-requires : tie.Need-put-fields-requires
-put-fields-requires c κs = omega (arith, length-take (4 + c .before .before .length-in .result - 4) (drop 4 (c .before .before .before .before .before .before .before .before .before .before .before .before .args .words .now)), c .before .before .length-in .ensures, c .before .before .before .before .before .before .put-number .ensures .0 .same, c .before .before .before .before .before .before .put-number .ensures .1 .1 (c .before .before .before .before .before .before .before .wide .ensures .1), c .before .before .before .before .before .before .before .before .before .before .before .before .pre)
+put-fields-requires c κs =
+    let len = c .before .before .length-in .ensures in
+    let number = c .before .before .before .before .before .before .put-number .ensures in
+    let word = c .before .before .before .before .before .before .before .wide .ensures in
+    omega (arith, length-take (4 + c .before .before .length-in .result - 4) (drop 4 (c .before .before .before .before .before .before .before .before .before .before .before .before .args .words .now)), len, number .0 .same, number .1 .1 (word .1), c .before .before .before .before .before .before .before .before .before .before .before .before .pre)
 
 same-length : tie.Need-same-length
 same-length c = search needs
 
 returns : tie.Need-returns
-returns c = let a = c .before .before .before .before .before .before .before .before .before .before .before .before .before .before .before .args in (spelled (value-in (a .words .now) _ _ (c .before .before .before .before .before .before .before .before .before .before .wide .ensures .0) (c .before .before .before .before .before .length-in .ensures)) (joined (c .before .before .before .before .before .before .before .before .before .put-number .ensures .0) (c .before .before .put-fields .ensures .0)), omega (arith, c .before .before .before .before .before .before .before .before .before .put-number .ensures .1 .1 (c .before .before .before .before .before .before .before .before .before .before .wide .ensures .1), c .before .before .put-fields .ensures .1))
+returns c =
+    let a = c .before .before .before .before .before .before .before .before .before .before .before .before .before .before .before .args in
+    let word = c .before .before .before .before .before .before .before .before .before .before .wide .ensures in
+    let len = c .before .before .before .before .before .length-in .ensures in
+    let number = c .before .before .before .before .before .before .before .before .before .put-number .ensures in
+    let fields = c .before .before .put-fields .ensures in
+    (spelled (value-in (a .words .now) _ _ (word .0) len) (joined (number .0) (fields .0)), omega (arith, number .1 .1 (word .1), fields .1))
 
 pub put-value-spec : {M : Type 1} → statement M
 put-value-spec =

@@ -25,7 +25,10 @@ same-length : tie.Need-same-length
 same-length c = search needs
 
 returns : tie.Need-returns
-returns c = let a = c .before .before .before .before .before .before .args in record { end = search needs; text = copied (a .out .now) (a .text .now) _ _ (a .at) (length (a .out .now) - a .at) _ (search needs) (c .before .before .copy .ensures .0) (c .before .before .copy .ensures .1); same = search needs }
+returns c =
+    let a = c .before .before .before .before .before .before .args in
+    let copy = c .before .before .copy .ensures in
+    record { end = search needs; text = copied (a .out .now) (a .text .now) _ _ (a .at) (length (a .out .now) - a .at) _ (search needs) (copy .0) (copy .1); same = search needs }
 
 pub put-spec : {M : Type 1} → statement M
 put-spec =

@@ -19,7 +19,11 @@ same-length : tie.Need-same-length
 same-length c = search needs
 
 returns : tie.Need-returns
-returns c = let a = c .before .before .before .before .before .before .before .before .before .before .args in (spelled (one-field (a .n)) (joined (c .before .before .before .before .before .before .put .ensures) (c .before .before .put-number .ensures .0)), (omega (arith, c .before .before .before .before .before .before .put .ensures .end, c .before .before .put-number .ensures .1 .0), λ h. omega (arith, c .before .before .before .before .before .before .put .ensures .end, c .before .before .put-number .ensures .1 .1 h)))
+returns c =
+    let a = c .before .before .before .before .before .before .before .before .before .before .args in
+    let first = c .before .before .before .before .before .before .put .ensures in
+    let number = c .before .before .put-number .ensures in
+    (spelled (one-field (a .n)) (joined first (number .0)), (omega (arith, first .end, number .1 .0), λ h. omega (arith, first .end, number .1 .1 h)))
 
 pub put-field-spec : {M : Type 1} → statement M
 put-field-spec =

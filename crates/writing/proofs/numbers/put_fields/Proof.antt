@@ -38,13 +38,21 @@ loop-less : tie.Need-loop-less Inv-loop μ-loop
 loop-less c = search needs
 
 loop-again : tie.Need-loop-again Inv-loop μ-loop
-loop-again c = let a = c .before .before .before .before .before .before .before .before .before .before .args in let l = c .before .before .before .before .before .before .before .loop in (spelled (fields-more (a .words .now) (l .i) _ (c .before .before .before .wide .ensures .0) (search needs)) (joined (l .inv .0) (c .before .before .put-field .ensures .0)), omega (arith, c .before .before .put-field .ensures .1 .1 (c .before .before .before .wide .ensures .1)), omega arith)
+loop-again c =
+    let a = c .before .before .before .before .before .before .before .before .before .before .args in
+    let l = c .before .before .before .before .before .before .before .loop in
+    let word = c .before .before .before .wide .ensures in
+    let field = c .before .before .put-field .ensures in
+    (spelled (fields-more (a .words .now) (l .i) _ (word .0) (search needs)) (joined (l .inv .0) (field .0)), omega (arith, field .1 .1 (word .1)), omega arith)
 
 same-length : tie.Need-same-length Inv-loop μ-loop
 same-length c = c .before .loop .inv .0 .same
 
 returns : tie.Need-returns Inv-loop μ-loop
-returns c = let a = c .before .before .before .before .args in let l = c .before .loop in (spelled (fields-all (a .words .now) (l .i) (omega arith)) (l .inv .0), omega arith)
+returns c =
+    let a = c .before .before .before .before .args in
+    let l = c .before .loop in
+    (spelled (fields-all (a .words .now) (l .i) (omega arith)) (l .inv .0), omega arith)
 
 pub put-fields-spec : {M : Type 1} → statement M
 put-fields-spec =

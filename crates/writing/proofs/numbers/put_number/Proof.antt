@@ -17,13 +17,22 @@ slice-aggregate-put : tie.Need-slice-aggregate-put
 slice-aggregate-put c = search needs
 
 put-requires : tie.Need-put-requires
-put-requires c κs = omega (arith, at-most 20 (c .before .before .decimal .result) (c .before .before .before .before .before .args .n) (omega arith) (omega arith) (c .before .before .decimal .ensures .1 .0), c .before .before .decimal .ensures .0)
+put-requires c κs =
+    let digits = c .before .before .decimal .ensures in
+    omega (arith, at-most 20 (c .before .before .decimal .result) (c .before .before .before .before .before .args .n) (omega arith) (omega arith) (digits .1 .0), digits .0)
 
 same-length : tie.Need-same-length
 same-length c = search needs
 
 returns : tie.Need-returns
-returns c = let a = c .before .before .before .before .before .before .before .before .args in let k = c .before .before .before .before .before .decimal .result in let f = c .before .before .before .before .before .decimal .ensures .1 .0 in let wide = at-most 20 k (a .n) (omega arith) (omega arith) f in (spelled (c .before .before .before .before .before .decimal .ensures .1 .1 ∙ same-digits 20 k (a .n) f wide) (c .before .before .put .ensures), (omega (arith, c .before .before .put .ensures .end, c .before .before .before .before .before .decimal .ensures .0), λ h. omega (arith, at-most 10 k (a .n) (omega arith) (omega arith) f, c .before .before .put .ensures .end, c .before .before .before .before .before .decimal .ensures .0)))
+returns c =
+    let a = c .before .before .before .before .before .before .before .before .args in
+    let digits = c .before .before .before .before .before .decimal .ensures in
+    let first = c .before .before .put .ensures in
+    let k = c .before .before .before .before .before .decimal .result in
+    let f = digits .1 .0 in
+    let wide = at-most 20 k (a .n) (omega arith) (omega arith) f in
+    (spelled (digits .1 .1 ∙ same-digits 20 k (a .n) f wide) first, (omega (arith, first .end, digits .0), λ h. omega (arith, at-most 10 k (a .n) (omega arith) (omega arith) f, first .end, digits .0)))
 
 pub put-number-spec : {M : Type 1} → statement M
 put-number-spec =
