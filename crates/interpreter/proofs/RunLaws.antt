@@ -32,7 +32,7 @@ use Rattle.interpreter.specs.declared.Stepped.{Stepped}
 use Rattle.interpreter.specs.declared.Ran.{Ran}
 use Rattle.interpreter.specs.declared.Ran.the-variants as ran
 use Rattle.interpreter.specs.Loading.{outcomeOf, stateLoaded, LoadIs}
-use Rattle.interpreter.specs.Stepping.{asked}
+use Rattle.dispatch.specs.Stepping.{asked}
 use Rattle.interpreter.specs.Answers.{saidOf, ResultIs}
 use Rattle.interpreter.specs.Running.{countOf, wordsIn, RunIs}
 

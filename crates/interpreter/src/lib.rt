@@ -3,7 +3,6 @@ use sides::State;
 use steps::Said;
 use values::Value;
 
-mod dispatch; // a side's own step, by its kind
 mod loading; // load
 mod lost; // stranded
 mod running; // a run of many steps

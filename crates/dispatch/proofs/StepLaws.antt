@@ -13,7 +13,7 @@ use Rattle.sides.specs.declared.Side.{Side}
 use Rattle.steps.specs.declared.SideStep.{SideStep}
 use Rattle.steps.specs.StepIs.{Sane, StepIs}
 use Rattle.steps.proofs.Held.{sane}
-use Rattle.interpreter.specs.Stepping.{asked, onePlace, twoPlaces, OwnReady}
+use Rattle.dispatch.specs.Stepping.{asked, onePlace, twoPlaces, OwnReady}
 
 -- a side that a step may act on
 pub own-sane : (c : Setting) (o : Side) → OwnReady c o → Sane o

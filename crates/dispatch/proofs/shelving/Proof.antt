@@ -1,12 +1,12 @@
 use mathlib.Core.Path.{_≡_, refl, sym, ap, _∙_}
 use Rattle.steps.proofs.Settling.{no-left}
-use Rattle.interpreter.proofs.StepLaws.{and-on}
+use Rattle.dispatch.proofs.StepLaws.{and-on}
 use borrow.Author.Needs.{needs}
 use native.Mathlib.Omega.{arith}
-use Rattle.interpreter.proofs.dispatch.shelving.Statement.{statement}
-use Rattle.interpreter.proofs.dispatch.shelving.Tie as tie
-use Rattle.interpreter.proofs.dispatch.shelving.Reads as reads
-use Rattle.interpreter.proofs.dispatch.shelving.Lts as lts
+use Rattle.dispatch.proofs.shelving.Statement.{statement}
+use Rattle.dispatch.proofs.shelving.Tie as tie
+use Rattle.dispatch.proofs.shelving.Reads as reads
+use Rattle.dispatch.proofs.shelving.Lts as lts
 
 -- src/dispatch.rt:42:1
 returns : tie.Need-returns

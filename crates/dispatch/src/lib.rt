@@ -1,4 +1,5 @@
 // A side's own step, by its kind: it sees its side, the tables of that side, and of the rest which minted names have left.
+// Its one caller, crate interpreter, has checked the tables and the state before.
 ghost use mathlib.Core.Path.{_≡_};
 ghost use Prim.Native.Nat.{ℕ};
 ghost use lib.Dec.{eqb};
@@ -11,7 +12,7 @@ ghost use Rattle.tables.specs.Nodes.{table};
 ghost use Rattle.sides.specs.Views.{viewCore, viewShelf, fitsShelf};
 ghost use Rattle.steps.specs.Asked.{knownBy};
 ghost use Rattle.steps.specs.StepIs.{Sane, StepIs};
-ghost use Rattle.interpreter.specs.Stepping.{settingOf, asked, onePlace, twoPlaces, OwnReady};
+ghost use Rattle.dispatch.specs.Stepping.{settingOf, asked, onePlace, twoPlaces, OwnReady};
 use meeting::meet;
 use sides::Shelf;
 use sides::Side;

@@ -1,15 +1,15 @@
 use mathlib.Core.Path.{_≡_, refl, sym, ap, _∙_}
 use Rattle.sides.specs.Views.{viewCore, viewShelf}
 use Rattle.steps.specs.Asked.{knownBy}
-use Rattle.interpreter.specs.Stepping.{settingOf}
-use Rattle.interpreter.proofs.StepLaws.{step-by, one-down, one-up, one-pass, one-leave, one-none}
+use Rattle.dispatch.specs.Stepping.{settingOf}
+use Rattle.dispatch.proofs.StepLaws.{step-by, one-down, one-up, one-pass, one-leave, one-none}
 use native.Mathlib.Omega.{arith}
 use borrow.Author.Needs.{needs}
-use Rattle.interpreter.proofs.dispatch.one_place.Statement.{statement}
-use Rattle.interpreter.proofs.dispatch.one_place.Tie as tie
-use Rattle.interpreter.proofs.dispatch.one_place.Reads as reads
-use Rattle.interpreter.proofs.dispatch.one_place.Lts as lts
-use Rattle.interpreter.proofs.dispatch.refusal.Reads as refusal-reads
+use Rattle.dispatch.proofs.one_place.Statement.{statement}
+use Rattle.dispatch.proofs.one_place.Tie as tie
+use Rattle.dispatch.proofs.one_place.Reads as reads
+use Rattle.dispatch.proofs.one_place.Lts as lts
+use Rattle.dispatch.proofs.refusal.Reads as refusal-reads
 use Rattle.steps.proofs.down.Reads as down-reads
 use Rattle.steps.proofs.leave.Reads as leave-reads
 use Rattle.steps.proofs.pass.Reads as pass-reads

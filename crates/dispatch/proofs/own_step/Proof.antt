@@ -1,17 +1,17 @@
 use mathlib.Core.Path.{_≡_, refl, sym, ap, _∙_}
 use Rattle.sides.specs.Views.{viewCore, viewShelf}
 use Rattle.steps.specs.Asked.{knownBy}
-use Rattle.interpreter.specs.Stepping.{settingOf}
-use Rattle.interpreter.proofs.StepLaws.{own-sane, step-by, own-enter, own-two, own-words}
+use Rattle.dispatch.specs.Stepping.{settingOf}
+use Rattle.dispatch.proofs.StepLaws.{own-sane, step-by, own-enter, own-two, own-words}
 use native.Mathlib.Omega.{arith}
 use borrow.Author.Needs.{needs}
-use Rattle.interpreter.proofs.dispatch.own_step.Statement.{statement}
-use Rattle.interpreter.proofs.dispatch.own_step.Tie as tie
-use Rattle.interpreter.proofs.dispatch.own_step.Reads as reads
-use Rattle.interpreter.proofs.dispatch.own_step.Lts as lts
-use Rattle.interpreter.proofs.dispatch.entering.Reads as entering-reads
-use Rattle.interpreter.proofs.dispatch.refusal.Reads as refusal-reads
-use Rattle.interpreter.proofs.dispatch.two_places.Reads as two-places-reads
+use Rattle.dispatch.proofs.own_step.Statement.{statement}
+use Rattle.dispatch.proofs.own_step.Tie as tie
+use Rattle.dispatch.proofs.own_step.Reads as reads
+use Rattle.dispatch.proofs.own_step.Lts as lts
+use Rattle.dispatch.proofs.entering.Reads as entering-reads
+use Rattle.dispatch.proofs.refusal.Reads as refusal-reads
+use Rattle.dispatch.proofs.two_places.Reads as two-places-reads
 
 -- src/dispatch.rt:117:9
 entering-requires : tie.Need-entering-requires
