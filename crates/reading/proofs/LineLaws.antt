@@ -3,20 +3,20 @@ use mathlib.Core.Path.{_≡_, refl, sym, ap, _∙_}
 use mathlib.Core.Bool.{Bool, true, false}
 use mathlib.Core.List.{List, [], _∷_, _++_, append-assoc, append-nil}
 use mathlib.Core.Option.{Option, none, some}
-use Prim.Native.Nat.{ℕ, zero, suc, _+_, _-_, _<_, _≤_}
+use Prim.Native.Nat.{ℕ, _+_, _-_, _<_, _≤_}
 use native.Mathlib.Omega.{arith}
 use native.Mathlib.Numerals.{add-one}
 use borrow.Author.Tests.{le-leb, lt-leb, leb-true, leb-false, eq-eqb, ne-eqb}
 use lib.Dec.{leb, eqb}
 use lib.ListN.{length, getD, take, set, length-append, length-take}
 use lib.Seq.{take-suc-set, slice-cons, length-slice}
-use Rattle.model.specs.Basics.{_&_, choose}
-use Rattle.format.specs.Lines.{tab, pieces, number, numbers, Line, lineOf, Input, onW, onN, onV, onS, onLine, withLine}
+use Rattle.model.specs.Basics.{choose}
+use Rattle.format.specs.Lines.{tab, pieces, number, numbers, Line, lineOf}
 use Rattle.reading.specs.declared.fields.Line as code
 use Rattle.bytes.specs.Bytes.{slice, indexOf}
 use Rattle.reading.specs.declared.fields.Number.the-variants.{Word, Bad}
 use Rattle.reading.proofs.PieceLaws.{last, next, first}
-use Rattle.reading.specs.Fields.{answerOf, viewLine, shortLine, short, pushed, lineWith, afterLine}
+use Rattle.reading.specs.Fields.{answerOf, viewLine, shortLine, short, pushed, lineWith}
 
 abbrev pub struct : ℕ → List ℕ → ℕ → code.Line
 struct c ws n = record { letter = c; words = ws; len = n }
@@ -77,6 +77,7 @@ after-push n l ns = go (leb (length (l .words ++ (n ∷ []))) 21) refl
   where
     sum : (l .words ++ (n ∷ [])) ++ ns ≡ l .words ++ (n ∷ ns)
     sum = append-assoc (l .words) (n ∷ []) ns
+
     go : (b : Bool) → leb (length (l .words ++ (n ∷ []))) 21 ≡ b → after (some l) (some (n ∷ ns)) ≡ after (pushed n (some l)) (some ns)
     go true e = sym (ap (λ (x : Option Line). after x (some ns)) (is-short (l .letter) _ (leb-true _ 21 e)) ∙ ap (λ (x : List ℕ). shortLine (line (l .letter) x)) sum)
     go false e =
@@ -107,16 +108,16 @@ after-consed n (some l) none = sym (after-none (pushed n (some l)))
 after-consed n (some l) (some ns) = after-push n l ns
 
 -- a line before its first number
-pub before-all : (c : ℕ) (o : Option (List ℕ)) → short (lineWith c o) ≡ after (lineWith c (some [])) o
+before-all : (c : ℕ) (o : Option (List ℕ)) → short (lineWith c o) ≡ after (lineWith c (some [])) o
 before-all c none = refl
 before-all c (some ns) = refl
 
 -- a field that is no number
-pub no-number : (v : Option Line) (f : List ℕ) (fs : List (List ℕ)) → number f ≡ none → after v (numbers (f ∷ fs)) ≡ none
+no-number : (v : Option Line) (f : List ℕ) (fs : List (List ℕ)) → number f ≡ none → after v (numbers (f ∷ fs)) ≡ none
 no-number v f fs e = ap (after v) (numbers-none f fs e) ∙ after-none v
 
 -- a field that is a number, with others behind it, or the last
-pub a-number : (v : Option Line) (f : List ℕ) (fs : List (List ℕ)) (n : ℕ) → number f ≡ some n → after v (numbers (f ∷ fs)) ≡ after (pushed n v) (numbers fs)
+a-number : (v : Option Line) (f : List ℕ) (fs : List (List ℕ)) (n : ℕ) → number f ≡ some n → after v (numbers (f ∷ fs)) ≡ after (pushed n v) (numbers fs)
 a-number v f fs n e = ap (after v) (numbers-some f fs n e) ∙ after-consed n v (numbers fs)
 
 pushed-whole : (n : ℕ) (v : Option Line) → after (pushed n v) (some []) ≡ pushed n v
@@ -131,7 +132,7 @@ pushed-whole n (some l) = go (leb (length (l .words ++ (n ∷ []))) 21) refl
         let p : pushed n (some l) ≡ none = is-long (l .letter) _ (leb-false _ 21 e) in
         ap (λ (x : Option Line). after x (some [])) p ∙ sym p
 
-pub last-number : (v : Option Line) (f : List ℕ) (n : ℕ) → number f ≡ some n → after v (numbers (f ∷ [])) ≡ pushed n v
+last-number : (v : Option Line) (f : List ℕ) (n : ℕ) → number f ≡ some n → after v (numbers (f ∷ [])) ≡ pushed n v
 unfolding numbers
 last-number v f n e = a-number v f [] n e ∙ pushed-whole n v
 
@@ -149,10 +150,10 @@ of-pieces : (l f : List ℕ) (fs : List (List ℕ)) → pieces tab l ≡ f ∷ f
 unfolding lineOf
 of-pieces l f fs e = ap ofPieces e
 
-pub no-letter : (l f : List ℕ) (fs : List (List ℕ)) → pieces tab l ≡ f ∷ fs → (length f ≡ 1 → ⊥) → short (lineOf l) ≡ none
+no-letter : (l f : List ℕ) (fs : List (List ℕ)) → pieces tab l ≡ f ∷ fs → (length f ≡ 1 → ⊥) → short (lineOf l) ≡ none
 no-letter l f fs e h = let n : lineOf l ≡ none = of-pieces l f fs e ∙ rw (ne-eqb (length f) 1 h, ofPieces) in ap short n
 
-pub a-letter : (l f : List ℕ) (fs : List (List ℕ)) (c : ℕ) → pieces tab l ≡ f ∷ fs → length f ≡ 1 → getD f 0 0 ≡ c → lineOf l ≡ lineWith c (numbers fs)
+a-letter : (l f : List ℕ) (fs : List (List ℕ)) (c : ℕ) → pieces tab l ≡ f ∷ fs → length f ≡ 1 → getD f 0 0 ≡ c → lineOf l ≡ lineWith c (numbers fs)
 a-letter l f fs c e h g = of-pieces l f fs e ∙ rw (eq-eqb (length f) 1 h, ofPieces) (go (numbers fs))
   where
     go : (o : Option (List ℕ)) → elim o [ none ↦ none | some ns ↦ some (line (getD f 0 0) ns) ] ≡ lineWith c o

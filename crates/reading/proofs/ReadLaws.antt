@@ -6,8 +6,8 @@ use mathlib.Core.Option.{Option, none, some}
 use Prim.Native.Nat.{ℕ, suc, _+_, _-_, _<_, _≤_}
 use native.Mathlib.Omega.{arith}
 use native.Mathlib.Numerals.{add-one}
-use borrow.Author.Tests.{lt-ltb, le-ltb, le-leb, lt-leb, eq-eqb, ne-eqb}
-use lib.Dec.{eqb, ltb}
+use borrow.Author.Tests.{lt-ltb, le-leb, lt-leb, eq-eqb, ne-eqb}
+use lib.Dec.{eqb}
 use lib.ListN.{length}
 use lib.Seq.{length-slice}
 use Rattle.model.specs.Basics.{_&_, choose}
@@ -15,6 +15,7 @@ use Rattle.format.specs.Lines as format
 use Rattle.format.specs.Lines.{newline, toFirst, pieces, lineOf, Input, noInput, withLine, fault, whole, readFrom, reading}
 use Rattle.bytes.specs.Bytes.{slice, indexOf}
 use Rattle.reading.specs.declared.Places.{Places}
+use Rattle.reading.specs.declared.Reading.{Reading}
 use Rattle.reading.specs.declared.Reading.the-variants as answer
 use Rattle.reading.specs.declared.lines.After.{After}
 use Rattle.reading.specs.declared.lines.After.the-variants.{Fault, Next}
@@ -52,17 +53,18 @@ unfolding readFrom
 line-some n i j f m ms e = rw (e, readFrom)
 
 -- what stands behind the last newline
-rest-some : (n : ℕ) (i : Input) (f : List ℕ) → 0 < length f → readFrom n i (f ∷ []) ≡ fault n
-unfolding readFrom _&_ choose
-rest-some n i f h = rw (ne-eqb (length f) 0 (λ e. omega arith))
+module _ (n : ℕ) (i : Input) (p : Places) (l : Lists) (h : Holds i p l) (f : List ℕ) where
+  pub rest-some : 0 < length f → ReadIs (readFrom n i (f ∷ [])) (answer.Fault n) l
+  unfolding readFrom _&_ choose
+  rest-some e = read-fault (readFrom n i (f ∷ [])) n l (rw (ne-eqb (length f) 0 (λ q. omega arith)))
 
-rest-none : (n : ℕ) (i : Input) (f : List ℕ) → length f ≡ 0 → i .rank ≡ 0 → readFrom n i (f ∷ []) ≡ fault n
-unfolding readFrom _&_ choose
-rest-none n i f h e = rw (eq-eqb (length f) 0 h, e)
+  pub rest-none : length f ≤ 0 → p .rank ≡ 0 → ReadIs (readFrom n i (f ∷ [])) (answer.Fault n) l
+  unfolding readFrom _&_ choose
+  rest-none e z = read-fault (readFrom n i (f ∷ [])) n l (rw (eq-eqb (length f) 0 (omega arith), sym (h .rank) ∙ z))
 
-rest-whole : (n : ℕ) (i : Input) (f : List ℕ) → length f ≡ 0 → 0 < i .rank → readFrom n i (f ∷ []) ≡ whole i
-unfolding readFrom _&_ choose
-rest-whole n i f h e = rw (eq-eqb (length f) 0 h, lt-ltb 0 (i .rank) e)
+  pub rest-whole : length f ≤ 0 → (p .rank ≡ 0 → ⊥) → ReadIs (readFrom n i (f ∷ [])) (answer.Whole p) l
+  unfolding readFrom _&_ choose
+  rest-whole e z = read-whole (readFrom n i (f ∷ [])) i p l (rw (eq-eqb (length f) 0 (omega arith), lt-ltb 0 (i .rank) (omega (arith, h .rank, z)))) h
 
 -- an answer of a line, taken apart
 gave-none : (o : Option Input) (r : After) (l : Lists) → r ≡ Fault → AfterIs o r l → o ≡ none
@@ -81,20 +83,6 @@ too-long s l h = read-fault (reading s) 0 l (rw (lt-leb (length s) 65536 h))
 pub before-lines : (s : List ℕ) → length s ≤ 65536 → reading s ≡ readFrom 1 noInput (pieces newline (slice 0 (length s) s))
 unfolding reading choose
 before-lines s h = rw (le-leb (length s) 65536 h, part.whole s)
-
-pub holds-nothing : (l : Lists) → Holds noInput (record { rank = 0; wrapper = 0; nodes1 = 0; pool1 = 0; nodes2 = 0; pool2 = 0; steps = 0; words = 0 }) l
-holds-nothing l =
-    record {
-      inside = omega arith;
-      rank = refl;
-      wrapper = refl;
-      nodes1 = record { count = refl; words = refl };
-      pool1 = record { count = refl; words = refl };
-      nodes2 = record { count = refl; words = refl };
-      pool2 = record { count = refl; words = refl };
-      steps = refl;
-      words = record { count = refl; words = refl };
-    }
 
 -- line n of an input, from place `at` up to q, where the lines before it give i
 module _ (s : List ℕ) (at to q n : ℕ) (i : Input) (up : at ≤ to) (fits : to ≤ length s) (found : q ≡ at + indexOf newline (slice at to s)) (so-far : reading s ≡ readFrom n i (pieces newline (slice at to s))) where
@@ -120,14 +108,5 @@ module _ (s : List ℕ) (at to q n : ℕ) (i : Input) (up : at ≤ to) (fits : t
   unfolding slice
   size e = rw e (length-slice at to s fits)
 
-  last : q ≡ to → reading s ≡ readFrom n i (slice at q s ∷ [])
-  last e = so-far ∙ ap (readFrom n i) (part.last newline s at to q up fits found e)
-
-  pub no-newline : q ≡ to → at < to → (l : Lists) → ReadIs (reading s) (answer.Fault n) l
-  no-newline e h l = read-fault (reading s) n l (last e ∙ rest-some n i _ (omega (arith, size e)))
-
-  pub no-line : q ≡ to → to ≤ at → (p : Places) (l : Lists) → Holds i p l → p .rank ≡ 0 → ReadIs (reading s) (answer.Fault n) l
-  no-line e h p l g z = read-fault (reading s) n l (last e ∙ rest-none n i _ (omega (arith, size e)) (sym (g .rank) ∙ z))
-
-  pub all-lines : q ≡ to → to ≤ at → (p : Places) (l : Lists) → Holds i p l → (p .rank ≡ 0 → ⊥) → ReadIs (reading s) (answer.Whole p) l
-  all-lines e h p l g z = read-whole (reading s) i p l (last e ∙ rest-whole n i _ (omega (arith, size e)) (omega (arith, g .rank, z))) g
+  pub no-newline : q ≡ to → (r : Reading) (p : Places) (l : Lists) → Holds i p l → ((j : Input) (k : Lists) (rest : List ℕ) → Holds j p k → length rest ≡ to - at → ReadIs (readFrom n j (rest ∷ [])) r k) → ReadIs (reading s) r l
+  no-newline e r p l g f = rw (so-far ∙ ap (readFrom n i) (part.last newline s at to q up fits found e)) (f i l (slice at q s) g (size e))

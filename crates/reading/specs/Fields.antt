@@ -23,10 +23,11 @@ wordsOf r = take (r .len) (r .words)
 unfoldable pub viewLine : code.Line → Option Line
 viewLine r = choose (leb (r .len) 21) (some (record { letter = r .letter; words = wordsOf r })) none
 
--- a line of at most 21 numbers: no line has more
+-- a line that has at most 21 numbers
 unfoldable pub shortLine : Line → Option Line
 shortLine l = choose (leb (length (l .words)) 21) (some l) none
 
+-- the line, where there is one and it has at most 21 numbers
 abbrev pub short : Option Line → Option Line
 short none = none
 short (some l) = shortLine l

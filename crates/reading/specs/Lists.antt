@@ -21,6 +21,7 @@ pub record Lists : Type 0 where
   pub pool2 : List ℕ
   pub steps : List ℕ
 
+-- the same from each list by itself
 abbrev pub lists : (nodes1 pool1 nodes2 pool2 steps : List ℕ) → Lists
 lists a b c d e = record { nodes1 = a; pool1 = b; nodes2 = c; pool2 = d; steps = e }
 

@@ -60,14 +60,22 @@ impl Line {
     fn bad() -> Line
         ensures { λ r. ⌜ viewLine r ≡ none ⌝ }
     {
-        Line { letter: 0, words: [0; 21], len: 22 }
+        Line {
+            letter: 0,
+            words: [0; 21],
+            len: 22,
+        }
     }
 
     // A letter alone.
     fn alone(letter: u8) -> Line
         ensures { λ r. ⌜ viewLine r ≡ lineWith letter (some []) ⌝ }
     {
-        Line { letter, words: [0; 21], len: 0 }
+        Line {
+            letter,
+            words: [0; 21],
+            len: 0,
+        }
     }
 
     // One number more; a line with 21 numbers is at fault then.

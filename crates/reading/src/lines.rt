@@ -30,8 +30,7 @@ fn store(list: &mut [u32], at: usize, l: Line, from: usize, to: usize)
 }
 
 // A W line.
-fn on_w(l: Line, p: Places) -> After
-    requires { ⌜ Inside p ⌝ }
+fn on_w(l: Line, mut p: Places) -> After
     ensures { λ r. ⌜ ((i : Input) (nodes1 pool1 nodes2 pool2 steps : List ℕ) → Holds i p (lists nodes1 pool1 nodes2 pool2 steps) → AfterIs (onW i (wordsOf l)) r (lists nodes1 pool1 nodes2 pool2 steps)) ⌝ }
 {
     if p.rank != 0 {
@@ -40,11 +39,13 @@ fn on_w(l: Line, p: Places) -> After
     if l.len != 1 {
         return After::Fault;
     }
-    After::Next(Places { rank: 1, wrapper: l.words[0], nodes1: p.nodes1, pool1: p.pool1, nodes2: p.nodes2, pool2: p.pool2, steps: p.steps, words: p.words })
+    p.rank = 1;
+    p.wrapper = l.words[0];
+    After::Next(p)
 }
 
 // An N line.
-fn on_n(l: Line, p: Places, nodes1: &mut [u32; 1285], nodes2: &mut [u32; 1285]) -> After
+fn on_n(l: Line, mut p: Places, nodes1: &mut [u32; 1285], nodes2: &mut [u32; 1285]) -> After
     requires { ⌜ Inside p ⌝ }
     ensures { λ r. ⌜ ((i : Input) (pool1 pool2 steps : List ℕ) → Holds i p (lists (now (nodes1 .entry)) pool1 (now (nodes2 .entry)) pool2 steps) → AfterIs (onN i (wordsOf l)) r (lists (now (nodes1 .exit)) pool1 (now (nodes2 .exit)) pool2 steps)) ⌝ }
 {
@@ -64,7 +65,9 @@ fn on_n(l: Line, p: Places, nodes1: &mut [u32; 1285], nodes2: &mut [u32; 1285]) 
             return After::Fault;
         }
         store(nodes1, at, l, 1, 6);
-        return After::Next(Places { rank: 2, wrapper: p.wrapper, nodes1: at + 5, pool1: p.pool1, nodes2: p.nodes2, pool2: p.pool2, steps: p.steps, words: p.words });
+        p.rank = 2;
+        p.nodes1 = at + 5;
+        return After::Next(p);
     }
     if k != 2 {
         return After::Fault;
@@ -74,11 +77,13 @@ fn on_n(l: Line, p: Places, nodes1: &mut [u32; 1285], nodes2: &mut [u32; 1285]) 
         return After::Fault;
     }
     store(nodes2, at, l, 1, 6);
-    After::Next(Places { rank: 2, wrapper: p.wrapper, nodes1: p.nodes1, pool1: p.pool1, nodes2: at + 5, pool2: p.pool2, steps: p.steps, words: p.words })
+    p.rank = 2;
+    p.nodes2 = at + 5;
+    After::Next(p)
 }
 
 // A V line.
-fn on_v(l: Line, p: Places, pool1: &mut [u32; 1025], pool2: &mut [u32; 1025]) -> After
+fn on_v(l: Line, mut p: Places, pool1: &mut [u32; 1025], pool2: &mut [u32; 1025]) -> After
     requires { ⌜ Inside p ⌝ }
     ensures { λ r. ⌜ ((i : Input) (nodes1 nodes2 steps : List ℕ) → Holds i p (lists nodes1 (now (pool1 .entry)) nodes2 (now (pool2 .entry)) steps) → AfterIs (onV i (wordsOf l)) r (lists nodes1 (now (pool1 .exit)) nodes2 (now (pool2 .exit)) steps)) ⌝ }
 {
@@ -98,7 +103,9 @@ fn on_v(l: Line, p: Places, pool1: &mut [u32; 1025], pool2: &mut [u32; 1025]) ->
             return After::Fault;
         }
         store(pool1, at, l, 1, 2);
-        return After::Next(Places { rank: 3, wrapper: p.wrapper, nodes1: p.nodes1, pool1: at + 1, nodes2: p.nodes2, pool2: p.pool2, steps: p.steps, words: p.words });
+        p.rank = 3;
+        p.pool1 = at + 1;
+        return After::Next(p);
     }
     if k != 2 {
         return After::Fault;
@@ -108,11 +115,13 @@ fn on_v(l: Line, p: Places, pool1: &mut [u32; 1025], pool2: &mut [u32; 1025]) ->
         return After::Fault;
     }
     store(pool2, at, l, 1, 2);
-    After::Next(Places { rank: 3, wrapper: p.wrapper, nodes1: p.nodes1, pool1: p.pool1, nodes2: p.nodes2, pool2: at + 1, steps: p.steps, words: p.words })
+    p.rank = 3;
+    p.pool2 = at + 1;
+    After::Next(p)
 }
 
 // An S line.
-fn on_s(l: Line, p: Places, steps: &mut [u32; 22528]) -> After
+fn on_s(l: Line, mut p: Places, steps: &mut [u32; 22528]) -> After
     requires { ⌜ Inside p × (l .len ≤ 21) ⌝ }
     ensures { λ r. ⌜ ((i : Input) (nodes1 pool1 nodes2 pool2 : List ℕ) → Holds i p (lists nodes1 pool1 nodes2 pool2 (now (steps .entry))) → AfterIs (onS i (wordsOf l)) r (lists nodes1 pool1 nodes2 pool2 (now (steps .exit)))) ⌝ }
 {
@@ -135,11 +144,22 @@ fn on_s(l: Line, p: Places, steps: &mut [u32; 22528]) -> After
     store(steps, at, l, 0, 4);
     steps[count] = (len - 4) as u32;
     store(steps, rest, l, 4, len);
-    After::Next(Places { rank: 4, wrapper: p.wrapper, nodes1: p.nodes1, pool1: p.pool1, nodes2: p.nodes2, pool2: p.pool2, steps: p.steps + 1, words: at + len + 1 })
+    p.rank = 4;
+    p.steps = p.steps + 1;
+    p.words = at + len + 1;
+    After::Next(p)
 }
 
 // A line by its letter.
-pub(crate) fn on_line(l: Line, p: Places, nodes1: &mut [u32; 1285], pool1: &mut [u32; 1025], nodes2: &mut [u32; 1285], pool2: &mut [u32; 1025], steps: &mut [u32; 22528]) -> After
+pub(crate) fn on_line(
+    l: Line,
+    p: Places,
+    nodes1: &mut [u32; 1285],
+    pool1: &mut [u32; 1025],
+    nodes2: &mut [u32; 1285],
+    pool2: &mut [u32; 1025],
+    steps: &mut [u32; 22528],
+) -> After
     requires { ⌜ Inside p ⌝ }
     ensures { λ r. ⌜ ((i : Input) → Holds i p (lists (now (nodes1 .entry)) (now (pool1 .entry)) (now (nodes2 .entry)) (now (pool2 .entry)) (now (steps .entry))) → AfterIs (afterLine i (viewLine l)) r (lists (now (nodes1 .exit)) (now (pool1 .exit)) (now (nodes2 .exit)) (now (pool2 .exit)) (now (steps .exit)))) ⌝ }
 {

@@ -1,3 +1,4 @@
+-- Each test that fails is one of the definition's; a word is stored behind the side's others.
 use mathlib.Core.Path.{_≡_}
 use lib.ListN.{length}
 use Rattle.model.specs.Table.{Table}
@@ -6,59 +7,43 @@ use native.Mathlib.Omega.{arith}
 use borrow.Author.Needs.{needs}
 use Rattle.reading.proofs.lines.on_v.Statement.{statement}
 use Rattle.reading.proofs.lines.on_v.Tie as tie
-use Rattle.reading.proofs.lines.on_v.Reads as reads
-use Rattle.reading.proofs.lines.on_v.Lts as lts
-use Rattle.reading.proofs.lines.store.Reads as store-reads
 
--- src/lines.rt:86:9
 returns : tie.Need-returns
 returns c = let s = c .before .before in let a = s .args in let w : length (a .t1 .words) ≡ 21 = search (needs, s .good) in λ i n1 n2 st h. at-rank-zero 3 2 1025 _ i (a .p) _ h (a .t1 .len) (a .t1 .words) w _ (v-gives i _) (c .if1 .taken)
 
--- src/lines.rt:89:9
 returns-2 : tie.Need-returns-2
 returns-2 c = let s = c .before .before .before .before in let a = s .args in let w : length (a .t1 .words) ≡ 21 = search (needs, s .good) in λ i n1 n2 st h. at-rank-high 3 2 1025 _ i (a .p) _ h (a .t1 .len) (a .t1 .words) w _ (v-gives i _) (c .if2 .taken)
 
--- src/lines.rt:92:9
 returns-3 : tie.Need-returns-3
 returns-3 c = let s = c .before .before .before .before .before in let a = s .args in let w : length (a .t1 .words) ≡ 21 = search (needs, s .good) in λ i n1 n2 st h. at-size 3 2 1025 _ i (a .p) _ h (a .t1 .len) (a .t1 .words) w _ (v-gives i _) (omega arith) (c .if3 .taken)
 
--- src/lines.rt:94:13
 element-copy-out-k : tie.Need-element-copy-out-k
 element-copy-out-k c = search needs
 
--- src/lines.rt:98:13
 returns-4 : tie.Need-returns-4
 returns-4 c = let s = c .before .before .before .before .before .before .before .before in let a = s .args in let w : length (a .t1 .words) ≡ 21 = search (needs, s .good) in λ i n1 n2 st h. at-room 3 2 1025 _ i (a .p) _ h (a .t1 .len) (a .t1 .words) w _ (v-gives i _) (a .p .pool1) (used-one (i .loads) (λ (t : Table). t .pool) (a .p .pool1) (a .t1 .len) (a .t1 .words) (search needs) (c .before .if4 .taken) (h .pool1 .count)) (c .if5 .taken)
 
--- src/lines.rt:100:9
 store-requires : tie.Need-store-requires
-store-requires c κs = omega arith
+store-requires c κs = search needs
 
--- src/lines.rt:101:91
-add-t19 : tie.Need-add-t19
-add-t19 c = search needs
+add-p : tie.Need-add-p
+add-p c = search needs
 
--- src/lines.rt:101:9
 returns-5 : tie.Need-returns-5
 returns-5 c = let s = c .before .before .before .before .before .before .before .before .before .before in let a = s .args in let w : length (a .t1 .words) ≡ 21 = search (needs, s .good) in λ i n1 n2 st h. v-taken-one i (a .p) _ h (a .t1 .len) (a .t1 .words) w (c .before .before .before .before .before .before .before .before .if1 .left) _ (c .before .before .before .before .before .before .if2 .left) (c .before .before .before .before .before .if3 .left) (c .before .before .before .if4 .taken) (search needs) (c .store .ensures)
 
--- src/lines.rt:104:9
 returns-6 : tie.Need-returns-6
 returns-6 c = let s = c .before .before .before .before .before .before .before .before in let a = s .args in let w : length (a .t1 .words) ≡ 21 = search (needs, s .good) in λ i n1 n2 st h. at-side 3 2 1025 _ i (a .p) _ h (a .t1 .len) (a .t1 .words) w _ (v-gives i _) (search needs) (c .before .if4 .left) (c .if6 .taken)
 
--- src/lines.rt:108:9
 returns-7 : tie.Need-returns-7
 returns-7 c = let s = c .before .before .before .before .before .before .before .before .before in let a = s .args in let w : length (a .t1 .words) ≡ 21 = search (needs, s .good) in λ i n1 n2 st h. at-room 3 2 1025 _ i (a .p) _ h (a .t1 .len) (a .t1 .words) w _ (v-gives i _) (a .p .pool2) (used-two (i .loads) (λ (t : Table). t .pool) (a .p .pool2) (a .t1 .len) (a .t1 .words) (search needs) (c .before .if6 .left) (h .pool2 .count)) (c .if7 .taken)
 
--- src/lines.rt:110:5
 store-requires-2 : tie.Need-store-requires-2
-store-requires-2 c κs = omega arith
+store-requires-2 c κs = search needs
 
--- src/lines.rt:111:114
-add-t10 : tie.Need-add-t10
-add-t10 c = search needs
+add-p-2 : tie.Need-add-p-2
+add-p-2 c = search needs
 
--- src/lines.rt:81:1
 returns-8 : tie.Need-returns-8
 returns-8 c = let s = c .before .before .before .before .before .before .before .before .before .before .before in let a = s .args in let w : length (a .t1 .words) ≡ 21 = search (needs, s .good) in λ i n1 n2 st h. v-taken-two i (a .p) _ h (a .t1 .len) (a .t1 .words) w (c .before .before .before .before .before .before .before .before .before .if1 .left) _ (c .before .before .before .before .before .before .before .if2 .left) (c .before .before .before .before .before .before .if3 .left) (c .before .before .before .if6 .left) (search needs) (c .store2 .ensures)
 
@@ -72,10 +57,10 @@ on-v-spec =
     element-copy-out-k
     returns-4
     store-requires
-    add-t19
+    add-p
     returns-5
     returns-6
     returns-7
     store-requires-2
-    add-t10
+    add-p-2
     returns-8)

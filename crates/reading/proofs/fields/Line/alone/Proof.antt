@@ -1,12 +1,8 @@
+-- A length of 0 is that of a letter alone.
 use Rattle.reading.proofs.LineLaws.{view-empty}
-use borrow.Author.Needs.{needs}
-use native.Mathlib.Omega.{arith}
 use Rattle.reading.proofs.fields.Line.alone.Statement.{statement}
 use Rattle.reading.proofs.fields.Line.alone.Tie as tie
-use Rattle.reading.proofs.fields.Line.alone.Reads as reads
-use Rattle.reading.proofs.fields.Line.alone.Lts as lts
 
--- src/fields.rt:67:5
 returns : tie.Need-returns
 returns c = view-empty _ _
 
