@@ -1,6 +1,5 @@
 -- A number, digit by digit.
-use mathlib.Core.Path.{_≡_, refl, ap, _∙_}
-use mathlib.Core.Bool.{Bool, true, false}
+use mathlib.Core.Path.{_≡_, ap, _∙_}
 use mathlib.Core.List.{List, [], _∷_}
 use mathlib.Core.Option.{Option, none, some}
 use Prim.Native.Nat.{ℕ, _+_, _-_, _*_, _<_, _≤_}
@@ -12,6 +11,7 @@ use lib.ListN.{length, getD}
 use lib.Seq.{slice-cons, slice-empty, length-slice}
 use Rattle.model.specs.Basics.{_&_, choose, every}
 use Rattle.format.specs.Lines.{isDigit, decimalValue, number}
+use Rattle.reading.proofs.TestLaws.{second-fails}
 use Rattle.bytes.specs.Bytes.{slice}
 
 -- the number that some digits and then others make, where the first make v
@@ -22,11 +22,6 @@ numberFrom v l = choose (every isDigit l & leb (decimalValue v l) 4294967295) (s
 grows : (v : ℕ) (l : List ℕ) → v ≤ decimalValue v l
 grows v [] = omega arith
 grows v (b ∷ bs) = omega (arith, grows (10 * v + (b - 48)) bs)
-
-second-fails : (a : Bool) → a & false ≡ false
-unfolding _&_
-second-fails true = refl
-second-fails false = refl
 
 next-digit : (v b : ℕ) (bs : List ℕ) → 48 ≤ b → b ≤ 57 → numberFrom v (b ∷ bs) ≡ numberFrom (10 * v + (b - 48)) bs
 unfolding numberFrom _&_
@@ -42,7 +37,7 @@ above-digits v b bs h = rw (le-leb 48 b (omega arith), lt-leb b 57 h)
 
 too-large : (v : ℕ) (bs : List ℕ) → 4294967295 < v → numberFrom v bs ≡ none
 unfolding numberFrom choose
-too-large v bs h = rw (lt-leb (decimalValue v bs) 4294967295 (omega (arith, grows v bs)), second-fails (every isDigit bs))
+too-large v bs h = rw (second-fails (every isDigit bs) _ (lt-leb (decimalValue v bs) 4294967295 (omega (arith, grows v bs))))
 
 no-more : (v : ℕ) → v ≤ 4294967295 → numberFrom v [] ≡ some v
 unfolding numberFrom _&_ choose

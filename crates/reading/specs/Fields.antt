@@ -1,5 +1,5 @@
 -- A field and a line as the code answers them.
-use mathlib.Core.List.{List, _∷_, [], _++_}
+use mathlib.Core.List.{List, [], _∷_, _++_}
 use mathlib.Core.Option.{Option, none, some}
 use Prim.Native.Nat.{ℕ}
 use lib.Dec.{leb}

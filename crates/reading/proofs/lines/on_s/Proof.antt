@@ -1,7 +1,7 @@
 -- Each test that fails is one of the definition's; the step's words are stored behind the others.
 use mathlib.Core.Path.{_≡_}
 use lib.ListN.{length}
-use Rattle.reading.proofs.LetterLaws.{s-rank-zero, s-rank-high, s-short, s-full, s-taken}
+use Rattle.reading.proofs.StepLaws.{s-rank-zero, s-rank-high, s-short, s-full, s-taken}
 use borrow.Author.Needs.{needs}
 use Rattle.reading.proofs.lines.on_s.Statement.{statement}
 use Rattle.reading.proofs.lines.on_s.Tie as tie

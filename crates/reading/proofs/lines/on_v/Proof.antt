@@ -2,7 +2,7 @@
 use mathlib.Core.Path.{_≡_}
 use lib.ListN.{length}
 use Rattle.model.specs.Table.{Table}
-use Rattle.reading.proofs.LetterLaws.{at-rank-zero, at-rank-high, at-size, at-side, at-room, used-one, used-two, v-gives, v-taken-one, v-taken-two}
+use Rattle.reading.proofs.SideLaws.{at-rank-zero, at-rank-high, at-size, at-side, at-room, used-one, used-two, v-gives, v-taken-one, v-taken-two}
 use native.Mathlib.Omega.{arith}
 use borrow.Author.Needs.{needs}
 use Rattle.reading.proofs.lines.on_v.Statement.{statement}
