@@ -54,8 +54,8 @@ module _ (c n w : ℕ) (ws : List ℕ) (full : length ws ≡ 21) where
       view-line c (n + 1) (set ws n w) (omega arith) ∙ ap (λ (l : List ℕ). some (line c l)) e
       ∙ sym (ap (pushed w) (view-line c n ws (omega arith)) ∙ is-short c (take n ws ++ (w ∷ [])) (omega (arith, longer (omega arith))))
 
-  pub push-out : 21 ≤ n → viewLine (struct c ws 22) ≡ pushed w (viewLine (struct c ws n))
-  push-out h = view-none c 22 ws (omega arith) ∙ sym (go (leb n 21) refl)
+  pub push-out : (m : ℕ) → 21 ≤ n → 21 < m → viewLine (struct c ws m) ≡ pushed w (viewLine (struct c ws n))
+  push-out m h g = view-none c m ws g ∙ sym (go (leb n 21) refl)
     where
       go : (b : Bool) → leb n 21 ≡ b → pushed w (viewLine (struct c ws n)) ≡ none
       go true e = ap (pushed w) (view-line c n ws (leb-true n 21 e)) ∙ is-long c (take n ws ++ (w ∷ [])) (omega (arith, longer (leb-true n 21 e)))

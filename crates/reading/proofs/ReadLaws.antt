@@ -33,15 +33,15 @@ read-whole : (o : format.Reading) (i : Input) (p : Places) (l : Lists) → o ≡
 read-whole o i p l e h = rw e h
 
 -- a list has a first piece
-some-step : (c b : ℕ) (t : Bool) (ps : List (List ℕ)) → (m : List ℕ) × (ms : List (List ℕ)) × (ps ≡ m ∷ ms) → (m : List ℕ) × (ms : List (List ℕ)) × (choose t ([] ∷ ps) (toFirst b ps) ≡ m ∷ ms)
+some-step : (b : ℕ) (t : Bool) (ps : List (List ℕ)) → (m : List ℕ) × (ms : List (List ℕ)) × (ps ≡ m ∷ ms) → (m : List ℕ) × (ms : List (List ℕ)) × (choose t ([] ∷ ps) (toFirst b ps) ≡ m ∷ ms)
 unfolding choose toFirst
-some-step c b true ps x = ([], ps, refl)
-some-step c b false ps x = (b ∷ x .0, x .1, rw (x .2))
+some-step b true ps x = ([], ps, refl)
+some-step b false ps x = (b ∷ x .0, x .1, rw (x .2))
 
 some-piece : (c : ℕ) (l : List ℕ) → (m : List ℕ) × (ms : List (List ℕ)) × (pieces c l ≡ m ∷ ms)
 unfolding pieces
 some-piece c [] = ([], [], refl)
-some-piece c (b ∷ bs) = some-step c b (eqb b c) (pieces c bs) (some-piece c bs)
+some-piece c (b ∷ bs) = some-step b (eqb b c) (pieces c bs) (some-piece c bs)
 
 -- a line with its newline
 line-none : (n : ℕ) (i : Input) (f m : List ℕ) (ms : List (List ℕ)) → withLine i f ≡ none → readFrom n i (f ∷ m ∷ ms) ≡ fault n

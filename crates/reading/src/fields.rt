@@ -21,6 +21,7 @@ pub(crate) struct Line {
     pub(crate) len: usize,
 }
 
+// A byte as a wider number.
 fn wide(b: u8) -> u64
     ensures { λ r. ⌜ r ≡ b ⌝ }
 {

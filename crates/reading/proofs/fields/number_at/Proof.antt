@@ -40,7 +40,7 @@ add-w : tie.Need-add-w Inv-loop μ-loop
 add-w c = search needs
 
 returns-4 : tie.Need-returns-4 Inv-loop μ-loop
-returns-4 c = sym (ap answerOf (c .before .before .before .before .before .before .loop .inv .2 ∙ large _ _ _ _ _ (c .before .before .before .before .before .loop-test .taken) (search needs) (c .before .before .before .wide .ensures) (c .before .before .if2 .left) (c .before .if3 .left) (c .if4 .taken)))
+returns-4 c = sym (ap answerOf (c .before .before .before .before .before .before .loop .inv .2 ∙ large _ _ _ _ _ (c .before .before .before .before .before .loop-test .taken) (search needs) (c .before .before .before .wide .ensures) (c .before .before .if2 .left) (c .before .if3 .left) (search needs)))
 
 add-at : tie.Need-add-at Inv-loop μ-loop
 add-at c = search needs

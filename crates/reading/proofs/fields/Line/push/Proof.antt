@@ -17,7 +17,7 @@ returns : tie.Need-returns
 returns c = push-in _ _ _ _ (search needs) (c .if1 .taken)
 
 returns-2 : tie.Need-returns-2
-returns-2 c = push-out _ _ _ _ (search needs) (c .if1 .left)
+returns-2 c = push-out _ _ _ _ (search needs) _ (c .if1 .left) (search needs)
 
 pub push-spec : {M : Type 1} → statement M
 push-spec = tie.close (tie.spec mul-self element-write-self add-self returns returns-2)
