@@ -18,7 +18,7 @@ use Rattle.model.specs.Step.{Step, Result, step}
 use Rattle.model.specs.Answer.{valueBy, Given}
 use Rattle.model.proofs.Invariant.{keeps}
 use Rattle.model.proofs.Starts.{starts}
-use Rattle.format.specs.Words.{before, stepsOf, stepAt, saidWords, givenWords, answerWords, allAnswerWords, answers, brokenOff, tooShort, unloaded, answered, runFrom, runSteps, runOf, onto}
+use Rattle.format.specs.Words.{before, stepsOf, stepAt, saidWords, givenWords, answerWords, allAnswerWords, answers, brokenOff, tooShort, unloaded, answered, runFrom, runSteps, runOf}
 use Rattle.format.specs.Words.{Ran as FRan}
 use Rattle.format.proofs.StepWords.{steps-next, steps-short, steps-cut, steps-end, Next, next-step}
 use Rattle.steps.specs.declared.Said.{Said}
@@ -34,7 +34,7 @@ use Rattle.interpreter.specs.declared.Ran.the-variants as ran
 use Rattle.interpreter.specs.Loading.{outcomeOf, stateLoaded, LoadIs}
 use Rattle.dispatch.specs.Stepping.{asked}
 use Rattle.interpreter.specs.Answers.{saidOf, ResultIs}
-use Rattle.interpreter.specs.Running.{countOf, wordsIn, RunIs}
+use Rattle.interpreter.specs.Running.{countOf, wordsIn, Put, RunIs}
 
 -- HOW MANY STEPS
 -- n steps before a count
@@ -178,18 +178,22 @@ module _ {b : Composition} {s : MState} {l lent : List ℕ} {n k p : ℕ} {t : M
             ∙ ap (λ (z : List ℕ). z ++ allAnswerWords (answers b u (y .others))) (sym taken);
       }
 
-  pub run-end : n ≤ k → 20 * n ≤ length lent → (xs : List Step) → stepsOf l ≡ some xs → out ≡ onto (allAnswerWords (answers b s xs)) lent
+  pub run-end : n ≤ k → 20 * n ≤ length lent → (xs : List Step) → stepsOf l ≡ some xs → Put (allAnswerWords (answers b s xs)) n lent out
   unfolding answers
   run-end le room xs f = by (h .rest) refl
     where
-      by : (r : List Step) → h .rest ≡ r → out ≡ onto (allAnswerWords (answers b s xs)) lent
+      by : (r : List Step) → h .rest ≡ r → Put (allAnswerWords (answers b s xs)) n lent out
       by (y ∷ ys) e = absurd (omega (arith, h .many, ap length e))
       by [] e =
           let w : allAnswerWords (answers b s xs) ≡ take (20 * k) out = h .total xs f ∙ ap (λ (r : List Step). take (20 * k) out ++ allAnswerWords (answers b t r)) e ∙ append-nil (take (20 * k) out) in
           let c : length (allAnswerWords (answers b s xs)) ≡ 20 * k = ap length w ∙ length-take-le (20 * k) out (omega (arith, h .size, h .many)) in
-          sym (take-append-drop (20 * k) out)
-          ∙ ap (λ (z : List ℕ). z ++ drop (20 * k) out) (sym w)
-          ∙ ap (λ (z : List ℕ). allAnswerWords (answers b s xs) ++ z) (h .same ∙ ap (λ (m : ℕ). drop m lent) (sym c))
+          record {
+            size = omega (arith, c, h .many, ap length e);
+            words =
+                sym (take-append-drop (20 * k) out)
+                ∙ ap (λ (z : List ℕ). z ++ drop (20 * k) out) (sym w)
+                ∙ ap (λ (z : List ℕ). allAnswerWords (answers b s xs) ++ z) (h .same ∙ ap (λ (m : ℕ). drop m lent) (sym c));
+          }
 
 -- WHAT A RUN COMES TO
 pub has-room : (m n : ℕ) → n ≤ m / 20 → 20 * n ≤ m
@@ -226,7 +230,7 @@ answers-many b t (x ∷ xs) = ap suc (answers-many b (step b t x .after) xs)
 
 module _ (b : Composition) (l lent : List ℕ) where
   pub run-broken : countOf (stepsOf l) ≡ none → RunIs (runOf b l (length lent)) lent lent ran.BrokenOff
-  run-broken e = run-by (ap (runSteps b (length lent)) (no-steps (stepsOf l) e)) (record { answer = refl; words = refl })
+  run-broken e = run-by (ap (runSteps b (length lent)) (no-steps (stepsOf l) e)) (record { answer = refl; put = record { size = refl; words = refl } })
 
   module _ (n : ℕ) (h : Has (stepsOf l) n) where
     by-room : (t : Bool) → ltb (length lent) (20 * length (h .steps)) ≡ t → runOf b l (length lent) ≡ choose t tooShort (runFrom b (h .steps) (load b))
@@ -234,17 +238,19 @@ module _ (b : Composition) (l lent : List ℕ) where
 
     pub run-short : length lent / 20 < n → RunIs (runOf b l (length lent)) lent lent ran.TooShort
     unfolding choose
-    run-short lt = run-by (by-room true (lt-ltb (length lent) (20 * length (h .steps)) (omega (arith, h .many)))) (record { answer = refl; words = refl })
+    run-short lt = run-by (by-room true (lt-ltb (length lent) (20 * length (h .steps)) (omega (arith, h .many)))) (record { answer = refl; put = record { size = refl; words = refl } })
 
     room-left : n ≤ length lent / 20 → runOf b l (length lent) ≡ runFrom b (h .steps) (load b)
     unfolding choose
     room-left room = by-room false (le-ltb (length lent) (20 * length (h .steps)) (omega (arith, h .many)))
 
     pub run-refused : n ≤ length lent / 20 → (k i m : ℕ) → outcomeOf (load b) ≡ outcome.Refused k i m → RunIs (runOf b l (length lent)) lent lent (ran.Refused k i m)
-    run-refused room k i m e = run-by (room-left room ∙ ap (runFrom b (h .steps)) (refused-is k i m (load b) e)) (record { answer = refl; words = refl })
+    run-refused room k i m e = run-by (room-left room ∙ ap (runFrom b (h .steps)) (refused-is k i m (load b) e)) (record { answer = refl; put = record { size = refl; words = refl } })
 
-    pub run-done : n ≤ length lent / 20 → (s : MState) → load b ≡ ok s → (new : List ℕ) → new ≡ onto (allAnswerWords (answers b s (h .steps))) lent → RunIs (runOf b l (length lent)) lent new (ran.Done n)
-    run-done room s e new w = run-by (room-left room ∙ ap (runFrom b (h .steps)) e) (record { answer = ap ran.Done (sym (h .many) ∙ sym (answers-many b s (h .steps))); words = w })
+    pub run-done : n ≤ length lent / 20 → (s : MState) → load b ≡ ok s → (new : List ℕ) → Put (allAnswerWords (answers b s (h .steps))) n lent new → RunIs (runOf b l (length lent)) lent new (ran.Done n)
+    run-done room s e new w =
+        let many : n ≡ length (answers b s (h .steps)) = sym (h .many) ∙ sym (answers-many b s (h .steps)) in
+        run-by (room-left room ∙ ap (runFrom b (h .steps)) e) (record { answer = ap ran.Done many; put = record { size = w .size ∙ ap (λ (m : ℕ). 20 * m) many; words = w .words } })
 
 -- a load that is ok gives the state that its struct holds
 pub record Begun (b : Composition) (t : State) : Type 0 where

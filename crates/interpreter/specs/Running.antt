@@ -2,7 +2,7 @@
 use mathlib.Core.Path.{_≡_}
 use mathlib.Core.List.{List}
 use mathlib.Core.Option.{Option, none, some}
-use Prim.Native.Nat.{ℕ}
+use Prim.Native.Nat.{ℕ, _*_}
 use lib.ListN.{length}
 use Rattle.model.specs.Step.{Step}
 use Rattle.format.specs.Words.{brokenOff, tooShort, unloaded, answered, givenWords, writtenBy, onto}
@@ -27,6 +27,11 @@ countedOf counted.BrokenOff = none
 abbrev pub wordsIn : Said → (side len : ℕ) → List ℕ → List ℕ
 wordsIn a n l ws = givenWords (record { said = saidOf a; side = n; len = l; words = ws })
 
+-- the lent words after n answers of 20 words each are put at their start
+pub record Put (ws : List ℕ) (n : ℕ) (lent after : List ℕ) : Type 0 where
+  pub size : length ws ≡ 20 * n
+  pub words : after ≡ onto ws lent
+
 -- what a run comes to, as the enum holds it
 abbrev pub ranOf : FRan → Ran
 ranOf brokenOff = ran.BrokenOff
@@ -34,7 +39,15 @@ ranOf tooShort = ran.TooShort
 ranOf (unloaded e) = ran.Refused (e .number) (e .side) (e .node)
 ranOf (answered xs) = ran.Done (length xs)
 
--- r is what a run comes to, and the lent words after it have its answers at their start and are otherwise as they were
+-- how many answers a run gives
+abbrev pub answersIn : FRan → ℕ
+answersIn brokenOff = 0
+answersIn tooShort = 0
+answersIn (unloaded e) = 0
+answersIn (answered xs) = length xs
+
+-- r is what a run comes to, and the lent words after it have its answers at their start, 20 words each, and are otherwise as
+-- they were
 pub record RunIs (x : FRan) (lent after : List ℕ) (r : Ran) : Type 0 where
   pub answer : r ≡ ranOf x
-  pub words : after ≡ onto (writtenBy x) lent
+  pub put : Put (writtenBy x) (answersIn x) lent after

@@ -9,11 +9,11 @@ ghost use lib.Seq.{paste};
 ghost use Rattle.model.specs.WellFormed.{ready};
 ghost use Rattle.model.specs.Step.{Step};
 ghost use Rattle.model.specs.Step.{step as Step·step};
-ghost use Rattle.format.specs.Words.{stepsOf, stepAt, saidWords, answers, allAnswerWords, runOf, onto};
+ghost use Rattle.format.specs.Words.{stepsOf, stepAt, saidWords, answers, allAnswerWords, runOf};
 ghost use Rattle.sides.specs.Views.{viewState, fitsArrays};
 ghost use Rattle.interpreter.specs.Loading.{composition};
 ghost use Rattle.interpreter.specs.Answers.{saidOf, ResultIs};
-ghost use Rattle.interpreter.specs.Running.{countOf, countedOf, wordsIn, RunIs};
+ghost use Rattle.interpreter.specs.Running.{countOf, countedOf, wordsIn, Put, RunIs};
 use crate::Outcome;
 use crate::Ran;
 use crate::Stepped;
@@ -179,7 +179,7 @@ fn run_loaded(
     out: &mut [u32],
 )
     requires { ⌜ (fitsArrays s ≡ true) × (ready (composition wrapper (now nodes1) (now pool1) (now nodes2) (now pool2)) (viewState s) ≡ true) × (countOf (stepsOf (now steps)) ≡ some n) × (20 * n ≤ length (now out)) ⌝ }
-    ensures { λ _. ⌜ ((xs : List Step) → stepsOf (now (steps .entry)) ≡ some xs → now (out .exit) ≡ onto (allAnswerWords (answers (composition wrapper (now (nodes1 .entry)) (now (pool1 .entry)) (now (nodes2 .entry)) (now (pool2 .entry))) (viewState s) xs)) (now (out .entry))) ⌝ }
+    ensures { λ _. ⌜ ((xs : List Step) → stepsOf (now (steps .entry)) ≡ some xs → Put (allAnswerWords (answers (composition wrapper (now (nodes1 .entry)) (now (pool1 .entry)) (now (nodes2 .entry)) (now (pool2 .entry))) (viewState s) xs)) n (now (out .entry)) (now (out .exit))) ⌝ }
 {
     let mut state = s;
     let mut p: usize = 0;
