@@ -20,6 +20,7 @@ use Rattle.model.proofs.Invariant.{keeps}
 use Rattle.model.proofs.Starts.{starts}
 use Rattle.format.specs.Words.{before, stepsOf, stepAt, saidWords, givenWords, answerWords, allAnswerWords, answers, brokenOff, tooShort, unloaded, answered, runFrom, runSteps, runOf}
 use Rattle.format.specs.Words.{Ran as FRan}
+use Rattle.format.proofs.AnswerWords.{answers-many}
 use Rattle.format.proofs.StepWords.{steps-next, steps-short, steps-cut, steps-end, Next, next-step}
 use Rattle.steps.specs.declared.Said.{Said}
 use Rattle.steps.specs.declared.Said.the-variants as said
@@ -222,11 +223,6 @@ refused-same k i m x p q r = rw (p, q, r)
 refused-is : (k i m : ℕ) (o : Loaded) → outcomeOf o ≡ outcome.Refused k i m → o ≡ refused (record { number = k; side = i; node = m })
 refused-is k i m (refused x) q = let a : k ≡ x .number = cc in let c : i ≡ x .side = cc in let d : m ≡ x .node = cc in ap refused (refused-same k i m x a c d)
 refused-is k i m (ok s) q = let z : _≡_ {A = ℕ} 0 1 = cc in absurd (omega arith)
-
-answers-many : (b : Composition) (t : MState) (xs : List Step) → length (answers b t xs) ≡ length xs
-unfolding answers
-answers-many b t [] = refl
-answers-many b t (x ∷ xs) = ap suc (answers-many b (step b t x .after) xs)
 
 module _ (b : Composition) (l lent : List ℕ) where
   pub run-broken : countOf (stepsOf l) ≡ none → RunIs (runOf b l (length lent)) lent lent ran.BrokenOff

@@ -21,15 +21,15 @@ use Rattle.reading.specs.declared.lines.After.{After}
 use Rattle.reading.specs.declared.lines.After.the-variants.{Fault, Next}
 use Rattle.reading.specs.declared.fields.Line as code
 use Rattle.reading.specs.Fields.{viewLine, short, afterLine}
-use Rattle.reading.specs.Lists.{Lists, Holds, AfterIs, ReadIs}
+use Rattle.reading.specs.Lists.{Lists, Holds, AfterIs, ReadAs}
 use Rattle.reading.proofs.PieceLaws as part
 use Rattle.reading.proofs.LetterLaws.{with-line}
 
 -- an answer by what is read
-read-fault : (o : format.Reading) (n : ℕ) (l : Lists) → o ≡ fault n → ReadIs o (answer.Fault n) l
+read-fault : (o : format.Reading) (n : ℕ) (l : Lists) → o ≡ fault n → ReadAs o (answer.Fault n) l
 read-fault o n l e = rw e
 
-read-whole : (o : format.Reading) (i : Input) (p : Places) (l : Lists) → o ≡ whole i → Holds i p l → ReadIs o (answer.Whole p) l
+read-whole : (o : format.Reading) (i : Input) (p : Places) (l : Lists) → o ≡ whole i → Holds i p l → ReadAs o (answer.Whole p) l
 read-whole o i p l e h = rw e h
 
 -- a list has a first piece
@@ -54,15 +54,15 @@ line-some n i j f m ms e = rw (e, readFrom)
 
 -- what stands behind the last newline
 module _ (n : ℕ) (i : Input) (p : Places) (l : Lists) (h : Holds i p l) (f : List ℕ) where
-  pub rest-some : 0 < length f → ReadIs (readFrom n i (f ∷ [])) (answer.Fault n) l
+  pub rest-some : 0 < length f → ReadAs (readFrom n i (f ∷ [])) (answer.Fault n) l
   unfolding readFrom _&_ choose
   rest-some e = read-fault (readFrom n i (f ∷ [])) n l (rw (ne-eqb (length f) 0 (λ q. omega arith)))
 
-  pub rest-none : length f ≤ 0 → p .rank ≡ 0 → ReadIs (readFrom n i (f ∷ [])) (answer.Fault n) l
+  pub rest-none : length f ≤ 0 → p .rank ≡ 0 → ReadAs (readFrom n i (f ∷ [])) (answer.Fault n) l
   unfolding readFrom _&_ choose
   rest-none e z = read-fault (readFrom n i (f ∷ [])) n l (rw (eq-eqb (length f) 0 (omega arith), sym (h .rank) ∙ z))
 
-  pub rest-whole : length f ≤ 0 → (p .rank ≡ 0 → ⊥) → ReadIs (readFrom n i (f ∷ [])) (answer.Whole p) l
+  pub rest-whole : length f ≤ 0 → (p .rank ≡ 0 → ⊥) → ReadAs (readFrom n i (f ∷ [])) (answer.Whole p) l
   unfolding readFrom _&_ choose
   rest-whole e z = read-whole (readFrom n i (f ∷ [])) i p l (rw (eq-eqb (length f) 0 (omega arith), lt-ltb 0 (i .rank) (omega (arith, h .rank, z)))) h
 
@@ -76,7 +76,7 @@ gave-some none r p l e a = let q : Next p ≡ Fault = sym e ∙ a in let z : _�
 gave-some (some i) r p l e a = (i, refl, rw e at a)
 
 -- an input that is too long, and one before its first line
-pub too-long : (s : List ℕ) (l : Lists) → 65536 < length s → ReadIs (reading s) (answer.Fault 0) l
+pub too-long : (s : List ℕ) (l : Lists) → 65536 < length s → ReadAs (reading s) (answer.Fault 0) l
 unfolding reading choose
 too-long s l h = read-fault (reading s) 0 l (rw (lt-leb (length s) 65536 h))
 
@@ -94,7 +94,7 @@ module _ (s : List ℕ) (at to q n : ℕ) (i : Input) (up : at ≤ to) (fits : t
   line-of : (c : code.Line) → viewLine c ≡ short (lineOf (slice at q s)) → withLine i (slice at q s) ≡ afterLine i (viewLine c)
   line-of c e = with-line i (slice at q s) ∙ ap (afterLine i) (sym e)
 
-  pub line-fault : q < to → (c : code.Line) (r : After) (l : Lists) → viewLine c ≡ short (lineOf (slice at q s)) → AfterIs (afterLine i (viewLine c)) r l → r ≡ Fault → ReadIs (reading s) (answer.Fault n) l
+  pub line-fault : q < to → (c : code.Line) (r : After) (l : Lists) → viewLine c ≡ short (lineOf (slice at q s)) → AfterIs (afterLine i (viewLine c)) r l → r ≡ Fault → ReadAs (reading s) (answer.Fault n) l
   line-fault h c r l e a f = let x = more h in read-fault (reading s) n l (x .3 ∙ line-none n i _ (x .0) (x .1) (line-of c e ∙ gave-none _ r l f a))
 
   pub line-taken : q < to → (c : code.Line) (r : After) (p : Places) (l : Lists) → viewLine c ≡ short (lineOf (slice at q s)) → AfterIs (afterLine i (viewLine c)) r l → r ≡ Next p →
@@ -108,5 +108,5 @@ module _ (s : List ℕ) (at to q n : ℕ) (i : Input) (up : at ≤ to) (fits : t
   unfolding slice
   size e = rw e (length-slice at to s fits)
 
-  pub no-newline : q ≡ to → (r : Reading) (p : Places) (l : Lists) → Holds i p l → ((j : Input) (k : Lists) (rest : List ℕ) → Holds j p k → length rest ≡ to - at → ReadIs (readFrom n j (rest ∷ [])) r k) → ReadIs (reading s) r l
+  pub no-newline : q ≡ to → (r : Reading) (p : Places) (l : Lists) → Holds i p l → ((j : Input) (k : Lists) (rest : List ℕ) → Holds j p k → length rest ≡ to - at → ReadAs (readFrom n j (rest ∷ [])) r k) → ReadAs (reading s) r l
   no-newline e r p l g f = rw (so-far ∙ ap (readFrom n i) (part.last newline s at to q up fits found e)) (f i l (slice at q s) g (size e))

@@ -61,7 +61,11 @@ AfterIs (some i) Fault l = ⊥
 AfterIs (some i) (Next p) l = Holds i p l
 
 -- the answer of an input: the number of the line at fault; else the lists hold what is read
-abbrev pub ReadIs : format.Reading → Reading → Lists → Type 0
-ReadIs (fault n) r l = r ≡ answer.Fault n
-ReadIs (whole i) (answer.Fault n) l = ⊥
-ReadIs (whole i) (answer.Whole p) l = Holds i p l
+abbrev pub ReadAs : format.Reading → Reading → Lists → Type 0
+ReadAs (fault n) r l = r ≡ answer.Fault n
+ReadAs (whole i) (answer.Fault n) l = ⊥
+ReadAs (whole i) (answer.Whole p) l = Holds i p l
+
+-- r is what an input is read as
+pub record ReadIs (x : format.Reading) (r : Reading) (l : Lists) : Type 0 where
+  pub is : ReadAs x r l

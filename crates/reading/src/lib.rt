@@ -7,7 +7,7 @@ ghost use mathlib.Core.List.{List, [], _∷_};
 ghost use Prim.Native.Nat.{ℕ};
 ghost use lib.ListN.{length};
 ghost use Rattle.format.specs.Lines.{Input, noInput, readFrom, reading};
-ghost use Rattle.reading.specs.Lists.{Lists, lists, Holds, ReadIs};
+ghost use Rattle.reading.specs.Lists.{Lists, lists, Holds, ReadAs, ReadIs};
 use fields::line_at;
 use lines::After;
 use lines::on_line;
@@ -49,7 +49,7 @@ impl Places {
 
     // What is read in all, where line n has no newline and so many bytes.
     fn ended(self, n: usize, bytes: usize) -> Reading
-        ensures { λ r. ⌜ ((i : Input) (l : Lists) (rest : List ℕ) → Holds i self l → length rest ≡ bytes → ReadIs (readFrom n i (rest ∷ [])) r l) ⌝ }
+        ensures { λ r. ⌜ ((i : Input) (l : Lists) (rest : List ℕ) → Holds i self l → length rest ≡ bytes → ReadAs (readFrom n i (rest ∷ [])) r l) ⌝ }
     {
         if 0 < bytes {
             return Reading::Fault(n);

@@ -18,7 +18,7 @@ abbrev μ-loop : tie.MeasureT-loop
 μ-loop input nodes1₀ pool1₀ nodes2₀ pool2₀ steps₀ len p₀ n₀ at₀ nodes1 pool1 nodes2 pool2 steps p n at = len - at
 
 returns : tie.Need-returns Inv-loop μ-loop
-returns c = too-long _ _ (c .if1 .taken)
+returns c = record { is = too-long _ _ (c .if1 .taken) }
 
 none-requires : tie.Need-none-requires Inv-loop μ-loop
 none-requires c κs = search needs
@@ -36,7 +36,7 @@ ended-requires : tie.Need-ended-requires Inv-loop μ-loop
 ended-requires c κs = search needs
 
 returns-2 : tie.Need-returns-2 Inv-loop μ-loop
-returns-2 c = let a = c .before .before .before .before .before .before .before .args in let l = c .before .before .before .loop in let x = l .inv .3 in let f = c .before .before .find .ensures in no-newline (a .input .now) (l .at) _ (c .before .before .find .result) (l .n) (x .0) (search needs) (search needs) (f .0) (x .2) (c .before .if2 .taken) (c .ended .result) (l .p) _ (x .1) (c .ended .ensures)
+returns-2 c = let a = c .before .before .before .before .before .before .before .args in let l = c .before .before .before .loop in let x = l .inv .3 in let f = c .before .before .find .ensures in record { is = no-newline (a .input .now) (l .at) _ (c .before .before .find .result) (l .n) (x .0) (search needs) (search needs) (f .0) (x .2) (c .before .if2 .taken) (c .ended .result) (l .p) _ (x .1) (c .ended .ensures) }
 
 line-at-requires : tie.Need-line-at-requires Inv-loop μ-loop
 line-at-requires c κs = search needs
@@ -48,7 +48,7 @@ enum-told : tie.Need-enum-told Inv-loop μ-loop
 enum-told c = search needs
 
 returns-3 : tie.Need-returns-3 Inv-loop μ-loop
-returns-3 c = let a = c .before .before .before .before .before .before .before .before .before .before .before .before .before .before .before .args in let l = c .before .before .before .before .before .before .before .before .before .before .before .loop in let x = l .inv .3 in let f = c .before .before .before .before .before .before .before .before .before .before .find .ensures in line-fault (a .input .now) (l .at) _ (c .before .before .before .before .before .before .before .before .before .before .find .result) (l .n) (x .0) (search needs) (search needs) (f .0) (x .2) (omega (arith, f .1, c .before .before .before .before .before .before .before .before .before .if2 .left)) (c .before .before .before .before .before .before .before .before .line-at .result) (c .before .before .on-line .result) _ (c .before .before .before .before .before .before .before .before .line-at .ensures) (c .before .before .on-line .ensures (x .0) (x .1)) (c .enum-told .given .1)
+returns-3 c = let a = c .before .before .before .before .before .before .before .before .before .before .before .before .before .before .before .args in let l = c .before .before .before .before .before .before .before .before .before .before .before .loop in let x = l .inv .3 in let f = c .before .before .before .before .before .before .before .before .before .before .find .ensures in record { is = line-fault (a .input .now) (l .at) _ (c .before .before .before .before .before .before .before .before .before .before .find .result) (l .n) (x .0) (search needs) (search needs) (f .0) (x .2) (omega (arith, f .1, c .before .before .before .before .before .before .before .before .before .if2 .left)) (c .before .before .before .before .before .before .before .before .line-at .result) (c .before .before .on-line .result) _ (c .before .before .before .before .before .before .before .before .line-at .ensures) (c .before .before .on-line .ensures (x .0) (x .1)) (c .enum-told .given .1) }
 
 enum-known-next : tie.Need-enum-known-next Inv-loop μ-loop
 enum-known-next c = search needs

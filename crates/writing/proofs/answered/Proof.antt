@@ -19,18 +19,20 @@ Inv-loop out₀ answers n at₀ k₀ out at k = (k ≤ n) × (n ≤ 1024) × (at
 abbrev μ-loop : tie.MeasureT-loop
 μ-loop out₀ answers n at₀ k₀ out at k = n - k
 
-returns : tie.Need-returns Inv-loop μ-loop
-returns c = (search needs, λ xs e h w. absurd (omega arith))
-
 slice-aggregate-put : tie.Need-slice-aggregate-put Inv-loop μ-loop
 slice-aggregate-put c = search needs
 
 put-requires : tie.Need-put-requires Inv-loop μ-loop
 put-requires c κs = search needs
 
+returns : tie.Need-returns Inv-loop μ-loop
+returns c =
+    let full : length (c .before .before .before .before .args .out .now) ≡ 262144 = search needs in
+    (search needs, (c .before .put .ensures .same ∙ full, λ xs e h w. absurd (omega arith)))
+
 loop-holds : tie.Need-loop-holds Inv-loop μ-loop
 loop-holds c =
-    let first = c .put .ensures in
+    let first = c .before .put .ensures in
     (search needs, search needs, omega (arith, first .end), search needs, λ xs e w. ap (λ l. l ++ answerLines 0 xs) (first .text))
 
 put-line-requires : tie.Need-put-line-requires Inv-loop μ-loop
@@ -50,7 +52,7 @@ loop-again c =
     (search needs, search needs, omega (arith, line .1), line .0 .same ∙ l .inv .3, λ xs e w. line-more (a .answers .now) _ _ _ (a .n) (l .k) (l .at) _ xs (search needs) e w (search needs) (line .0) (l .inv .4 xs e w))
 
 returns-2 : tie.Need-returns-2 Inv-loop μ-loop
-returns-2 c = let l = c .before .loop in (omega arith, λ xs e h w. line-none _ _ (l .k) xs (omega arith) (l .inv .4 xs e w))
+returns-2 c = let l = c .before .loop in (omega arith, (l .inv .3, λ xs e h w. line-none _ _ (l .k) xs (omega arith) (l .inv .4 xs e w)))
 
 pub answered-spec : {M : Type 1} → statement M
 answered-spec =
@@ -58,9 +60,9 @@ answered-spec =
     (tie.spec
     Inv-loop
     μ-loop
-    returns
     slice-aggregate-put
     put-requires
+    returns
     loop-holds
     put-line-requires
     add-k

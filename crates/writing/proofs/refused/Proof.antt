@@ -1,5 +1,6 @@
 -- `writing::refused` meets its contract.
 use mathlib.Core.List.{[], _∷_}
+use mathlib.Core.Path.{_∙_}
 use Rattle.writing.proofs.WrittenLaws.{joined, spelled}
 use Rattle.writing.proofs.FieldLaws.{fields-joined}
 use borrow.Author.Needs.{needs}
@@ -37,7 +38,8 @@ returns c =
     let last = c .put2 .ensures in
     let two = spelled (fields-joined (a .number ∷ []) (a .side ∷ [])) (joined (field .0) (second .0)) in
     let three = spelled (fields-joined (a .number ∷ a .side ∷ []) (a .node ∷ [])) (joined two (third .0)) in
-    (search needs, joined (joined first three) last .text)
+    let all = joined (joined first three) last in
+    (search needs, (all .same ∙ search needs, all .text))
 
 pub refused-spec : {M : Type 1} → statement M
 refused-spec =
