@@ -1,13 +1,18 @@
 // A root !in^parent y, or !in^parent _, over a body that unfolds to its last node at a meeting.
-use crate::lists::append;
 use crate::lists::boxes;
 use crate::lists::inputs;
 use crate::lists::news;
 use crate::lists::node;
 use crate::lists::output;
 use crate::lists::outputs;
-use crate::lists::repeat;
 use crate::lists::spine;
+use crate::schedules::down;
+use crate::schedules::enter;
+use crate::schedules::leave;
+use crate::schedules::meet;
+use crate::schedules::pass;
+use crate::schedules::rounds;
+use crate::schedules::up;
 use crate::tried::ends;
 use crate::tried::tried;
 
@@ -17,57 +22,17 @@ fn parallels(name: &[u8], left: bool) {
     node(&mut nodes, 0, 6, 0, 1, 1, 1);
     spine(&mut nodes, 1, 127, left);
     node(&mut nodes, 255, 4, 10, 1, 1, 0);
-    // enter (), down, meet; enter 1, down, meet, up, pass, leave
-    let steps = [
-        1u32,
-        1,
-        0,
-        0,
-        1,
-        4000000,
-        2,
-        1,
-        0,
-        0,
-        0,
-        5,
-        1,
-        1,
-        0,
-        0,
-        1,
-        1,
-        0,
-        0,
-        1,
-        1,
-        2,
-        1,
-        0,
-        0,
-        0,
-        5,
-        1,
-        2,
-        0,
-        0,
-        3,
-        1,
-        2,
-        0,
-        0,
-        6,
-        1,
-        0,
-        0,
-        0,
-        7,
-        1,
-        0,
-        0,
-        0,
-    ];
-    tried(name, &nodes, &steps);
+    let mut list = [0u32; 4400];
+    let at = enter(&mut list, 0, &[4000000]);
+    let at = down(&mut list, at, 0);
+    let at = meet(&mut list, at, 1, 0);
+    let at = enter(&mut list, at, &[1]);
+    let at = down(&mut list, at, 0);
+    let at = meet(&mut list, at, 2, 0);
+    let at = up(&mut list, at, 2);
+    let at = pass(&mut list, at, 0);
+    let at = leave(&mut list, at, 0);
+    tried(name, &nodes, &list, at);
 }
 
 // !in^parent _. new n1. .. new n8. (0 | (0 | .. out^parent (n1 .. n8))): 32 meetings mint all 256 names.
@@ -77,44 +42,12 @@ fn eight_news() {
     news(&mut nodes);
     spine(&mut nodes, 9, 123, false);
     output(&mut nodes, 255, 6);
-    // enter, down, meet, up, pass, leave
-    let round = [
-        1u32,
-        1,
-        0,
-        0,
-        1,
-        20,
-        2,
-        1,
-        0,
-        0,
-        0,
-        5,
-        1,
-        1,
-        0,
-        0,
-        3,
-        1,
-        1,
-        0,
-        0,
-        6,
-        1,
-        0,
-        0,
-        0,
-        7,
-        1,
-        0,
-        0,
-        0,
-    ];
     let mut list = [0u32; 4400];
-    let at = repeat(&mut list, 0, &round, 32);
-    append(&mut list, at, &round[..16]);
-    ends(b"8 new", &nodes, &list, 1008, 6, 191);
+    let at = rounds(&mut list, 0, 32);
+    let at = enter(&mut list, at, &[20]);
+    let at = down(&mut list, at, 0);
+    let at = meet(&mut list, at, 1, 0);
+    ends(b"8 new", &nodes, &list, at, 6, 191);
 }
 
 // !in^parent y. with 128 outputs of (y y), which are too many, and too long for a value of 8 words.
@@ -124,48 +57,14 @@ fn all_outputs() {
     spine(&mut nodes, 1, 127, false);
     outputs(&mut nodes, 2, 127, 2);
     output(&mut nodes, 255, 2);
-    let steps = [
-        1u32,
-        1,
-        0,
-        0,
-        1,
-        20,
-        2,
-        1,
-        0,
-        0,
-        0,
-        5,
-        1,
-        1,
-        0,
-        0,
-        1,
-        1,
-        0,
-        0,
-        8,
-        4000007,
-        20,
-        21,
-        22,
-        23,
-        24,
-        25,
-        26,
-        2,
-        1,
-        0,
-        0,
-        0,
-        5,
-        1,
-        2,
-        0,
-        0,
-    ];
-    tried(b"128 outputs", &nodes, &steps);
+    let mut list = [0u32; 4400];
+    let at = enter(&mut list, 0, &[20]);
+    let at = down(&mut list, at, 0);
+    let at = meet(&mut list, at, 1, 0);
+    let at = enter(&mut list, at, &[4000007, 20, 21, 22, 23, 24, 25, 26]);
+    let at = down(&mut list, at, 0);
+    let at = meet(&mut list, at, 2, 0);
+    tried(b"128 outputs", &nodes, &list, at);
 }
 
 // !in^parent y. with 31 outputs of (y y) at the end: 32 particles.
@@ -175,68 +74,18 @@ fn last_31() {
     spine(&mut nodes, 1, 127, false);
     outputs(&mut nodes, 196, 30, 2);
     output(&mut nodes, 255, 2);
-    // enter, down, meet; enter, down, up, pass, leave, down, meet
-    let steps = [
-        1u32,
-        1,
-        0,
-        0,
-        7,
-        4000006,
-        20,
-        21,
-        22,
-        23,
-        24,
-        25,
-        2,
-        1,
-        0,
-        0,
-        0,
-        5,
-        1,
-        1,
-        0,
-        0,
-        1,
-        1,
-        0,
-        0,
-        1,
-        21,
-        2,
-        1,
-        0,
-        0,
-        0,
-        3,
-        1,
-        31,
-        0,
-        0,
-        6,
-        1,
-        1,
-        0,
-        0,
-        7,
-        1,
-        1,
-        0,
-        0,
-        2,
-        1,
-        0,
-        0,
-        0,
-        5,
-        1,
-        31,
-        0,
-        0,
-    ];
-    tried(b"31 outputs", &nodes, &steps);
+    let mut list = [0u32; 4400];
+    let at = enter(&mut list, 0, &[4000006, 20, 21, 22, 23, 24, 25]);
+    let at = down(&mut list, at, 0);
+    let at = meet(&mut list, at, 1, 0);
+    let at = enter(&mut list, at, &[21]);
+    let at = down(&mut list, at, 0);
+    let at = up(&mut list, at, 31);
+    let at = pass(&mut list, at, 1);
+    let at = leave(&mut list, at, 1);
+    let at = down(&mut list, at, 0);
+    let at = meet(&mut list, at, 31, 0);
+    tried(b"31 outputs", &nodes, &list, at);
 }
 
 // A root that stays (6) or goes (5), over 32 outputs of (y y): 33 or 32 particles.
@@ -246,31 +95,12 @@ fn last_32(name: &[u8], kind: u32) {
     spine(&mut nodes, 1, 127, true);
     outputs(&mut nodes, 194, 31, 2);
     output(&mut nodes, 255, 2);
-    // enter, down, meet, up of the last
-    let steps = [
-        1u32,
-        1,
-        0,
-        0,
-        1,
-        20,
-        2,
-        1,
-        0,
-        0,
-        0,
-        5,
-        1,
-        1,
-        0,
-        0,
-        3,
-        1,
-        31,
-        0,
-        0,
-    ];
-    tried(name, &nodes, &steps);
+    let mut list = [0u32; 4400];
+    let at = enter(&mut list, 0, &[20]);
+    let at = down(&mut list, at, 0);
+    let at = meet(&mut list, at, 1, 0);
+    let at = up(&mut list, at, 31);
+    tried(name, &nodes, &list, at);
 }
 
 // !in^parent y. y[y[ .. new n. (0 | (0 | .. out^parent y))]] with 15 boxes: one meeting fills the boxes.
@@ -281,68 +111,19 @@ fn fifteen_boxes() {
     node(&mut nodes, 16, 3, 11, 17, 0, 0);
     spine(&mut nodes, 17, 119, false);
     output(&mut nodes, 255, 1);
-    // enter (), down, meet; enter 20, down, meet, up, up; enter, down, meet
-    let steps = [
-        1u32,
-        1,
-        0,
-        0,
-        1,
-        4000000,
-        2,
-        1,
-        0,
-        0,
-        0,
-        5,
-        1,
-        1,
-        0,
-        0,
-        1,
-        1,
-        0,
-        0,
-        1,
-        20,
-        2,
-        1,
-        0,
-        0,
-        0,
-        5,
-        1,
-        2,
-        0,
-        0,
-        3,
-        1,
-        2,
-        0,
-        0,
-        3,
-        1,
-        2,
-        0,
-        0,
-        1,
-        1,
-        0,
-        0,
-        1,
-        20,
-        2,
-        1,
-        0,
-        0,
-        0,
-        5,
-        1,
-        3,
-        0,
-        0,
-    ];
-    tried(b"15 boxes", &nodes, &steps);
+    let mut list = [0u32; 4400];
+    let at = enter(&mut list, 0, &[4000000]);
+    let at = down(&mut list, at, 0);
+    let at = meet(&mut list, at, 1, 0);
+    let at = enter(&mut list, at, &[20]);
+    let at = down(&mut list, at, 0);
+    let at = meet(&mut list, at, 2, 0);
+    let at = up(&mut list, at, 2);
+    let at = up(&mut list, at, 2);
+    let at = enter(&mut list, at, &[20]);
+    let at = down(&mut list, at, 0);
+    let at = meet(&mut list, at, 3, 0);
+    tried(b"15 boxes", &nodes, &list, at);
 }
 
 // The same with 16 boxes, which are too many.
@@ -352,8 +133,11 @@ fn sixteen_boxes() {
     boxes(&mut nodes, 1, 17);
     spine(&mut nodes, 17, 119, false);
     output(&mut nodes, 255, 1);
-    let steps = [1u32, 1, 0, 0, 1, 20, 2, 1, 0, 0, 0, 5, 1, 1, 0, 0];
-    tried(b"16 boxes in a body", &nodes, &steps);
+    let mut list = [0u32; 4400];
+    let at = enter(&mut list, 0, &[20]);
+    let at = down(&mut list, at, 0);
+    let at = meet(&mut list, at, 1, 0);
+    tried(b"16 boxes in a body", &nodes, &list, at);
 }
 
 // !in^parent _. with 8 `new`, 15 boxes, 115 parallels and at the end in^parent _. 0: the deepest unfolding.
@@ -364,47 +148,15 @@ fn deepest(name: &[u8], left: bool) {
     boxes(&mut nodes, 9, 24);
     spine(&mut nodes, 24, 115, left);
     inputs(&mut nodes, 254, 255, 5);
-    // enter, down, meet; enter, down, meet with the root, meet with the last
-    let steps = [
-        1u32,
-        1,
-        0,
-        0,
-        1,
-        20,
-        2,
-        1,
-        0,
-        0,
-        0,
-        5,
-        1,
-        1,
-        0,
-        0,
-        1,
-        1,
-        0,
-        0,
-        1,
-        20,
-        2,
-        1,
-        0,
-        0,
-        0,
-        5,
-        1,
-        2,
-        0,
-        0,
-        5,
-        1,
-        2,
-        1,
-        0,
-    ];
-    tried(name, &nodes, &steps);
+    let mut list = [0u32; 4400];
+    let at = enter(&mut list, 0, &[20]);
+    let at = down(&mut list, at, 0);
+    let at = meet(&mut list, at, 1, 0);
+    let at = enter(&mut list, at, &[20]);
+    let at = down(&mut list, at, 0);
+    let at = meet(&mut list, at, 2, 0);
+    let at = meet(&mut list, at, 2, 1);
+    tried(name, &nodes, &list, at);
 }
 
 pub fn shapes() {

@@ -7,7 +7,7 @@ fn store(list: &mut [u32; 4400], i: usize, w: u32) {
     }
 }
 
-fn narrow(n: usize) -> u32 {
+pub fn narrow(n: usize) -> u32 {
     if n < 65536 { n as u32 } else { 0 }
 }
 
@@ -31,39 +31,6 @@ pub fn repeat(list: &mut [u32; 4400], at: usize, words: &[u32], times: usize) ->
     let mut k: usize = 0;
     while k < times {
         end = append(list, end, words);
-        k += 1;
-    }
-    end
-}
-
-// Steps for particles that are replicated inputs but for the one that goes down, the last of them at a, and so on to below b:
-// enter, down, and a meeting with the last; the place behind them.
-pub fn meetings(list: &mut [u32; 4400], at: usize, a: usize, b: usize) -> usize {
-    let mut end = at;
-    let mut k = a;
-    while k < b {
-        end = append(
-            list,
-            end,
-            &[
-                1,
-                1,
-                0,
-                0,
-                1,
-                20,
-                2,
-                1,
-                0,
-                0,
-                0,
-                5,
-                1,
-                narrow(k + 1),
-                narrow(k),
-                0,
-            ],
-        );
         k += 1;
     }
     end

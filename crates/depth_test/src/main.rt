@@ -2,6 +2,7 @@
 // to their last node. Steps are words: kind, side, i, j, how many value words, value words.
 mod bodies; // what unfolds at a meeting
 mod lists; // lists of words
+mod schedules; // steps
 mod shown; // lines
 mod starts; // what unfolds at the start
 mod tried; // a run and its lines

@@ -56,7 +56,7 @@ pub fn ends(
     part(name, nodes, list, n, first, second);
 }
 
-// A run of 256 nodes: lines for all answers.
-pub fn tried(name: &[u8], nodes: &[u32; 4400], steps: &[u32]) {
-    part(name, nodes, steps, steps.len(), 1000, 1000);
+// The same with lines for all answers.
+pub fn tried(name: &[u8], nodes: &[u32; 4400], list: &[u32; 4400], n: usize) {
+    part(name, nodes, list, n, 1000, 1000);
 }

@@ -7,7 +7,7 @@ fn store(list: &mut [u32; 1300], i: usize, w: u32) {
     }
 }
 
-fn narrow(n: usize) -> u32 {
+pub fn narrow(n: usize) -> u32 {
     if n < 65536 { n as u32 } else { 0 }
 }
 
@@ -31,17 +31,6 @@ pub fn repeat(list: &mut [u32; 1300], at: usize, words: &[u32], times: usize) ->
     let mut k: usize = 0;
     while k < times {
         end = append(list, end, words);
-        k += 1;
-    }
-    end
-}
-
-// Steps of side 2: each of the first n shelf messages is taken, and goes down; the place behind them.
-pub fn takes(list: &mut [u32; 1300], at: usize, n: usize) -> usize {
-    let mut end = at;
-    let mut k: usize = 0;
-    while k < n {
-        end = append(list, end, &[8, 2, narrow(k), 0, 0, 2, 2, 0, 0, 0]);
         k += 1;
     }
     end

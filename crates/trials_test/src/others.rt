@@ -2,90 +2,40 @@
 use crate::lists::append;
 use crate::lists::inputs;
 use crate::lists::news;
-use crate::lists::repeat;
-use crate::lists::takes;
+use crate::schedules::down;
+use crate::schedules::enter;
+use crate::schedules::meet;
+use crate::schedules::take;
+use crate::schedules::takes;
+use crate::schedules::threes;
+use crate::schedules::up;
 use crate::tried::loaded;
 use crate::tried::loaded_list;
-use crate::tried::piped_list;
+use crate::tried::piped_lists;
 
 // The 33rd `mid` finds no room though all are taken; and none is taken twice.
 fn shelf() {
     // side 1: !in^parent y. (mid^parent y | (mid^parent y | mid^parent y)); side 2: 0
-    let nodes = [
-        6u32,
-        0,
-        1,
-        0,
-        1,
-        1,
-        2,
-        3,
-        0,
-        0,
-        4,
-        2,
-        1,
-        0,
-        0,
-        1,
-        4,
-        5,
-        0,
-        0,
-        4,
-        2,
-        1,
-        0,
-        0,
-        4,
-        2,
-        1,
-        0,
-        0,
-    ];
+    let mut nodes = [0u32; 1300];
+    append(&mut nodes, 0, &[6, 0, 1, 0, 1]);
+    append(&mut nodes, 5, &[1, 2, 3, 0, 0]);
+    append(&mut nodes, 10, &[4, 2, 1, 0, 0]);
+    append(&mut nodes, 15, &[1, 4, 5, 0, 0]);
+    append(&mut nodes, 20, &[4, 2, 1, 0, 0]);
+    append(&mut nodes, 25, &[4, 2, 1, 0, 0]);
     let pool = [10u32];
     let nil = [0u32; 5];
-    // enter, down, meet, and three times up
-    let three = [
-        1u32,
-        1,
-        0,
-        0,
-        1,
-        20,
-        2,
-        1,
-        0,
-        0,
-        0,
-        5,
-        1,
-        1,
-        0,
-        0,
-        3,
-        1,
-        1,
-        0,
-        0,
-        3,
-        1,
-        1,
-        0,
-        0,
-        3,
-        1,
-        1,
-        0,
-        0,
-    ];
-    let last = [3u32, 1, 1, 0, 0, 8, 2, 0, 0, 0];
     let mut list = [0u32; 1300];
-    let at = repeat(&mut list, 0, &three, 10);
-    let at = append(&mut list, at, &three[..26]);
+    let at = threes(&mut list, 0, 10);
+    let at = enter(&mut list, at, 1, &[20]);
+    let at = down(&mut list, at, 1, 0);
+    let at = meet(&mut list, at, 1, 1, 0);
+    let at = up(&mut list, at, 1, 1);
+    let at = up(&mut list, at, 1, 1);
     let at = takes(&mut list, at, 32);
-    append(&mut list, at, &last);
-    piped_list(b"mid", &nodes, &pool, &nil, &list, 666);
+    let at = up(&mut list, at, 1, 1);
+    let at = take(&mut list, at, 2, 0);
+    piped_lists(b"mid", &nodes, 30, &pool, &nil, &pool, &list, at);
 }
 
 // 256 nodes load, 257 do not.

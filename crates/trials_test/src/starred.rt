@@ -1,11 +1,18 @@
 // The trials A to I.
 use crate::lists::append;
 use crate::lists::repeat;
+use crate::schedules::down;
+use crate::schedules::enter;
+use crate::schedules::leave;
+use crate::schedules::meet;
+use crate::schedules::pass;
+use crate::schedules::take;
+use crate::schedules::up;
 use crate::shown::number;
 use crate::shown::write;
-use crate::tried::filtered;
 use crate::tried::filtered_list;
-use crate::tried::piped;
+use crate::tried::filtered_lists;
+use crate::tried::piped_list;
 use interpreter::Found;
 use interpreter::load;
 use interpreter::step;
@@ -16,45 +23,15 @@ fn trial_a() {
     // !in^parent y. out^parent (y y)
     let nodes = [6u32, 0, 1, 0, 1, 4, 1, 1, 1, 0];
     let pool = [10u32, 4000002, 10, 10];
-    let steps = [
-        1u32,
-        1,
-        0,
-        0,
-        1,
-        20,
-        2,
-        1,
-        0,
-        0,
-        0,
-        5,
-        1,
-        1,
-        0,
-        0,
-        3,
-        1,
-        1,
-        0,
-        0,
-        6,
-        1,
-        0,
-        0,
-        0,
-        7,
-        1,
-        0,
-        0,
-        0,
-        7,
-        1,
-        0,
-        0,
-        0,
-    ];
-    filtered(b"A", &nodes, &pool, &steps);
+    let mut list = [0u32; 1300];
+    let at = enter(&mut list, 0, 1, &[20]);
+    let at = down(&mut list, at, 1, 0);
+    let at = meet(&mut list, at, 1, 1, 0);
+    let at = up(&mut list, at, 1, 1);
+    let at = pass(&mut list, at, 1, 0);
+    let at = leave(&mut list, at, 1, 0);
+    let at = leave(&mut list, at, 1, 0);
+    filtered_list(b"A", &nodes, &pool, &list, at);
 }
 
 fn lost(f: Found) {
@@ -86,29 +63,12 @@ fn trial_b() {
     let nil = [0u32; 5];
     let nodes = [4u32, 2, 1, 0, 0];
     let pool = [20u32];
-    let steps = [
-        3u32,
-        2,
-        0,
-        0,
-        0,
-        6,
-        2,
-        0,
-        0,
-        0,
-        7,
-        2,
-        0,
-        0,
-        0,
-        2,
-        2,
-        0,
-        0,
-        0,
-    ];
-    piped(b"B", &nil, &pool, &nodes, &pool, &steps);
+    let mut list = [0u32; 1300];
+    let at = up(&mut list, 0, 2, 0);
+    let at = pass(&mut list, at, 2, 0);
+    let at = leave(&mut list, at, 2, 0);
+    let at = down(&mut list, at, 2, 0);
+    piped_list(b"B", &nil, &pool, &nodes, &pool, &list, at);
     stranded_after_up(&nil, &nodes, &pool);
 }
 
@@ -119,59 +79,18 @@ fn trial_c() {
     let pool1 = [20u32];
     let nodes2 = [5u32, 2, 1, 0, 1, 4, 1, 1, 0, 0];
     let pool2 = [10u32];
-    let steps = [
-        8u32,
-        2,
-        0,
-        0,
-        0,
-        3,
-        1,
-        0,
-        0,
-        0,
-        8,
-        2,
-        0,
-        0,
-        0,
-        8,
-        2,
-        0,
-        0,
-        0,
-        8,
-        1,
-        0,
-        0,
-        0,
-        2,
-        2,
-        0,
-        0,
-        0,
-        5,
-        2,
-        1,
-        0,
-        0,
-        3,
-        2,
-        0,
-        0,
-        0,
-        6,
-        2,
-        0,
-        0,
-        0,
-        7,
-        2,
-        0,
-        0,
-        0,
-    ];
-    piped(b"C", &nodes1, &pool1, &nodes2, &pool2, &steps);
+    let mut list = [0u32; 1300];
+    let at = take(&mut list, 0, 2, 0);
+    let at = up(&mut list, at, 1, 0);
+    let at = take(&mut list, at, 2, 0);
+    let at = take(&mut list, at, 2, 0);
+    let at = take(&mut list, at, 1, 0);
+    let at = down(&mut list, at, 2, 0);
+    let at = meet(&mut list, at, 2, 1, 0);
+    let at = up(&mut list, at, 2, 0);
+    let at = pass(&mut list, at, 2, 0);
+    let at = leave(&mut list, at, 2, 0);
+    piped_list(b"C", &nodes1, &pool1, &nodes2, &pool2, &list, at);
 }
 
 // A pattern of two takes a pair, and no triple.
@@ -179,61 +98,17 @@ fn trial_d() {
     // !in^parent (y z). out^parent (z y)
     let nodes = [6u32, 0, 1, 0, 1, 4, 1, 1, 3, 0];
     let pool = [4000002u32, 10, 11, 4000002, 11, 10];
-    let steps = [
-        1u32,
-        1,
-        0,
-        0,
-        3,
-        4000002,
-        20,
-        21,
-        1,
-        1,
-        0,
-        0,
-        4,
-        4000003,
-        20,
-        21,
-        22,
-        2,
-        1,
-        0,
-        0,
-        0,
-        2,
-        1,
-        0,
-        0,
-        0,
-        5,
-        1,
-        1,
-        0,
-        0,
-        5,
-        1,
-        1,
-        0,
-        0,
-        3,
-        1,
-        2,
-        0,
-        0,
-        6,
-        1,
-        0,
-        0,
-        0,
-        7,
-        1,
-        0,
-        0,
-        0,
-    ];
-    filtered(b"D", &nodes, &pool, &steps);
+    let mut list = [0u32; 1300];
+    let at = enter(&mut list, 0, 1, &[4000002, 20, 21]);
+    let at = enter(&mut list, at, 1, &[4000003, 20, 21, 22]);
+    let at = down(&mut list, at, 1, 0);
+    let at = down(&mut list, at, 1, 0);
+    let at = meet(&mut list, at, 1, 1, 0);
+    let at = meet(&mut list, at, 1, 1, 0);
+    let at = up(&mut list, at, 1, 2);
+    let at = pass(&mut list, at, 1, 0);
+    let at = leave(&mut list, at, 1, 0);
+    filtered_list(b"D", &nodes, &pool, &list, at);
 }
 
 // A bound name as channel: the empty tuple gives 15; 20 strands, and 1, which is `out`, leaves.
@@ -241,200 +116,40 @@ fn trial_e() {
     // !in^parent y. y^parent ()
     let nodes = [6u32, 0, 1, 0, 1, 4, 10, 1, 1, 0];
     let pool = [10u32, 4000000];
-    let steps = [
-        1u32,
-        1,
-        0,
-        0,
-        1,
-        4000000,
-        2,
-        1,
-        0,
-        0,
-        0,
-        5,
-        1,
-        1,
-        0,
-        0,
-        1,
-        1,
-        0,
-        0,
-        1,
-        20,
-        2,
-        1,
-        0,
-        0,
-        0,
-        5,
-        1,
-        2,
-        0,
-        0,
-        3,
-        1,
-        2,
-        0,
-        0,
-        6,
-        1,
-        0,
-        0,
-        0,
-        1,
-        1,
-        0,
-        0,
-        1,
-        1,
-        2,
-        1,
-        1,
-        0,
-        0,
-        5,
-        1,
-        2,
-        0,
-        0,
-        3,
-        1,
-        2,
-        0,
-        0,
-        6,
-        1,
-        1,
-        0,
-        0,
-        7,
-        1,
-        1,
-        0,
-        0,
-    ];
-    filtered(b"E", &nodes, &pool, &steps);
+    let mut list = [0u32; 1300];
+    let at = enter(&mut list, 0, 1, &[4000000]);
+    let at = down(&mut list, at, 1, 0);
+    let at = meet(&mut list, at, 1, 1, 0);
+    let at = enter(&mut list, at, 1, &[20]);
+    let at = down(&mut list, at, 1, 0);
+    let at = meet(&mut list, at, 1, 2, 0);
+    let at = up(&mut list, at, 1, 2);
+    let at = pass(&mut list, at, 1, 0);
+    let at = enter(&mut list, at, 1, &[1]);
+    let at = down(&mut list, at, 1, 1);
+    let at = meet(&mut list, at, 1, 2, 0);
+    let at = up(&mut list, at, 1, 2);
+    let at = pass(&mut list, at, 1, 1);
+    let at = leave(&mut list, at, 1, 1);
+    filtered_list(b"E", &nodes, &pool, &list, at);
 }
 
-// The copier with 7 words, then with 8; and 16 words entered, 17 and none.
+// The copier with 7 words, then with 8.
 fn trial_f() {
     // !in^parent y. out^parent (y y)
     let nodes = [6u32, 0, 1, 0, 1, 4, 1, 1, 1, 0];
     let pool = [10u32, 4000002, 10, 10];
-    let steps = [
-        1u32,
-        1,
-        0,
-        0,
-        7,
-        4000006,
-        20,
-        21,
-        22,
-        23,
-        24,
-        25,
-        2,
-        1,
-        0,
-        0,
-        0,
-        5,
-        1,
-        1,
-        0,
-        0,
-        3,
-        1,
-        1,
-        0,
-        0,
-        6,
-        1,
-        0,
-        0,
-        0,
-        7,
-        1,
-        0,
-        0,
-        0,
-        1,
-        1,
-        0,
-        0,
-        8,
-        4000007,
-        20,
-        21,
-        22,
-        23,
-        24,
-        25,
-        26,
-        2,
-        1,
-        0,
-        0,
-        0,
-        5,
-        1,
-        1,
-        0,
-        0,
-        1,
-        1,
-        0,
-        0,
-        16,
-        4000015,
-        20,
-        21,
-        22,
-        23,
-        24,
-        25,
-        26,
-        27,
-        28,
-        29,
-        30,
-        31,
-        32,
-        33,
-        34,
-        1,
-        1,
-        0,
-        0,
-        17,
-        4000002,
-        4000007,
-        20,
-        21,
-        22,
-        23,
-        24,
-        25,
-        26,
-        4000007,
-        20,
-        21,
-        22,
-        23,
-        24,
-        25,
-        26,
-        1,
-        1,
-        0,
-        0,
-        0,
-    ];
-    filtered(b"F", &nodes, &pool, &steps);
+    let mut list = [0u32; 1300];
+    let at = enter(&mut list, 0, 1, &[4000006, 20, 21, 22, 23, 24, 25]);
+    let at = down(&mut list, at, 1, 0);
+    let at = meet(&mut list, at, 1, 1, 0);
+    let at = up(&mut list, at, 1, 1);
+    let at = pass(&mut list, at, 1, 0);
+    let at = leave(&mut list, at, 1, 0);
+    let at = enter(&mut list, at, 1, &[4000007, 20, 21, 22, 23, 24, 25, 26]);
+    let at = down(&mut list, at, 1, 0);
+    let at = meet(&mut list, at, 1, 1, 0);
+    filtered_list(b"F", &nodes, &pool, &list, at);
 }
 
 // The 17th message that enters finds no room, and has it after one went down.
@@ -442,13 +157,11 @@ fn trial_g() {
     // 0
     let nodes = [0u32; 5];
     let pool = [10u32];
-    let enter = [1u32, 1, 0, 0, 1, 20];
-    let down = [2u32, 1, 0, 0, 0];
     let mut list = [0u32; 1300];
-    let at = repeat(&mut list, 0, &enter, 17);
-    let at = append(&mut list, at, &down);
-    append(&mut list, at, &enter);
-    filtered_list(b"G", &nodes, &pool, &list, 113);
+    let at = repeat(&mut list, 0, &[1, 1, 0, 0, 1, 20], 17);
+    let at = down(&mut list, at, 1, 0);
+    let at = enter(&mut list, at, 1, &[20]);
+    filtered_list(b"G", &nodes, &pool, &list, at);
 }
 
 // A minted name enters once it has left; 65792 has serial 256, and 64 is no public name.
@@ -456,150 +169,41 @@ fn trial_h() {
     // new n. out^parent n
     let nodes = [3u32, 10, 1, 0, 0, 4, 1, 1, 0, 0];
     let pool = [10u32];
-    let steps = [
-        1u32,
-        1,
-        0,
-        0,
-        1,
-        65536,
-        3,
-        1,
-        0,
-        0,
-        0,
-        1,
-        1,
-        0,
-        0,
-        1,
-        65536,
-        6,
-        1,
-        0,
-        0,
-        0,
-        1,
-        1,
-        0,
-        0,
-        1,
-        65536,
-        7,
-        1,
-        0,
-        0,
-        0,
-        1,
-        1,
-        0,
-        0,
-        1,
-        65536,
-        1,
-        1,
-        0,
-        0,
-        1,
-        65537,
-        1,
-        1,
-        0,
-        0,
-        1,
-        131072,
-        1,
-        1,
-        0,
-        0,
-        1,
-        65792,
-        1,
-        1,
-        0,
-        0,
-        1,
-        64,
-        1,
-        1,
-        0,
-        0,
-        1,
-        63,
-        1,
-        1,
-        0,
-        0,
-        1,
-        4999999,
-    ];
-    filtered(b"H", &nodes, &pool, &steps);
+    let mut list = [0u32; 1300];
+    let at = enter(&mut list, 0, 1, &[65536]);
+    let at = up(&mut list, at, 1, 0);
+    let at = enter(&mut list, at, 1, &[65536]);
+    let at = pass(&mut list, at, 1, 0);
+    let at = enter(&mut list, at, 1, &[65536]);
+    let at = leave(&mut list, at, 1, 0);
+    let at = enter(&mut list, at, 1, &[65536]);
+    let at = enter(&mut list, at, 1, &[65537]);
+    let at = enter(&mut list, at, 1, &[131072]);
+    let at = enter(&mut list, at, 1, &[65792]);
+    let at = enter(&mut list, at, 1, &[64]);
+    let at = enter(&mut list, at, 1, &[63]);
+    let at = enter(&mut list, at, 1, &[4999999]);
+    filtered_list(b"H", &nodes, &pool, &list, at);
 }
 
 // A box sends to its parent, where an input from that box waits.
 fn trial_i() {
     // 10[5^parent 20] | 5^child-10 y. out^parent y
-    let nodes = [
-        1u32,
-        1,
-        3,
-        0,
-        0,
-        2,
-        10,
-        2,
-        0,
-        0,
-        4,
-        5,
-        1,
-        0,
-        0,
-        5,
-        5,
-        12,
-        1,
-        4,
-        4,
-        1,
-        1,
-        1,
-        0,
-    ];
+    let mut nodes = [0u32; 1300];
+    append(&mut nodes, 0, &[1, 1, 3, 0, 0]);
+    append(&mut nodes, 5, &[2, 10, 2, 0, 0]);
+    append(&mut nodes, 10, &[4, 5, 1, 0, 0]);
+    append(&mut nodes, 15, &[5, 5, 12, 1, 4]);
+    append(&mut nodes, 20, &[4, 1, 1, 1, 0]);
     let pool = [20u32, 11];
-    let steps = [
-        5u32,
-        1,
-        0,
-        1,
-        0,
-        3,
-        1,
-        0,
-        0,
-        0,
-        5,
-        1,
-        0,
-        1,
-        0,
-        3,
-        1,
-        0,
-        0,
-        0,
-        6,
-        1,
-        0,
-        0,
-        0,
-        7,
-        1,
-        0,
-        0,
-        0,
-    ];
-    filtered(b"I", &nodes, &pool, &steps);
+    let mut list = [0u32; 1300];
+    let at = meet(&mut list, 0, 1, 0, 1);
+    let at = up(&mut list, at, 1, 0);
+    let at = meet(&mut list, at, 1, 0, 1);
+    let at = up(&mut list, at, 1, 0);
+    let at = pass(&mut list, at, 1, 0);
+    let at = leave(&mut list, at, 1, 0);
+    filtered_lists(b"I", &nodes, 25, &pool, &list, at);
 }
 
 pub fn trials() {

@@ -6,14 +6,7 @@ use crate::shown::written;
 use interpreter::run;
 
 // Under the pipeline.
-pub fn piped(
-    name: &[u8],
-    nodes1: &[u32],
-    pool1: &[u32],
-    nodes2: &[u32],
-    pool2: &[u32],
-    steps: &[u32],
-) {
+fn piped(name: &[u8], nodes1: &[u32], pool1: &[u32], nodes2: &[u32], pool2: &[u32], steps: &[u32]) {
     let mut out = [0u32; 2700];
     let r = run(2, nodes1, pool1, nodes2, pool2, steps, &mut out);
     write(name);
@@ -23,7 +16,7 @@ pub fn piped(
 }
 
 // Under the filter.
-pub fn filtered(name: &[u8], nodes: &[u32], pool: &[u32], steps: &[u32]) {
+fn filtered(name: &[u8], nodes: &[u32], pool: &[u32], steps: &[u32]) {
     let mut out = [0u32; 400];
     let none = &nodes[..0];
     let r = run(1, nodes, pool, none, none, steps, &mut out);
@@ -49,22 +42,85 @@ pub fn filtered_list(name: &[u8], nodes: &[u32], pool: &[u32], list: &[u32; 1300
     filtered_part(name, nodes, pool, list, n);
 }
 
-fn piped_part(name: &[u8], nodes1: &[u32], pool: &[u32], nodes2: &[u32], steps: &[u32], n: usize) {
-    if n <= steps.len() {
-        piped(name, nodes1, pool, nodes2, pool, &steps[0..n]);
-    }
-}
-
-// Under the pipeline, with one pool for both sides and the first n words of a list as steps.
-pub fn piped_list(
+fn filtered_parts(
     name: &[u8],
-    nodes1: &[u32],
+    nodes: &[u32],
+    m: usize,
     pool: &[u32],
-    nodes2: &[u32],
     list: &[u32; 1300],
     n: usize,
 ) {
-    piped_part(name, nodes1, pool, nodes2, list, n);
+    if m <= nodes.len() {
+        filtered_list(name, &nodes[0..m], pool, list, n);
+    }
+}
+
+// Under the filter, with the first m words of a list as nodes and the first n of another as steps.
+pub fn filtered_lists(
+    name: &[u8],
+    nodes: &[u32; 1300],
+    m: usize,
+    pool: &[u32],
+    list: &[u32; 1300],
+    n: usize,
+) {
+    filtered_parts(name, nodes, m, pool, list, n);
+}
+
+fn piped_part(
+    name: &[u8],
+    nodes1: &[u32],
+    pool1: &[u32],
+    nodes2: &[u32],
+    pool2: &[u32],
+    steps: &[u32],
+    n: usize,
+) {
+    if n <= steps.len() {
+        piped(name, nodes1, pool1, nodes2, pool2, &steps[0..n]);
+    }
+}
+
+// Under the pipeline, with the first n words of a list as steps.
+pub fn piped_list(
+    name: &[u8],
+    nodes1: &[u32],
+    pool1: &[u32],
+    nodes2: &[u32],
+    pool2: &[u32],
+    list: &[u32; 1300],
+    n: usize,
+) {
+    piped_part(name, nodes1, pool1, nodes2, pool2, list, n);
+}
+
+fn piped_parts(
+    name: &[u8],
+    nodes1: &[u32],
+    m: usize,
+    pool1: &[u32],
+    nodes2: &[u32],
+    pool2: &[u32],
+    list: &[u32; 1300],
+    n: usize,
+) {
+    if m <= nodes1.len() {
+        piped_list(name, &nodes1[0..m], pool1, nodes2, pool2, list, n);
+    }
+}
+
+// Under the pipeline, with the first m words of a list as side 1's nodes and the first n of another as steps.
+pub fn piped_lists(
+    name: &[u8],
+    nodes1: &[u32; 1300],
+    m: usize,
+    pool1: &[u32],
+    nodes2: &[u32],
+    pool2: &[u32],
+    list: &[u32; 1300],
+    n: usize,
+) {
+    piped_parts(name, nodes1, m, pool1, nodes2, pool2, list, n);
 }
 
 fn loaded_part(name: &[u8], nodes: &[u32], n: usize, pool: &[u32]) {

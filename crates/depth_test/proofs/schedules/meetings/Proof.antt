@@ -1,17 +1,26 @@
--- `depth_test::lists::meetings` meets its contract.
+-- `depth_test::schedules::meetings` meets its contract.
 use Prim.Native.Nat.{_-_, _≤_}
 use borrow.Author.Needs.{needs}
-use Rattle.depth_test.proofs.lists.meetings.Statement.{statement}
-use Rattle.depth_test.proofs.lists.meetings.Tie as tie
+use Rattle.depth_test.proofs.schedules.meetings.Statement.{statement}
+use Rattle.depth_test.proofs.schedules.meetings.Tie as tie
 
 abbrev Inv-loop : tie.InvT-loop
-Inv-loop list₀ at a b end₀ k₀ list end k = 0 ≤ k
+Inv-loop list₀ at a b end₀ k₀ t7 list end k = 0 ≤ k
 
 abbrev μ-loop : tie.MeasureT-loop
-μ-loop list₀ at a b end₀ k₀ list end k = b - k
+μ-loop list₀ at a b end₀ k₀ t7 list end k = b - k
 
 loop-holds : tie.Need-loop-holds Inv-loop μ-loop
 loop-holds c = search needs
+
+slice-aggregate-enter : tie.Need-slice-aggregate-enter Inv-loop μ-loop
+slice-aggregate-enter c = search needs
+
+enter-requires : tie.Need-enter-requires Inv-loop μ-loop
+enter-requires c κs = search needs
+
+down-requires : tie.Need-down-requires Inv-loop μ-loop
+down-requires c κs = search needs
 
 add-narrow : tie.Need-add-narrow Inv-loop μ-loop
 add-narrow c = search needs
@@ -22,11 +31,8 @@ narrow-requires c κs = search needs
 narrow-requires-2 : tie.Need-narrow-requires-2 Inv-loop μ-loop
 narrow-requires-2 c κs = search needs
 
-slice-aggregate-append : tie.Need-slice-aggregate-append Inv-loop μ-loop
-slice-aggregate-append c = search needs
-
-append-requires : tie.Need-append-requires Inv-loop μ-loop
-append-requires c κs = search needs
+meet-requires : tie.Need-meet-requires Inv-loop μ-loop
+meet-requires c κs = search needs
 
 add-k : tie.Need-add-k Inv-loop μ-loop
 add-k c = search needs
@@ -47,11 +53,13 @@ meetings-spec =
     Inv-loop
     μ-loop
     loop-holds
+    slice-aggregate-enter
+    enter-requires
+    down-requires
     add-narrow
     narrow-requires
     narrow-requires-2
-    slice-aggregate-append
-    append-requires
+    meet-requires
     add-k
     loop-less
     loop-again

@@ -1,8 +1,8 @@
--- `trials_test::lists::takes` meets its contract.
+-- `trials_test::schedules::takes` meets its contract.
 use Prim.Native.Nat.{_-_, _≤_}
 use borrow.Author.Needs.{needs}
-use Rattle.trials_test.proofs.lists.takes.Statement.{statement}
-use Rattle.trials_test.proofs.lists.takes.Tie as tie
+use Rattle.trials_test.proofs.schedules.takes.Statement.{statement}
+use Rattle.trials_test.proofs.schedules.takes.Tie as tie
 
 abbrev Inv-loop : tie.InvT-loop
 Inv-loop list₀ at n end₀ k₀ list end k = k ≤ n
@@ -16,11 +16,11 @@ loop-holds c = search needs
 narrow-requires : tie.Need-narrow-requires Inv-loop μ-loop
 narrow-requires c κs = search needs
 
-slice-aggregate-append : tie.Need-slice-aggregate-append Inv-loop μ-loop
-slice-aggregate-append c = search needs
+take-requires : tie.Need-take-requires Inv-loop μ-loop
+take-requires c κs = search needs
 
-append-requires : tie.Need-append-requires Inv-loop μ-loop
-append-requires c κs = search needs
+down-requires : tie.Need-down-requires Inv-loop μ-loop
+down-requires c κs = search needs
 
 add-k : tie.Need-add-k Inv-loop μ-loop
 add-k c = search needs
@@ -42,8 +42,8 @@ takes-spec =
     μ-loop
     loop-holds
     narrow-requires
-    slice-aggregate-append
-    append-requires
+    take-requires
+    down-requires
     add-k
     loop-less
     loop-again
