@@ -2,7 +2,7 @@
 use text::Written;
 use text::text;
 
-// What is written of the output. A buffer of 262,144 bytes is never too short.
+// What is written of the output. A buffer of 206,848 bytes is never too short.
 fn write(out: &[u8], w: Written) {
     match w {
         Written::Bytes(n) => {
@@ -18,7 +18,7 @@ fn main() {
     // one byte more than an input may have, so that more is seen
     let mut input = [0u8; 65537];
     let n = io::read_full(0, &mut input);
-    let mut out = [0u8; 262144];
+    let mut out = [0u8; 206848];
     let w = text(&input[..n], &mut out);
     write(&out, w);
 }

@@ -328,8 +328,8 @@ fn replay_all(input: &mut [u8], recorded: &mut [u8], out: &mut [u8]) -> Count {
 
 fn main() {
     let mut input = [0u8; 65537];
-    let mut recorded = [0u8; 262144];
-    let mut out = [0u8; 262144];
+    let mut recorded = [0u8; 206848];
+    let mut out = [0u8; 206848];
     let c = replay_all(&mut input, &mut recorded, &mut out);
     write_number(c.runs);
     write(b" runs, ");

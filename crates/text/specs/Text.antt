@@ -17,10 +17,10 @@ pub record Given (i : Input) (wrapper : ℕ) (nodes1 pool1 nodes2 pool2 steps : 
   pub words : steps ≡ allStepWords (i .steps)
   pub few : length (i .steps) ≤ 1024
 
--- an output of n bytes stands at the start of a page of 262,144
+-- an output of n bytes stands at the start of a page of 206,848
 pub record OnPage (o : List ℕ) (n : ℕ) (page : List ℕ) : Type 0 where
-  pub few : n ≤ 262144
-  pub full : length page ≡ 262144
+  pub few : n ≤ 206848
+  pub full : length page ≡ 206848
   pub text : take n page ≡ o
 
 -- how many bytes are written, or that the buffer is too short for the output
@@ -31,8 +31,8 @@ writtenOf o lent = choose (ltb (length lent) (length o)) TooShort (Bytes (length
 unfoldable pub bufferAfter : (output lent : List ℕ) → List ℕ
 bufferAfter o lent = choose (ltb (length lent) (length o)) lent (onto o lent)
 
--- r is the answer for an output, which is never longer than 262,144 bytes
+-- r is the answer for an output, which is never longer than 206,848 bytes
 pub record TextIs (o lent after : List ℕ) (r : Written) : Type 0 where
   pub answer : r ≡ writtenOf o lent
   pub buffer : after ≡ bufferAfter o lent
-  pub most : length o ≤ 262144
+  pub most : length o ≤ 206848

@@ -28,9 +28,9 @@ fn run_output(
     nodes2: &[u32],
     pool2: &[u32],
     steps: &[u32],
-    page: &mut [u8; 262144],
+    page: &mut [u8; 206848],
 ) -> usize
-    ensures { λ r. ⌜ (r ≤ 262144) × (length (now (page .exit)) ≡ 262144) × ((i : Input) → Given i wrapper (now (nodes1 .entry)) (now (pool1 .entry)) (now (nodes2 .entry)) (now (pool2 .entry)) (now (steps .entry)) → take r (now (page .exit)) ≡ outputFor i) ⌝ }
+    ensures { λ r. ⌜ (r ≤ 206848) × (length (now (page .exit)) ≡ 206848) × ((i : Input) → Given i wrapper (now (nodes1 .entry)) (now (pool1 .entry)) (now (nodes2 .entry)) (now (pool2 .entry)) (now (steps .entry)) → take r (now (page .exit)) ≡ outputFor i) ⌝ }
 {
     let mut answers = [0u32; 20480];
     let ran = run(wrapper, nodes1, pool1, nodes2, pool2, steps, &mut answers);
@@ -43,7 +43,7 @@ fn run_output(
 }
 
 // The output for an input, at the start of a page that has room for any.
-fn output_on(input: &[u8], page: &mut [u8; 262144]) -> usize
+fn output_on(input: &[u8], page: &mut [u8; 206848]) -> usize
     ensures { λ r. ⌜ OnPage (output (now (input .entry))) r (now (page .exit)) ⌝ }
 {
     let mut nodes1 = [0u32; 1285];
@@ -84,7 +84,7 @@ fn output_on(input: &[u8], page: &mut [u8; 262144]) -> usize
 pub fn text(input: &[u8], out: &mut [u8]) -> Written
     ensures { λ r. ⌜ TextIs (output (now (input .entry))) (now (out .entry)) (now (out .exit)) r ⌝ }
 {
-    let mut page = [0u8; 262144];
+    let mut page = [0u8; 206848];
     let n = output_on(input, &mut page);
     if out.len() < n {
         return Written::TooShort;

@@ -24,9 +24,12 @@ mplan rs bs k j = record { rows = rs; boxes = bs; base = k; minted = j }
 push-word : (l : List ℕ) (n a x : ℕ) → n < length l → a ≡ x → take (n + 1) (set l n a) ≡ take n l ++ (x ∷ [])
 push-word l n a x h e = ap (λ (k : ℕ). take k (set l n a)) (add-one n) ∙ take-suc-set l n a h ∙ ap (λ (y : ℕ). take n l ++ (y ∷ [])) e
 
-pub news-more : (w : News) (a b x k : ℕ) → length (w .names) ≡ 8 → length (w .serials) ≡ 8 → w .n < 8 → a ≡ x → b ≡ k →
-    viewNews (record { names = set (w .names) (w .n) a; serials = set (w .serials) (w .n) b; n = w .n + 1 }) ≡ pass (viewNews w) x k
-news-more w a b x k p q h e f = ap₂ mnews (push-word (w .names) (w .n) a x (omega arith) e) (push-word (w .serials) (w .n) b k (omega arith) f)
+pub news-more : (w : News) (i m a b x k : ℕ) → length (w .names) ≡ 8 → length (w .serials) ≡ 8 → i ≡ w .n → m ≡ i + 1 → i < 8 → a ≡ x → b ≡ k →
+    viewNews (record { names = set (w .names) i a; serials = set (w .serials) i b; n = m }) ≡ pass (viewNews w) x k
+news-more w i m a b x k p q u v h e f =
+    ap (λ (z : ℕ). mnews (take z (set (w .names) i a)) (take z (set (w .serials) i b))) v
+    ∙ ap₂ mnews (push-word (w .names) i a x (omega arith) e) (push-word (w .serials) i b k (omega arith) f)
+    ∙ ap (λ (z : ℕ). mnews (take z (w .names) ++ (x ∷ [])) (take z (w .serials) ++ (k ∷ []))) u
 
 abbrev pub place : ℕ → ℕ → News → Place
 place a b w = record { what = a; at = b; news = w }

@@ -5,11 +5,12 @@ ghost use lib.ListN.{length};
 ghost use Rattle.unfolding.specs.Plan.{noNews, pass};
 ghost use Rattle.unfolding.specs.Views.{viewNews};
 
-// At most eight binders, outermost first: their names, up to 63, and the serials that they minted, up to 255.
+// At most eight binders, outermost first: their names, up to 63, and the serials that they minted, up to 255. All are bytes,
+// since each level of the walk holds some plans.
 pub struct News {
     pub names: [u8; 8],
     pub serials: [u8; 8],
-    pub n: usize,
+    pub n: u8,
 }
 
 // A number up to 255.
@@ -17,6 +18,13 @@ pub(crate) fn small(x: usize) -> u8
     ensures { λ r. ⌜ (x < 256 → r ≡ x) ⌝ }
 {
     if x < 256 { x as u8 } else { 0 }
+}
+
+// A byte as a place.
+fn wide(x: u8) -> usize
+    ensures { λ r. ⌜ r ≡ x ⌝ }
+{
+    x as usize
 }
 
 impl News {
@@ -34,7 +42,7 @@ impl News {
     pub fn count(self) -> usize
         ensures { λ r. ⌜ (r ≡ length (viewNews self .names)) × (r ≡ length (viewNews self .serials)) × (r ≤ 8) ⌝ }
     {
-        let k = self.n;
+        let k = wide(self.n);
         if k < 8 { k } else { 8 }
     }
 
@@ -42,11 +50,11 @@ impl News {
     pub fn with(mut self, name: usize, serial: usize) -> News
         ensures { λ r. ⌜ (self .n < 8 → name < 256 → serial < 256 → (viewNews r ≡ pass (viewNews self) name serial) × (r .n ≡ self .n + 1)) ⌝ }
     {
-        let n = self.n;
+        let n = wide(self.n);
         if n < 8 {
             self.names[n] = small(name);
             self.serials[n] = small(serial);
-            self.n = n + 1;
+            self.n = small(n + 1);
         }
         self
     }

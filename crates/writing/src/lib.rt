@@ -18,9 +18,9 @@ use numbers::put;
 use numbers::put_field;
 
 // The line of an input that is at fault.
-pub fn fault(out: &mut [u8; 262144], line: usize) -> usize
-    ensures { λ r. ⌜ r ≤ 262144 ⌝ }
-    ensures { λ _. ⌜ length (now (out .exit)) ≡ 262144 ⌝ }
+pub fn fault(out: &mut [u8; 206848], line: usize) -> usize
+    ensures { λ r. ⌜ r ≤ 206848 ⌝ }
+    ensures { λ _. ⌜ length (now (out .exit)) ≡ 206848 ⌝ }
     ensures { λ r. ⌜ take r (now (out .exit)) ≡ faultLine line ⌝ }
 {
     let a = put(out, 0, b"line");
@@ -29,9 +29,9 @@ pub fn fault(out: &mut [u8; 262144], line: usize) -> usize
 }
 
 // The line of a load that is refused.
-pub fn refused(out: &mut [u8; 262144], number: usize, side: u32, node: usize) -> usize
-    ensures { λ r. ⌜ r ≤ 262144 ⌝ }
-    ensures { λ _. ⌜ length (now (out .exit)) ≡ 262144 ⌝ }
+pub fn refused(out: &mut [u8; 206848], number: usize, side: u32, node: usize) -> usize
+    ensures { λ r. ⌜ r ≤ 206848 ⌝ }
+    ensures { λ _. ⌜ length (now (out .exit)) ≡ 206848 ⌝ }
     ensures { λ r. ⌜ take r (now (out .exit)) ≡ refusedLine (record { number = number; side = side; node = node }) ⌝ }
 {
     let a = put(out, 0, b"refused");
@@ -42,9 +42,9 @@ pub fn refused(out: &mut [u8; 262144], number: usize, side: u32, node: usize) ->
 }
 
 // The lines of n answers, 20 words each, behind the line `ok`; nothing where there are more than 1,024.
-pub fn answered(out: &mut [u8; 262144], answers: &[u32; 20480], n: usize) -> usize
-    ensures { λ r. ⌜ r ≤ 262144 ⌝ }
-    ensures { λ _. ⌜ length (now (out .exit)) ≡ 262144 ⌝ }
+pub fn answered(out: &mut [u8; 206848], answers: &[u32; 20480], n: usize) -> usize
+    ensures { λ r. ⌜ r ≤ 206848 ⌝ }
+    ensures { λ _. ⌜ length (now (out .exit)) ≡ 206848 ⌝ }
     ensures { λ r. ⌜ ((xs : List Answer) → length xs ≡ n → n ≤ 1024 → take (20 * n) (now (answers .entry)) ≡ allAnswerWords xs → take r (now (out .exit)) ≡ wordOk ++ (newline ∷ answerLines 0 xs)) ⌝ }
 {
     let mut at = put(out, 0, b"ok\n");

@@ -14,7 +14,7 @@ use Rattle.writing.proofs.answered.Statement.{statement}
 use Rattle.writing.proofs.answered.Tie as tie
 
 abbrev Inv-loop : tie.InvT-loop
-Inv-loop out₀ answers n at₀ k₀ out at k = (k ≤ n) × (n ≤ 1024) × (at ≤ 3 + 201 * k) × (length out ≡ 262144) × ((xs : List Answer) → length xs ≡ n → take (20 * n) answers ≡ allAnswerWords xs → take at out ++ answerLines k (drop k xs) ≡ wordOk ++ (newline ∷ answerLines 0 xs))
+Inv-loop out₀ answers n at₀ k₀ out at k = (k ≤ n) × (n ≤ 1024) × (at ≤ 3 + 201 * k) × (length out ≡ 206848) × ((xs : List Answer) → length xs ≡ n → take (20 * n) answers ≡ allAnswerWords xs → take at out ++ answerLines k (drop k xs) ≡ wordOk ++ (newline ∷ answerLines 0 xs))
 
 abbrev μ-loop : tie.MeasureT-loop
 μ-loop out₀ answers n at₀ k₀ out at k = n - k
@@ -27,7 +27,7 @@ put-requires c κs = search needs
 
 returns : tie.Need-returns Inv-loop μ-loop
 returns c =
-    let full : length (c .before .before .before .before .args .out .now) ≡ 262144 = search needs in
+    let full : length (c .before .before .before .before .args .out .now) ≡ 206848 = search needs in
     (search needs, (c .before .put .ensures .same ∙ full, λ xs e h w. absurd (omega arith)))
 
 loop-holds : tie.Need-loop-holds Inv-loop μ-loop
