@@ -1,0 +1,34 @@
+-- `states_test::names::names` meets its contract: the loop goes over places below 5.
+use Prim.Native.Nat.{_-_, _≤_}
+use borrow.Author.Needs.{needs}
+use Rattle.states_test.proofs.names.names.Statement.{statement}
+use Rattle.states_test.proofs.names.names.Tie as tie
+
+abbrev Inv-loop : tie.InvT-loop
+Inv-loop good wrapper side s words k₀ k = k ≤ 5
+
+abbrev μ-loop : tie.MeasureT-loop
+μ-loop good wrapper side s words k₀ k = 5 - k
+
+loop-holds : tie.Need-loop-holds Inv-loop μ-loop
+loop-holds c = search needs
+
+names-at-requires : tie.Need-names-at-requires Inv-loop μ-loop
+names-at-requires c κs = search needs
+
+add-k : tie.Need-add-k Inv-loop μ-loop
+add-k c = search needs
+
+loop-less : tie.Need-loop-less Inv-loop μ-loop
+loop-less c = search needs
+
+loop-again : tie.Need-loop-again Inv-loop μ-loop
+loop-again c = search needs
+
+returns : tie.Need-returns Inv-loop μ-loop
+returns c = search needs
+
+pub names-spec : {M : Type 1} → statement M
+names-spec =
+    tie.close
+    (tie.spec Inv-loop μ-loop loop-holds names-at-requires add-k loop-less loop-again returns)
