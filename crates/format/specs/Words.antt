@@ -1,14 +1,14 @@
 -- A run by words: how steps are asked for, and how answers are given.
 use mathlib.Core.List.{List, [], _∷_, _++_}
 use mathlib.Core.Option.{Option, none, some}
-use Prim.Native.Nat.{ℕ, zero, suc, _*_}
-use mathlib.Core.Bool.{true, false}
+use Prim.Native.Nat.{ℕ, zero, suc, _+_, _*_}
 use lib.Dec.{ltb}
-use lib.ListN.{length, take, drop}
+use lib.ListN.{length, getD, take, drop}
+use Rattle.model.specs.Basics.{choose}
 use Rattle.model.specs.Side.{State}
 use Rattle.model.specs.Load.{Composition, Refused, Loaded, refused, ok, load}
-use Rattle.model.specs.Step.{Label, silent, enters, leaves, Step, Answer, labelled, refusal, step}
-use Rattle.model.specs.Answer.{given}
+use Rattle.model.specs.Step.{silent, enters, leaves, Step, Answer, step}
+use Rattle.model.specs.Answer.{Said, label, number, Given, given}
 
 -- a step before the steps of the rest; none where there are none
 unfoldable pub before : Step → Option (List Step) → Option (List Step)
@@ -30,6 +30,10 @@ stepsAfter (k ∷ n ∷ i ∷ j ∷ c ∷ ws) zero = before (record { kind = k; 
 abbrev pub stepsOf : List ℕ → Option (List Step)
 stepsOf ws = stepsAfter ws 0
 
+-- the step whose words stand at place p
+abbrev pub stepAt : List ℕ → ℕ → Step
+stepAt l p = record { kind = getD l p 0; side = getD l (p + 1) 0; i = getD l (p + 2) 0; j = getD l (p + 3) 0; words = take (getD l (p + 4) 0) (drop (p + 5) l) }
+
 -- a step in words
 abbrev pub stepWords : Step → List ℕ
 stepWords x = x .kind ∷ x .side ∷ x .i ∷ x .j ∷ length (x .words) ∷ x .words
@@ -39,15 +43,18 @@ allStepWords [] = []
 allStepWords (x ∷ xs) = stepWords x ++ allStepWords xs
 
 -- what an answer says, in two words: 0 silent, 1 in, 2 out, 3 refused; and the refusal's number
-abbrev pub saidWords : Answer → List ℕ
-saidWords (labelled silent n v) = 0 ∷ 0 ∷ []
-saidWords (labelled enters n v) = 1 ∷ 0 ∷ []
-saidWords (labelled leaves n v) = 2 ∷ 0 ∷ []
-saidWords (refusal k n) = 3 ∷ k ∷ []
+abbrev pub saidWords : Said → List ℕ
+saidWords (label silent) = 0 ∷ 0 ∷ []
+saidWords (label enters) = 1 ∷ 0 ∷ []
+saidWords (label leaves) = 2 ∷ 0 ∷ []
+saidWords (number k) = 3 ∷ k ∷ []
 
 -- an answer in 20 words: what it says, its side, its value's length, and 16 words, zero past the length
+abbrev pub givenWords : Given → List ℕ
+givenWords g = saidWords (g .said) ++ (g .side ∷ g .len ∷ g .words)
+
 abbrev pub answerWords : Answer → List ℕ
-answerWords a = saidWords a ++ (given a .side ∷ given a .len ∷ given a .words)
+answerWords a = givenWords (given a)
 
 abbrev pub allAnswerWords : List Answer → List ℕ
 allAnswerWords [] = []
@@ -64,16 +71,18 @@ pub data Ran : Type 0 where
   unloaded : Refused → Ran
   answered : List Answer → Ran
 
--- a run of the steps in a list of words, with room for some words
-unfoldable pub runOf : Composition → List ℕ → (room : ℕ) → Ran
-runOf b ws room =
-    elim (stepsOf ws) [
-      | none ↦ brokenOff
-      | some xs ↦ elim (ltb room (20 * length xs)) [
-        | true ↦ tooShort
-        | false ↦ elim (load b) [ refused e ↦ unloaded e | ok s ↦ answered (answers b s xs) ]
-      ]
-    ]
+-- a run of some steps from what load gives
+abbrev pub runFrom : Composition → List Step → Loaded → Ran
+runFrom b xs (refused e) = unloaded e
+runFrom b xs (ok s) = answered (answers b s xs)
+
+-- a run of the steps of a list, where it does not break off, with room for some words
+abbrev pub runSteps : Composition → (room : ℕ) → Option (List Step) → Ran
+runSteps b room none = brokenOff
+runSteps b room (some xs) = choose (ltb room (20 * length xs)) tooShort (runFrom b xs (load b))
+
+abbrev pub runOf : Composition → List ℕ → (room : ℕ) → Ran
+runOf b ws room = runSteps b room (stepsOf ws)
 
 -- the words that a run writes
 abbrev pub writtenBy : Ran → List ℕ

@@ -35,10 +35,10 @@ use Rattle.steps.proofs.Outcomes.{said-refused, said-label}
 use Rattle.interpreter.specs.declared.Outcome.the-variants as outcome
 use Rattle.interpreter.specs.declared.Stepped.{Stepped}
 use Rattle.interpreter.specs.Loading.{outcomeOf}
-use Rattle.interpreter.specs.Stepping.{OwnReady}
+use Rattle.dispatch.specs.Stepping.{OwnReady}
 use Rattle.interpreter.specs.Answers.{Padded, Answered, saidOf, givenOf, isRefusal, sideAt, withSide, ResultIs, PutBack, RefusedTen, StepAnswered}
 use Rattle.interpreter.proofs.LoadLaws.{Taken1, taken}
-use Rattle.interpreter.proofs.StepLaws.{and-on}
+use Rattle.dispatch.proofs.StepLaws.{and-on}
 
 -- ZEROS PAST THE LENGTH
 pub copy-more : (ws : List ℕ) (k m : ℕ) → k < length ws → set (take k ws ++ replicate (suc m) 0) k (getD ws k 0) ≡ take (suc k) ws ++ replicate m 0

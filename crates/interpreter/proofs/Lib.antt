@@ -1,4 +1,4 @@
 pub mod LoadLaws
-pub mod StepLaws
 pub mod AnswerLaws
 pub mod FindLaws
+pub mod RunLaws

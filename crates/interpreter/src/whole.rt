@@ -12,13 +12,13 @@ ghost use Rattle.sides.specs.Views.{viewState, stateOf, fitsArrays};
 ghost use Rattle.sides.specs.Puts.{sideOf};
 ghost use Rattle.steps.specs.StepIs.{StepIs};
 ghost use Rattle.interpreter.specs.Loading.{composition};
-ghost use Rattle.interpreter.specs.Stepping.{asked};
+ghost use Rattle.dispatch.specs.Stepping.{asked};
 ghost use Rattle.interpreter.specs.Answers.{Padded, Answered, PutBack, RefusedTen, ResultIs, StepAnswered};
 use crate::Outcome;
 use crate::Stepped;
-use crate::dispatch::own_step;
-use crate::dispatch::second_step;
 use crate::loading::load_verdict;
+use dispatch::own_step;
+use dispatch::second_step;
 use sides::State;
 use sides::marked_all;
 use steps::Said;
@@ -84,7 +84,7 @@ fn refused(s: State, side: u32) -> Stepped
 }
 
 // A step of a state that is well formed for tables that load takes.
-fn step_unchecked(
+pub(crate) fn step_unchecked(
     wrapper: u32,
     nodes1: &[u32],
     pool1: &[u32],

@@ -1,6 +1,6 @@
 use mathlib.Core.Path.{_≡_, refl, sym, ap, _∙_}
 use Rattle.interpreter.specs.Loading.{composition}
-use Rattle.interpreter.specs.Stepping.{asked}
+use Rattle.dispatch.specs.Stepping.{asked}
 use Rattle.model.proofs.Tests.{fst, snd}
 use Rattle.interpreter.proofs.AnswerLaws.{step-ready, step-refused}
 use borrow.Author.Needs.{needs}

@@ -1,6 +1,6 @@
 use mathlib.Core.Path.{_≡_, refl, sym, ap, _∙_}
 use Rattle.interpreter.specs.Loading.{composition}
-use Rattle.interpreter.specs.Stepping.{asked}
+use Rattle.dispatch.specs.Stepping.{asked}
 use Rattle.interpreter.proofs.AnswerLaws.{step-short, own-one, own-second, shelf-one, step-one, step-two, step-filter, step-other}
 use borrow.Author.Needs.{needs}
 use native.Mathlib.Omega.{arith}

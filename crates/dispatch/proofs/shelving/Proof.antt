@@ -1,0 +1,20 @@
+use mathlib.Core.Path.{_≡_, refl, sym, ap, _∙_}
+use Rattle.steps.proofs.Settling.{no-left}
+use Rattle.dispatch.proofs.StepLaws.{and-on}
+use borrow.Author.Needs.{needs}
+use native.Mathlib.Omega.{arith}
+use Rattle.dispatch.proofs.shelving.Statement.{statement}
+use Rattle.dispatch.proofs.shelving.Tie as tie
+use Rattle.dispatch.proofs.shelving.Reads as reads
+use Rattle.dispatch.proofs.shelving.Lts as lts
+
+-- src/dispatch.rt:42:1
+returns : tie.Need-returns
+returns c = and-on _ _ (c .if1 .taken)
+
+-- src/dispatch.rt:42:1
+returns-2 : tie.Need-returns-2
+returns-2 c = no-left _ _ (c .if1 .left)
+
+pub shelving-spec : {M : Type 1} → statement M
+shelving-spec = tie.close (tie.spec returns returns-2)

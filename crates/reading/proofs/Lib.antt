@@ -1,0 +1,10 @@
+pub mod TestLaws
+pub mod NumberLaws
+pub mod PieceLaws
+pub mod LineLaws
+pub mod StoreLaws
+pub mod AnswerLaws
+pub mod SideLaws
+pub mod StepLaws
+pub mod LetterLaws
+pub mod ReadLaws

@@ -1,0 +1,48 @@
+-- A field and a line as the code answers them.
+use mathlib.Core.List.{List, [], _∷_, _++_}
+use mathlib.Core.Option.{Option, none, some}
+use Prim.Native.Nat.{ℕ}
+use lib.Dec.{leb}
+use lib.ListN.{length, take}
+use Rattle.model.specs.Basics.{choose}
+use Rattle.format.specs.Lines.{Line, Input, onLine}
+use Rattle.reading.specs.declared.fields.Number.{Number}
+use Rattle.reading.specs.declared.fields.Number.the-variants.{Word, Bad}
+use Rattle.reading.specs.declared.fields.Line as code
+
+-- the answer for a number, or for none
+abbrev pub answerOf : Option ℕ → Number
+answerOf none = Bad
+answerOf (some n) = Word n
+
+-- the numbers that a struct holds
+abbrev pub wordsOf : code.Line → List ℕ
+wordsOf r = take (r .len) (r .words)
+
+-- the line that a struct holds; none where its length says that the line is at fault
+unfoldable pub viewLine : code.Line → Option Line
+viewLine r = choose (leb (r .len) 21) (some (record { letter = r .letter; words = wordsOf r })) none
+
+-- a line that has at most 21 numbers
+unfoldable pub shortLine : Line → Option Line
+shortLine l = choose (leb (length (l .words)) 21) (some l) none
+
+-- the line, where there is one and it has at most 21 numbers
+abbrev pub short : Option Line → Option Line
+short none = none
+short (some l) = shortLine l
+
+-- a line with one number more, where it is still short
+abbrev pub pushed : ℕ → Option Line → Option Line
+pushed w none = none
+pushed w (some l) = shortLine (record { letter = l .letter; words = l .words ++ (w ∷ []) })
+
+-- a letter's line with some numbers
+abbrev pub lineWith : ℕ → Option (List ℕ) → Option Line
+lineWith c none = none
+lineWith c (some ns) = some (record { letter = c; words = ns })
+
+-- what is read with a line more, or none where the line is at fault
+abbrev pub afterLine : Input → Option Line → Option Input
+afterLine i none = none
+afterLine i (some l) = onLine i l

@@ -1,0 +1,135 @@
+// A line's fields: its letter, and its numbers.
+ghost use mathlib.Core.Path.{_≡_};
+ghost use mathlib.Core.List.{[]};
+ghost use mathlib.Core.Option.{none, some};
+ghost use Prim.Native.Nat.{_≤_};
+ghost use lib.ListN.{length};
+ghost use Rattle.bytes.specs.Bytes.{slice};
+ghost use Rattle.format.specs.Lines.{tab, number, pieces, numbers, lineOf};
+ghost use Rattle.reading.specs.Fields.{answerOf, viewLine, short, pushed, lineWith};
+
+// A field as a number.
+pub(crate) enum Number {
+    Word(u32),
+    Bad,
+}
+
+// A line's letter and numbers. A length of 22 says that the line is at fault, or has more than 21 numbers.
+pub(crate) struct Line {
+    pub(crate) letter: u8,
+    pub(crate) words: [u32; 21],
+    pub(crate) len: usize,
+}
+
+// A byte as a wider number.
+fn wide(b: u8) -> u64
+    ensures { λ r. ⌜ r ≡ b ⌝ }
+{
+    b as u64
+}
+
+// The number in the bytes from one place up to another.
+fn number_at(s: &[u8], from: usize, to: usize) -> Number
+    requires { ⌜ (from ≤ to) × (to ≤ length (now s)) ⌝ }
+    ensures { λ r. ⌜ r ≡ answerOf (number (slice from to (now (s .entry)))) ⌝ }
+{
+    if from == to {
+        return Number::Bad;
+    }
+    let mut v: u64 = 0;
+    let mut at = from;
+    while at < to {
+        let b = wide(s[at]);
+        if b < 48 {
+            return Number::Bad;
+        }
+        if 57 < b {
+            return Number::Bad;
+        }
+        let w = 10 * v + (b - 48);
+        if 4294967295 < w {
+            return Number::Bad;
+        }
+        v = w;
+        at += 1;
+    }
+    Number::Word(v as u32)
+}
+
+impl Line {
+    // A line at fault.
+    fn bad() -> Line
+        ensures { λ r. ⌜ viewLine r ≡ none ⌝ }
+    {
+        Line {
+            letter: 0,
+            words: [0; 21],
+            len: 22,
+        }
+    }
+
+    // A letter alone.
+    fn alone(letter: u8) -> Line
+        ensures { λ r. ⌜ viewLine r ≡ lineWith letter (some []) ⌝ }
+    {
+        Line {
+            letter,
+            words: [0; 21],
+            len: 0,
+        }
+    }
+
+    // One number more; a line with 21 numbers is at fault then.
+    fn push(mut self, w: u32) -> Line
+        ensures { λ r. ⌜ viewLine r ≡ pushed w (viewLine self) ⌝ }
+    {
+        let n = self.len;
+        if n < 21 {
+            self.words[n] = w;
+            self.len = n + 1;
+        } else {
+            self.len = 22;
+        }
+        self
+    }
+}
+
+// A letter's line with the numbers of the fields from one place up to another.
+fn with_numbers(letter: u8, s: &[u8], from: usize, to: usize) -> Line
+    requires { ⌜ (from ≤ to) × (to ≤ length (now s)) ⌝ }
+    ensures { λ r. ⌜ viewLine r ≡ short (lineWith letter (numbers (pieces tab (slice from to (now (s .entry)))))) ⌝ }
+{
+    let mut r = Line::alone(letter);
+    let mut at = from;
+    loop {
+        let q = bytes::scan::find(s, at, to, 9);
+        match number_at(s, at, q) {
+            Number::Bad => {
+                return Line::bad();
+            }
+            Number::Word(w) => {
+                r = r.push(w);
+            }
+        }
+        if q == to {
+            return r;
+        }
+        at = q + 1;
+    }
+}
+
+// The line in the bytes from one place up to another.
+pub(crate) fn line_at(s: &[u8], from: usize, to: usize) -> Line
+    requires { ⌜ (from ≤ to) × (to ≤ length (now s)) ⌝ }
+    ensures { λ r. ⌜ viewLine r ≡ short (lineOf (slice from to (now (s .entry)))) ⌝ }
+{
+    let q = bytes::scan::find(s, from, to, 9);
+    if q - from != 1 {
+        return Line::bad();
+    }
+    let letter = s[from];
+    if q == to {
+        return Line::alone(letter);
+    }
+    with_numbers(letter, s, q + 1, to)
+}

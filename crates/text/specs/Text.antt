@@ -1,0 +1,38 @@
+-- The answer of `text`, and the lent buffer after it.
+use mathlib.Core.Path.{_≡_}
+use mathlib.Core.List.{List}
+use Prim.Native.Nat.{ℕ, _≤_}
+use lib.Dec.{ltb}
+use lib.ListN.{length, take}
+use Rattle.model.specs.Basics.{choose}
+use Rattle.format.specs.Words.{allStepWords, onto}
+use Rattle.format.specs.Lines.{Input}
+use Rattle.interpreter.specs.Loading.{composition}
+use Rattle.text.specs.declared.Written.{Written}
+use Rattle.text.specs.declared.Written.the-variants.{Bytes, TooShort}
+
+-- some words are what the lines give
+pub record Given (i : Input) (wrapper : ℕ) (nodes1 pool1 nodes2 pool2 steps : List ℕ) : Type 0 where
+  pub loads : composition wrapper nodes1 pool1 nodes2 pool2 ≡ i .loads
+  pub words : steps ≡ allStepWords (i .steps)
+  pub few : length (i .steps) ≤ 1024
+
+-- an output of n bytes stands at the start of a page of 262,144
+pub record OnPage (o : List ℕ) (n : ℕ) (page : List ℕ) : Type 0 where
+  pub few : n ≤ 262144
+  pub full : length page ≡ 262144
+  pub text : take n page ≡ o
+
+-- how many bytes are written, or that the buffer is too short for the output
+unfoldable pub writtenOf : (output lent : List ℕ) → Written
+writtenOf o lent = choose (ltb (length lent) (length o)) TooShort (Bytes (length o))
+
+-- the buffer after it: the output at its start, or as it was
+unfoldable pub bufferAfter : (output lent : List ℕ) → List ℕ
+bufferAfter o lent = choose (ltb (length lent) (length o)) lent (onto o lent)
+
+-- r is the answer for an output, which is never longer than 262,144 bytes
+pub record TextIs (o lent after : List ℕ) (r : Written) : Type 0 where
+  pub answer : r ≡ writtenOf o lent
+  pub buffer : after ≡ bufferAfter o lent
+  pub most : length o ≤ 262144

@@ -1,0 +1,5 @@
+pub mod WrittenLaws
+pub mod DecimalLaws
+pub mod FieldLaws
+pub mod LineLaws
+pub mod AnswerLaws

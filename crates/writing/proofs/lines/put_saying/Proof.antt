@@ -1,0 +1,116 @@
+-- `writing::lines::put_saying` meets its contract.
+use Rattle.writing.proofs.WrittenLaws.{joined, spelled}
+use Rattle.writing.proofs.LineLaws.{says-silent, says-enters, says-leaves, says-refused}
+use native.Mathlib.Omega.{arith}
+use borrow.Author.Needs.{needs}
+use Rattle.writing.proofs.lines.put_saying.Statement.{statement}
+use Rattle.writing.proofs.lines.put_saying.Tie as tie
+
+shared-slice-read-said : tie.Need-shared-slice-read-said
+shared-slice-read-said c = search needs
+
+slice-aggregate-put : tie.Need-slice-aggregate-put
+slice-aggregate-put c = search needs
+
+put-requires : tie.Need-put-requires
+put-requires c κs = search needs
+
+same-length : tie.Need-same-length
+same-length c = search needs
+
+returns : tie.Need-returns
+returns c =
+    let a = c .before .before .before .before .before .before .before .before .before .args in
+    let first = c .before .before .put .ensures in
+    (spelled (says-silent (a .words .now) (c .before .before .before .before .before .if1 .taken)) first, omega (arith, first .end))
+
+slice-aggregate-put-2 : tie.Need-slice-aggregate-put-2
+slice-aggregate-put-2 c = search needs
+
+put-requires-2 : tie.Need-put-requires-2
+put-requires-2 c κs = search needs
+
+put-value-requires : tie.Need-put-value-requires
+put-value-requires c κs = search needs
+
+same-length-2 : tie.Need-same-length-2
+same-length-2 c = search needs
+
+returns-2 : tie.Need-returns-2
+returns-2 c =
+    let a = c .before .before .before .before .before .before .before .before .before .before .before .before .before .before .args in
+    let first = c .before .before .before .before .before .before .put2 .ensures in
+    let value = c .before .before .put-value .ensures in
+    (spelled (says-enters (a .words .now) (c .before .before .before .before .before .before .before .before .before .if2 .taken)) (joined first (value .0)), omega (arith, first .end, value .1))
+
+slice-aggregate-put-3 : tie.Need-slice-aggregate-put-3
+slice-aggregate-put-3 c = search needs
+
+put-requires-3 : tie.Need-put-requires-3
+put-requires-3 c κs = search needs
+
+put-value-requires-2 : tie.Need-put-value-requires-2
+put-value-requires-2 c κs = search needs
+
+same-length-3 : tie.Need-same-length-3
+same-length-3 c = search needs
+
+returns-3 : tie.Need-returns-3
+returns-3 c =
+    let a = c .before .before .before .before .before .before .before .before .before .before .before .before .before .before .before .args in
+    let first = c .before .before .before .before .before .before .put3 .ensures in
+    let value = c .before .before .put-value2 .ensures in
+    (spelled (says-leaves (a .words .now) (c .before .before .before .before .before .before .before .before .before .if3 .taken)) (joined first (value .0)), omega (arith, first .end, value .1))
+
+slice-aggregate-put-4 : tie.Need-slice-aggregate-put-4
+slice-aggregate-put-4 c = search needs
+
+put-requires-4 : tie.Need-put-requires-4
+put-requires-4 c κs = search needs
+
+shared-slice-read-wide : tie.Need-shared-slice-read-wide
+shared-slice-read-wide c = search needs
+
+wide-requires : tie.Need-wide-requires
+wide-requires c κs = search needs
+
+put-field-requires : tie.Need-put-field-requires
+put-field-requires c κs = search needs
+
+same-length-4 : tie.Need-same-length-4
+same-length-4 c = search needs
+
+returns-4 : tie.Need-returns-4
+returns-4 c =
+    let a = c .before .before .before .before .before .before .before .before .before .before .before .before .before .before .before .before .before .args in
+    let word = c .before .before .before .wide .ensures in
+    let first = c .before .before .before .before .before .before .before .before .put4 .ensures in
+    let field = c .before .before .put-field .ensures in
+    (spelled (says-refused (a .words .now) _ (c .before .before .before .before .before .before .before .before .before .before .before .before .before .if1 .left) (c .before .before .before .before .before .before .before .before .before .before .before .before .if2 .left) (c .before .before .before .before .before .before .before .before .before .before .before .if3 .left) (word .0)) (joined first (field .0)), omega (arith, first .end, field .1 .1 (word .1)))
+
+pub put-saying-spec : {M : Type 1} → statement M
+put-saying-spec =
+    tie.close
+    (tie.spec
+    shared-slice-read-said
+    slice-aggregate-put
+    put-requires
+    same-length
+    returns
+    slice-aggregate-put-2
+    put-requires-2
+    put-value-requires
+    same-length-2
+    returns-2
+    slice-aggregate-put-3
+    put-requires-3
+    put-value-requires-2
+    same-length-3
+    returns-3
+    slice-aggregate-put-4
+    put-requires-4
+    shared-slice-read-wide
+    wide-requires
+    put-field-requires
+    same-length-4
+    returns-4)
