@@ -29,115 +29,95 @@
 //   wfTaken     taken on side 1; on side 2 at a place past the shelf's length
 //   isNoSide    filter 2: particles, boxes, messages, shelf, minted, left, taken
 //   ready       tables that load refuses; a state of the other wrapper, and of other tables
-mod ask; // the handler's table, a step of it, a line of the output
+mod cases; // one thing put anew
 mod compared; // that the comparison sees each field
-mod counts; // counts and limits
-mod good; // the states that are broken
-mod lists; // boxes, lobby, shelf and marks
+mod inputs; // waiting inputs
+mod labels; // what a line says
 mod names; // names and values
-mod particles; // outputs and waiting inputs
-mod put; // a state with one thing put anew
 mod refused_tables; // tables and wrappers
-mod same; // whether two states are equal
 
+use cases::cases;
+use cases::counts;
+use cases::taken_case;
+use names::names;
+use names::value;
+use names::values;
 use sides::State;
+use states::put;
+use states::write;
 
 // Every clause of a side.
 fn side_clauses(wrapper: u32, side: u32, s: State) {
-    counts::counts(wrapper, side, s);
-    names::names(false, wrapper, side, s, &[64, 4000000, 4999999]);
-    names::names_as_values(false, wrapper, side, s, &[64]);
-    names::malformed_values(wrapper, side, s);
-    names::allowed_values(wrapper, side, s);
-    particles::particle_boxes(wrapper, side, s);
-    particles::input_nodes(wrapper, side, s);
-    particles::input_values(wrapper, side, s);
-    particles::tuple_uses(wrapper, side, s);
-    particles::tuples_unused(wrapper, side, s);
-    particles::values_read(wrapper, side, s);
-    lists::boxes(wrapper, side, s);
-    lists::last_rows(wrapper, side, s);
-    lists::messages(wrapper, side, s);
-    lists::shelves(wrapper, side, s);
+    counts(wrapper, side, s);
+    names(false, wrapper, side, s, 10, 15, &[64, 4000000, 4999999]);
+    names(false, wrapper, side, s, 15, 19, &[64]);
+    values(false, wrapper, side, s, 0, 8);
+    values(true, wrapper, side, s, 8, 12);
+    cases(wrapper, side, s, 0, 3);
+    inputs::inputs(wrapper, side, s);
+    cases(wrapper, side, s, 3, 41);
 }
 
 // The largest serials and the next, with 256 names minted on each side.
 fn largest_serials(side: u32, s: State) {
-    let t = put::put_minted(put::put_minted(s, 1, 256), 2, 256);
-    ask::write(b"with 256 names minted on each side\n");
-    names::names(true, 2, side, t, &[65791, 131327]);
-    names::names_as_values(true, 2, side, t, &[65791, 131327]);
-    names::names(false, 2, side, t, &[65792, 131328]);
-    names::names_as_values(false, 2, side, t, &[65792, 131328]);
-    lists::left_case(true, 2, side, t, 255);
-    lists::left_case(true, 2, side, t, 511);
-    ask::write(b"with the names that were minted\n");
+    let t = put(put(s, 1, 9, 256), 2, 9, 256);
+    write(b"with 256 names minted on each side\n");
+    names(true, 2, side, t, 10, 19, &[65791, 131327]);
+    names(false, 2, side, t, 10, 19, &[65792, 131328]);
+    cases(2, side, t, 47, 49);
+    write(b"with the names that were minted\n");
 }
 
-// Names by the counts of the pipeline's state: one name of side 1, two of side 2.
-fn piped_names(side: u32, s: State) {
-    names::names(true, 2, side, s, &[63, 65536, 131073]);
-    names::names_as_values(true, 2, side, s, &[63, 65536, 131073]);
-    names::names(false, 2, side, s, &[65537, 131074]);
-    names::names_as_values(false, 2, side, s, &[65537, 131074]);
-    names::broken_tuples(2, side, s, 65537);
+// A side under the pipeline. By the counts of the state: one name of side 1, two of side 2.
+fn pipeline(side: u32, s: State) {
+    side_clauses(2, side, s);
+    names(true, 2, side, s, 10, 19, &[63, 65536, 131073]);
+    names(false, 2, side, s, 10, 19, &[65537, 131074]);
+    values(false, 2, side, s, 12, 15);
+    value(false, 2, side, s, 16);
     largest_serials(side, s);
+    cases(2, side, s, 41, 47);
 }
 
-// Names by those of the filter's: two of side 1, none of side 2.
-fn filtered_names(s: State) {
-    names::names(true, 1, 1, s, &[63, 65537]);
-    names::names_as_values(true, 1, 1, s, &[63, 65537]);
-    names::names(false, 1, 1, s, &[65538, 65792, 131072, 131328]);
-    names::names_as_values(false, 1, 1, s, &[65538, 65792, 131072, 131328]);
-    names::broken_tuples(1, 1, s, 131072);
+// Side 1 has no mark, side 2 only those of places that are filled.
+fn taken_marks(s: State) {
+    taken_case(false, 2, 1, s, 0, 1);
+    taken_case(false, 2, 1, s, 31, 32);
+    taken_case(true, 2, 2, s, 0, 1);
+    taken_case(false, 2, 2, s, 0, 0);
+    taken_case(false, 2, 2, s, 1, 1);
+    taken_case(false, 2, 2, s, 31, 31);
+    taken_case(true, 2, 2, s, 31, 32);
 }
 
-// The filter's marks, and its side 2, which is empty.
-fn filtered_marks(s: State) {
-    lists::left_case(true, 1, 1, s, 1);
-    lists::left_case(false, 1, 1, s, 2);
-    lists::left_case(false, 1, 1, s, 256);
-    lists::taken_case(false, 1, 1, s, 0, 0);
-    counts::count_case(false, 1, 2, s, 0, 1);
-    counts::count_case(false, 1, 2, s, 0, 33);
-    counts::count_case(false, 1, 2, s, 4, 1);
-    counts::count_case(false, 1, 2, s, 5, 1);
-    counts::count_case(false, 1, 2, s, 7, 1);
-    counts::count_case(false, 1, 2, s, 9, 1);
-    lists::left_case(false, 1, 2, s, 0);
-    lists::taken_case(false, 1, 2, s, 0, 0);
+// The filter: two names of side 1, none of side 2, which is empty.
+fn filter(s: State) {
+    side_clauses(1, 1, s);
+    names(true, 1, 1, s, 10, 19, &[63, 65537]);
+    names(false, 1, 1, s, 10, 19, &[65538, 65792, 131072, 131328]);
+    values(false, 1, 1, s, 12, 14);
+    values(false, 1, 1, s, 15, 17);
+    cases(1, 1, s, 49, 52);
+    taken_case(false, 1, 1, s, 0, 0);
+    cases(1, 2, s, 52, 59);
+    taken_case(false, 1, 2, s, 0, 0);
 }
 
 // The state as it came from load and steps.
 fn untouched(wrapper: u32, s: State) {
-    ask::head(true, wrapper, 1);
-    ask::write(b" nothing");
-    ask::ask(wrapper, s);
-}
-
-fn pipeline(s: State) {
-    side_clauses(2, 1, s);
-    piped_names(1, s);
-    lists::left_marks(1, s);
-    side_clauses(2, 2, s);
-    piped_names(2, s);
-    lists::left_marks(2, s);
-    lists::taken_marks(s);
-}
-
-fn filter(s: State) {
-    side_clauses(1, 1, s);
-    filtered_names(s);
-    filtered_marks(s);
+    states::head(true, wrapper, 1);
+    write(b" nothing");
+    states::ask(wrapper, s);
 }
 
 fn main() {
-    let s = good::piped();
-    let f = good::filtered();
+    let s = states::piped();
+    let f = states::filtered();
     untouched(2, s);
     untouched(1, f);
-    pipeline(s);
+    pipeline(1, s);
+    pipeline(2, s);
+    taken_marks(s);
     filter(f);
     refused_tables::tables();
     refused_tables::wrappers(s, f);

@@ -1,62 +1,24 @@
 // Names and values, at every place that holds one.
-use super::ask::ask;
-use super::ask::head;
-use super::ask::number;
-use super::ask::word;
-use super::ask::write;
-use super::counts::has_shelf;
-use super::put::put_box;
-use super::put::put_input;
-use super::put::put_message;
-use super::put::put_output;
-use super::put::put_shelved;
-use sides::Message;
-use sides::Particle;
+ghost use Prim.Native.Nat.{_<_, _≤_};
+use super::cases::case;
+use super::cases::has_shelf;
+use super::labels::label;
 use sides::State;
-use sides::Status;
-use sides::Tag;
+use states::ask;
+use states::head;
+use states::number;
+use states::put_value;
+use states::size;
+use states::word;
+use states::write;
 use values::Value;
 
-// Where a name or a value is put: 0 to 4 hold a name, 5 to 8 a value.
-fn write_place(place: usize) {
-    match place {
-        0 => write(b" channel"),
-        1 => write(b" to child"),
-        2 => write(b" from child"),
-        3 => write(b" box name"),
-        4 => write(b" message's channel"),
-        5 => write(b" output's value"),
-        6 => write(b" input's value"),
-        7 => write(b" message's value"),
-        _ => write(b" shelf's value"),
+// Whether a side has a place: no shelf but where it may have one.
+fn is_place(place: usize, wrapper: u32, side: u32) -> bool {
+    if place == 18 {
+        return has_shelf(wrapper, side);
     }
-}
-
-// An input that waits at node 41, where a tuple is allowed.
-fn input_with(v: Value) -> Particle {
-    let vals = [v; 8];
-    Particle::input(0, 41, vals, 1)
-}
-
-fn put_value(s: State, side: u32, place: usize, v: Value) -> State {
-    match place {
-        5 => put_output(s, side, Particle::output(0, 10, Tag::Within, v)),
-        6 => put_input(s, side, input_with(v)),
-        7 => put_message(s, side, Message::new(Status::Arrived, 5, v)),
-        _ => put_shelved(s, side, v),
-    }
-}
-
-fn put_name(s: State, side: u32, place: usize, w: u32) -> State {
-    let v = Value::name(20);
-    match place {
-        0 => put_output(s, side, Particle::output(0, w, Tag::Within, v)),
-        1 => put_output(s, side, Particle::output(0, 10, Tag::ToChild(w), v)),
-        2 => put_output(s, side, Particle::output(0, 10, Tag::FromChild(w), v)),
-        3 => put_box(s, side, w, 0),
-        4 => put_message(s, side, Message::new(Status::Arrived, w, v)),
-        _ => put_value(s, side, place, Value::name(w)),
-    }
+    true
 }
 
 // Each of at most eight words as a name, or as a value of one word, at a place.
@@ -66,33 +28,54 @@ fn names_at(good: bool, wrapper: u32, side: u32, s: State, place: usize, words: 
     }
     let mut k: usize = 0;
     while k < words.len() {
-        let w = words[k];
-        head(good, wrapper, side);
-        write_place(place);
-        word(w);
-        ask(wrapper, put_name(s, side, place, w));
+        case(good, wrapper, side, s, place, size(words[k]));
         k += 1;
     }
 }
 
-// At each place that holds a name.
-pub fn names(good: bool, wrapper: u32, side: u32, s: State, words: &[u32]) {
-    let mut k: usize = 0;
-    while k < 5 {
-        names_at(good, wrapper, side, s, k, words);
+// At each of the places 10 to 18 from one on to another; 18 is the shelf.
+pub fn names(good: bool, wrapper: u32, side: u32, s: State, from: usize, to: usize, words: &[u32])
+    requires { ⌜ to ≤ 19 ⌝ }
+{
+    let mut k = from;
+    while k < to {
+        if is_place(k, wrapper, side) {
+            names_at(good, wrapper, side, s, k, words);
+        }
         k += 1;
     }
 }
 
-// At each place that holds a value.
-pub fn names_as_values(good: bool, wrapper: u32, side: u32, s: State, words: &[u32]) {
-    let mut k: usize = 5;
-    while k < 8 {
-        names_at(good, wrapper, side, s, k, words);
-        k += 1;
-    }
-    if has_shelf(wrapper, side) {
-        names_at(good, wrapper, side, s, 8, words);
+// Length, four words, the word in the other places.
+const VALUES: [[u32; 6]; 17] = [
+    [0, 0, 0, 0, 0, 0], // 0: no value: no words, the wildcard, no tuple word, words left over, parts missing
+    [1, 4999999, 0, 0, 0, 0],
+    [1, 4000016, 0, 0, 0, 0],
+    [1, 3999999, 0, 0, 0, 0],
+    [2, 20, 20, 0, 0, 0],
+    [2, 4000002, 20, 0, 0, 0],
+    [3, 4000001, 20, 20, 0, 0],
+    [3, 4000002, 20, 4999999, 0, 0],
+    [1, 4000000, 0, 0, 0, 0], // 8: allowed: the empty tuple, 16 words, tuples in a tuple, a name with other words past the length
+    [16, 4000015, 20, 20, 20, 20],
+    [4, 4000002, 4000001, 65536, 63, 0],
+    [1, 20, 4999999, 4999999, 4999999, 4999999],
+    [17, 4000015, 4000001, 20, 20, 20], // 12: a word over 16, and 16 with a part missing
+    [16, 4000015, 4000001, 20, 20, 20],
+    [3, 4000002, 20, 65537, 0, 0], // 14: in a tuple a name that is not minted under the pipeline, one under the filter, and no name
+    [3, 4000002, 20, 131072, 0, 0],
+    [3, 4000001, 4000001, 64, 0, 0],
+];
+
+fn value_of(row: [u32; 6]) -> Value {
+    let mut words: [u32; 16] = [row[5]; 16];
+    words[0] = row[1];
+    words[1] = row[2];
+    words[2] = row[3];
+    words[3] = row[4];
+    Value {
+        words,
+        len: size(row[0]),
     }
 }
 
@@ -115,71 +98,34 @@ fn write_value(v: Value) {
     }
 }
 
+// A value at a place.
 fn value_at(good: bool, wrapper: u32, side: u32, s: State, place: usize, v: Value) {
-    head(good, wrapper, side);
-    write_place(place);
-    write_value(v);
-    ask(wrapper, put_value(s, side, place, v));
+    if is_place(place, wrapper, side) {
+        head(good, wrapper, side);
+        label(place);
+        write_value(v);
+        ask(wrapper, put_value(s, side, place, v));
+    }
 }
 
-// A value at each place that holds one.
-fn value(good: bool, wrapper: u32, side: u32, s: State, v: Value) {
-    let mut k: usize = 5;
-    while k < 8 {
-        value_at(good, wrapper, side, s, k, v);
+// A value of the list at each place that holds one.
+pub fn value(good: bool, wrapper: u32, side: u32, s: State, at: usize)
+    requires { ⌜ at < 17 ⌝ }
+{
+    let v = value_of(VALUES[at]);
+    value_at(good, wrapper, side, s, 15, v);
+    value_at(good, wrapper, side, s, 16, v);
+    value_at(good, wrapper, side, s, 17, v);
+    value_at(good, wrapper, side, s, 18, v);
+}
+
+// A part of the list.
+pub fn values(good: bool, wrapper: u32, side: u32, s: State, from: usize, to: usize)
+    requires { ⌜ to ≤ 17 ⌝ }
+{
+    let mut k = from;
+    while k < to {
+        value(good, wrapper, side, s, k);
         k += 1;
     }
-    if has_shelf(wrapper, side) {
-        value_at(good, wrapper, side, s, 8, v);
-    }
-}
-
-// No value: no words, the wildcard, parts missing or left over, no tuple word.
-pub fn malformed_values(wrapper: u32, side: u32, s: State) {
-    value(false, wrapper, side, s, Value::none());
-    value(false, wrapper, side, s, Value::of(&[4999999]));
-    value(false, wrapper, side, s, Value::of(&[4000016]));
-    value(false, wrapper, side, s, Value::of(&[3999999]));
-    value(false, wrapper, side, s, Value::of(&[20, 20]));
-    value(false, wrapper, side, s, Value::of(&[4000002, 20]));
-    value(false, wrapper, side, s, Value::of(&[4000001, 20, 20]));
-    value(false, wrapper, side, s, Value::of(&[4000002, 20, 4999999]));
-}
-
-// A word over 16, and 16 with a part missing; in a tuple a name that is not minted, and no name.
-pub fn broken_tuples(wrapper: u32, side: u32, s: State, unminted: u32) {
-    let mut words: [u32; 17] = [20; 17];
-    words[0] = 4000015;
-    words[1] = 4000001;
-    value(false, wrapper, side, s, Value::of(&words));
-    value(false, wrapper, side, s, Value::of(&words[..16]));
-    value(false, wrapper, side, s, Value::of(&[4000002, 20, unminted]));
-    value(false, wrapper, side, s, Value::of(&[4000001, 4000001, 64]));
-}
-
-// The empty tuple, 16 words, tuples in a tuple; and a name with other words past the length.
-pub fn allowed_values(wrapper: u32, side: u32, s: State) {
-    let mut words: [u32; 16] = [20; 16];
-    words[0] = 4000015;
-    value(true, wrapper, side, s, Value::of(&[4000000]));
-    value(true, wrapper, side, s, Value::of(&words));
-    value(
-        true,
-        wrapper,
-        side,
-        s,
-        Value::of(&[4000002, 4000001, 65536, 63]),
-    );
-    let mut past: [u32; 16] = [4999999; 16];
-    past[0] = 20;
-    value(
-        true,
-        wrapper,
-        side,
-        s,
-        Value {
-            words: past,
-            len: 1,
-        },
-    );
 }

@@ -1,10 +1,10 @@
 // Tables that load refuses, lent to a step of a state that any table suits: it holds no input.
 ghost use Prim.Native.Nat.{_≤_};
-use super::ask::answer;
-use super::ask::write;
 use interpreter::load;
 use interpreter::step;
 use sides::State;
+use states::answer;
+use states::write;
 
 // How a line begins.
 fn begin(good: bool, name: &[u8]) {
@@ -61,18 +61,24 @@ fn sizes() {
     table_case(false, b"257 nodes", n, &p[..1]);
 }
 
+// A table of one node and one word.
+fn node_case(good: bool, name: &[u8], node: [u32; 5], value: u32) {
+    let words: [u32; 1] = [value];
+    table_case(good, name, &node, &words);
+}
+
 // Refusals 2 to 5.
 fn nodes() {
-    table_case(true, b"another output", &[4, 63, 65, 0, 0], &[20]);
-    table_case(false, b"kind 7", &[7, 2, 1, 0, 0], &[20]);
-    table_case(false, b"unused field", &[4, 2, 1, 0, 1], &[20]);
-    table_case(false, b"child not above", &[2, 5, 0, 0, 0], &[20]);
-    table_case(false, b"child not there", &[2, 5, 1, 0, 0], &[20]);
+    node_case(true, b"another output", [4, 63, 65, 0, 0], 20);
+    node_case(false, b"kind 7", [7, 2, 1, 0, 0], 20);
+    node_case(false, b"unused field", [4, 2, 1, 0, 1], 20);
+    node_case(false, b"child not above", [2, 5, 0, 0, 0], 20);
+    node_case(false, b"child not there", [2, 5, 1, 0, 0], 20);
     table_case(false, b"no child", &[0, 0, 0, 0, 0, 0, 0, 0, 0, 0], &[20]);
-    table_case(false, b"channel 64", &[4, 64, 1, 0, 0], &[20]);
-    table_case(false, b"tag 66", &[4, 2, 66, 0, 0], &[20]);
-    table_case(false, b"value past the pool", &[4, 2, 1, 1, 0], &[20]);
-    table_case(false, b"value 64", &[4, 2, 1, 0, 0], &[64]);
+    node_case(false, b"channel 64", [4, 64, 1, 0, 0], 20);
+    node_case(false, b"tag 66", [4, 2, 66, 0, 0], 20);
+    node_case(false, b"value past the pool", [4, 2, 1, 1, 0], 20);
+    node_case(false, b"value 64", [4, 2, 1, 0, 0], 64);
     table_case(
         false,
         b"repeated name",

@@ -17,26 +17,17 @@ returns c = search needs
 loop-holds : tie.Need-loop-holds Inv-loop μ-loop
 loop-holds c = search needs
 
-mul-w : tie.Need-mul-w Inv-loop μ-loop
-mul-w c = search needs
+mul-size : tie.Need-mul-size Inv-loop μ-loop
+mul-size c = search needs
 
-shared-slice-read-w : tie.Need-shared-slice-read-w Inv-loop μ-loop
-shared-slice-read-w c = search needs
+shared-slice-read-size : tie.Need-shared-slice-read-size Inv-loop μ-loop
+shared-slice-read-size c = search needs
 
-head-requires : tie.Need-head-requires Inv-loop μ-loop
-head-requires c κs = search needs
+size-requires : tie.Need-size-requires Inv-loop μ-loop
+size-requires c κs = search needs
 
-write-place-requires : tie.Need-write-place-requires Inv-loop μ-loop
-write-place-requires c κs = search needs
-
-word-requires : tie.Need-word-requires Inv-loop μ-loop
-word-requires c κs = search needs
-
-put-name-requires : tie.Need-put-name-requires Inv-loop μ-loop
-put-name-requires c κs = search needs
-
-ask-requires : tie.Need-ask-requires Inv-loop μ-loop
-ask-requires c κs = search needs
+case-requires : tie.Need-case-requires Inv-loop μ-loop
+case-requires c κs = search needs
 
 add-k : tie.Need-add-k Inv-loop μ-loop
 add-k c = search needs
@@ -58,13 +49,10 @@ names-at-spec =
     μ-loop
     returns
     loop-holds
-    mul-w
-    shared-slice-read-w
-    head-requires
-    write-place-requires
-    word-requires
-    put-name-requires
-    ask-requires
+    mul-size
+    shared-slice-read-size
+    size-requires
+    case-requires
     add-k
     loop-less
     loop-again
