@@ -2,8 +2,7 @@
 //
 // A line has `broken`, or `allowed` for a state beside a broken one; the wrapper; the side that is changed; what is put there;
 // after the colon the answer of each side to `enter` with the name 20, and `kept` where the state that came back is the one that
-// was passed, field by field. A line of tables has the answer with the table on side 1, then on side 2. The lines `compared` show
-// that the comparison tells two states apart that differ in one field.
+// was passed, field by field. The lines `compared` show that the comparison tells two states apart that differ in one field.
 //
 // The clauses, in the order of the definitions, and what the lines that break them say. Side 1 of the pipeline has minted one name,
 // side 2 two; the filter's side 1 two.
@@ -19,22 +18,20 @@
 //               with one value at 15 for none, none or two at 6 for one, seven at 18 for eight; the eighth value 64; the empty
 //               tuple, 4000000, where it is used as channel or tag (26, 27), or in the body as box name, tag or channel (28, 29,
 //               25, 6); particle 31 of 32
-//   wfBoxes     box 1 parent 1 and above; box 15 of 16; box name, as in held
+//   wfBoxes     box 1 parent 1; box 15 of 16; box name, as in held
 //   wfContents  no particles, boxes 0
-//   wfMessage   down on 1, 3 and a minted name; arrived on 2 on side 1 of the pipeline; leaving on 0, 2, 3 and a minted name;
+//   wfMessage   down on 1 and a minted name; arrived on 2 on side 1 of the pipeline; leaving on 2 and a minted name;
 //               message 15 of 16
 //   limits      minted 257; the others are those of fitsArrays
 //   wfCore      shelf 1 on side 2 and under the filter; shelf 31 of 32
-//   wfLeft      left 1, 255, 258 and 511 (the filter's: 2 and 256)
+//   wfLeft      left 1 and 258 (the filter's: 2 and 256)
 //   wfTaken     taken on side 1; on side 2 at a place past the shelf's length
 //   isNoSide    filter 2: particles, boxes, messages, shelf, minted, left, taken
-//   ready       tables that load refuses; a state of the other wrapper, and of other tables
+//   ready       by the program `refused_test`
 mod cases; // one thing put anew
 mod compared; // that the comparison sees each field
 mod inputs; // waiting inputs
-mod labels; // what a line says
 mod names; // names and values
-mod refused_tables; // tables and wrappers
 
 use cases::cases;
 use cases::counts;
@@ -53,9 +50,9 @@ fn side_clauses(wrapper: u32, side: u32, s: State) {
     names(false, wrapper, side, s, 15, 19, &[64]);
     values(false, wrapper, side, s, 0, 8);
     values(true, wrapper, side, s, 8, 12);
-    cases(wrapper, side, s, 0, 3);
+    cases(wrapper, side, s, 0, 2);
     inputs::inputs(wrapper, side, s);
-    cases(wrapper, side, s, 3, 41);
+    cases(wrapper, side, s, 2, 32);
 }
 
 // The largest serials and the next, with 256 names minted on each side.
@@ -64,7 +61,7 @@ fn largest_serials(side: u32, s: State) {
     write(b"with 256 names minted on each side\n");
     names(true, 2, side, t, 10, 19, &[65791, 131327]);
     names(false, 2, side, t, 10, 19, &[65792, 131328]);
-    cases(2, side, t, 47, 49);
+    cases(2, side, t, 36, 38);
     write(b"with the names that were minted\n");
 }
 
@@ -76,7 +73,7 @@ fn pipeline(side: u32, s: State) {
     values(false, 2, side, s, 12, 15);
     value(false, 2, side, s, 16);
     largest_serials(side, s);
-    cases(2, side, s, 41, 47);
+    cases(2, side, s, 32, 36);
 }
 
 // Side 1 has no mark, side 2 only those of places that are filled.
@@ -97,9 +94,9 @@ fn filter(s: State) {
     names(false, 1, 1, s, 10, 19, &[65538, 65792, 131072, 131328]);
     values(false, 1, 1, s, 12, 14);
     values(false, 1, 1, s, 15, 17);
-    cases(1, 1, s, 49, 52);
+    cases(1, 1, s, 38, 41);
     taken_case(false, 1, 1, s, 0, 0);
-    cases(1, 2, s, 52, 59);
+    cases(1, 2, s, 41, 47);
     taken_case(false, 1, 2, s, 0, 0);
 }
 
@@ -119,8 +116,6 @@ fn main() {
     pipeline(2, s);
     taken_marks(s);
     filter(f);
-    refused_tables::tables();
-    refused_tables::wrappers(s, f);
     compared::fields(s, 1);
     compared::fields(s, 2);
 }

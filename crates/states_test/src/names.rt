@@ -2,10 +2,10 @@
 ghost use Prim.Native.Nat.{_<_, _≤_};
 use super::cases::case;
 use super::cases::has_shelf;
-use super::labels::label;
 use sides::State;
 use states::ask;
 use states::head;
+use states::label;
 use states::number;
 use states::put_value;
 use states::size;

@@ -1,5 +1,5 @@
 // What a line says is put anew.
-use states::write;
+use super::writing::write;
 
 // Writes the part of a text that stands after so many slashes.
 fn part(text: &[u8], slashes: usize) {

@@ -1,10 +1,10 @@
--- `states_test::refused_tables::chain` meets its contract.
+-- `refused_test::chain` meets its contract.
 use Prim.Native.Nat.{_+_, _-_, _≤_}
 use borrow.Author.Needs.{needs}
 use mathlib.Core.Path.{_≡_}
 use lib.ListN.{length}
-use Rattle.states_test.proofs.refused_tables.chain.Statement.{statement}
-use Rattle.states_test.proofs.refused_tables.chain.Tie as tie
+use Rattle.refused_test.proofs.chain.Statement.{statement}
+use Rattle.refused_test.proofs.chain.Tie as tie
 
 abbrev Inv-loop : tie.InvT-loop
 Inv-loop kind n nodes₀ child₀ k₀ nodes child k = (k ≤ n) × (n ≤ 17) × (child ≡ k + 1) × (length nodes ≡ 90)

@@ -1,4 +1,8 @@
-// Tables that load refuses, lent to a step of a state that any table suits: it holds no input.
+// Tables that load refuses, lent to a step of a state that any table suits: it holds no input. The step answers 10 and keeps the state.
+//
+// A line has `broken`, or `allowed` for tables beside broken ones; what the tables are; after the colon the answer to `enter` with
+// the name 20, with the table on side 1, then on side 2, and `kept` where the state that came back is the one that was passed. The
+// last lines have one answer: wrappers, and a state of the other wrapper or of other tables.
 ghost use Prim.Native.Nat.{_≤_};
 use interpreter::load;
 use interpreter::step;
@@ -131,12 +135,6 @@ fn chains() {
     chain_case(false, b"17 boxes at the start", 2, 16);
 }
 
-pub fn tables() {
-    sizes();
-    nodes();
-    chains();
-}
-
 // An answer on its own line.
 fn line(
     good: bool,
@@ -166,7 +164,7 @@ fn filtered_line(good: bool, name: &[u8], nodes: &[u32], pool: &[u32], s: State)
 }
 
 // Wrappers; a state of the filter and one of the pipeline under the other wrapper; states that suit their tables, under others.
-pub fn wrappers(piped: State, filtered: State) {
+fn wrappers() {
     let nodes: [u32; 5] = [4, 2, 1, 0, 0];
     let pool: [u32; 1] = [20];
     let n = &nodes[..];
@@ -183,6 +181,25 @@ pub fn wrappers(piped: State, filtered: State) {
     line(false, b"filter with words for side 2", 1, n, p, no, p, f);
     filtered_line(false, b"filter, state of the pipeline", n, p, s);
     piped_line(false, b"pipeline, state of the filter", n, p, f);
-    piped_line(false, b"pipeline, state of other tables", n, p, piped);
-    filtered_line(false, b"filter, state of other tables", n, p, filtered);
+    piped_line(
+        false,
+        b"pipeline, state of other tables",
+        n,
+        p,
+        states::piped(),
+    );
+    filtered_line(
+        false,
+        b"filter, state of other tables",
+        n,
+        p,
+        states::filtered(),
+    );
+}
+
+fn main() {
+    sizes();
+    nodes();
+    chains();
+    wrappers();
 }
