@@ -1,0 +1,205 @@
+// Tables that load refuses, lent to a step of a state that any table suits: it holds no input. The step answers 10 and keeps the state.
+//
+// A line has `broken`, or `allowed` for tables beside broken ones; what the tables are; after the colon the answer to `enter` with
+// the name 20, with the table on side 1, then on side 2, and `kept` where the state that came back is the one that was passed. The
+// last lines have one answer: wrappers, and a state of the other wrapper or of other tables.
+ghost use Prim.Native.Nat.{_≤_};
+use interpreter::load;
+use interpreter::step;
+use sides::State;
+use states::answer;
+use states::write;
+
+// How a line begins.
+fn begin(good: bool, name: &[u8]) {
+    if good {
+        write(b"allowed tables ");
+    } else {
+        write(b"broken tables ");
+    }
+    write(name);
+    write(b":");
+}
+
+// The answer of side 1 to `enter` with the name 20.
+fn answered(wrapper: u32, nodes1: &[u32], pool1: &[u32], nodes2: &[u32], pool2: &[u32], s: State) {
+    let given: [u32; 1] = [20];
+    let r = step(wrapper, nodes1, pool1, nodes2, pool2, s, 1, 1, 0, 0, &given);
+    answer(s, r);
+}
+
+// Both sides send `mid` up.
+fn sends() -> State {
+    let nodes: [u32; 5] = [4, 2, 1, 0, 0];
+    let pool: [u32; 1] = [20];
+    let n = &nodes[..];
+    let p = &pool[..];
+    let a = load(2, n, p, n, p);
+    a.state
+}
+
+// A table on side 1 beside a good one on side 2, then on side 2.
+fn table_case(good: bool, name: &[u8], nodes: &[u32], pool: &[u32]) {
+    let sound: [u32; 5] = [4, 2, 1, 0, 0];
+    let words: [u32; 1] = [20];
+    let n = &sound[..];
+    let p = &words[..];
+    let s = sends();
+    begin(good, name);
+    answered(2, nodes, pool, n, p, s);
+    write(b",");
+    answered(2, n, p, nodes, pool, s);
+    write(b"\n");
+}
+
+// Refusal 1, but for the wrapper's.
+fn sizes() {
+    let nodes: [u32; 1285] = [0; 1285];
+    let pool: [u32; 1025] = [20; 1025];
+    let n = &nodes[..];
+    let p = &pool[..];
+    table_case(true, b"one node, 1024 words", &n[..5], &p[..1024]);
+    table_case(false, b"1025 words", &n[..5], p);
+    table_case(false, b"no node", &n[..0], &p[..1]);
+    table_case(false, b"four words of a node", &n[..4], &p[..1]);
+    table_case(false, b"257 nodes", n, &p[..1]);
+}
+
+// A table of one node and one word.
+fn node_case(good: bool, name: &[u8], node: [u32; 5], value: u32) {
+    let words: [u32; 1] = [value];
+    table_case(good, name, &node, &words);
+}
+
+// Refusals 2 to 5.
+fn nodes() {
+    node_case(true, b"another output", [4, 63, 65, 0, 0], 20);
+    node_case(false, b"kind 7", [7, 2, 1, 0, 0], 20);
+    node_case(false, b"unused field", [4, 2, 1, 0, 1], 20);
+    node_case(false, b"child not above", [2, 5, 0, 0, 0], 20);
+    node_case(false, b"child not there", [2, 5, 1, 0, 0], 20);
+    table_case(false, b"no child", &[0, 0, 0, 0, 0, 0, 0, 0, 0, 0], &[20]);
+    node_case(false, b"channel 64", [4, 64, 1, 0, 0], 20);
+    node_case(false, b"tag 66", [4, 2, 66, 0, 0], 20);
+    node_case(false, b"value past the pool", [4, 2, 1, 1, 0], 20);
+    node_case(false, b"value 64", [4, 2, 1, 0, 0], 64);
+    table_case(
+        false,
+        b"repeated name",
+        &[5, 2, 1, 0, 1, 0, 0, 0, 0, 0],
+        &[4000002, 20, 20],
+    );
+}
+
+// The words of at most 18 nodes.
+struct ChainWords {
+    nodes: [u32; 90],
+}
+
+// n nodes of a kind, box or new, each about the next, and nil in the last.
+fn chain(kind: u32, n: usize) -> ChainWords
+    requires { ⌜ n ≤ 17 ⌝ }
+{
+    let mut nodes: [u32; 90] = [0; 90];
+    let mut child: u32 = 1;
+    let mut k: usize = 0;
+    while k < n {
+        let at = 5 * k;
+        nodes[at] = kind;
+        nodes[at + 1] = 5;
+        nodes[at + 2] = child;
+        child += 1;
+        k += 1;
+    }
+    ChainWords { nodes }
+}
+
+// A table of n such nodes and nil.
+fn chain_case(good: bool, name: &[u8], kind: u32, n: usize)
+    requires { ⌜ n ≤ 17 ⌝ }
+{
+    let c = chain(kind, n);
+    let nodes = c.nodes;
+    let t = &nodes[..];
+    let e = 5 * n + 5;
+    if e <= t.len() {
+        table_case(good, name, &t[0..e], &[20]);
+    }
+}
+
+// Refusals 6 and 7.
+fn chains() {
+    chain_case(true, b"eight names in force", 3, 8);
+    chain_case(false, b"nine names in force", 3, 9);
+    chain_case(true, b"16 boxes at the start", 2, 15);
+    chain_case(false, b"17 boxes at the start", 2, 16);
+}
+
+// An answer on its own line.
+fn line(
+    good: bool,
+    name: &[u8],
+    wrapper: u32,
+    nodes1: &[u32],
+    pool1: &[u32],
+    nodes2: &[u32],
+    pool2: &[u32],
+    s: State,
+) {
+    begin(good, name);
+    answered(wrapper, nodes1, pool1, nodes2, pool2, s);
+    write(b"\n");
+}
+
+// The same under the pipeline, with one table for both sides.
+fn piped_line(good: bool, name: &[u8], nodes: &[u32], pool: &[u32], s: State) {
+    line(good, name, 2, nodes, pool, nodes, pool, s);
+}
+
+// The same under the filter, with no words for side 2.
+fn filtered_line(good: bool, name: &[u8], nodes: &[u32], pool: &[u32], s: State) {
+    let n = &nodes[..0];
+    let p = &pool[..0];
+    line(good, name, 1, nodes, pool, n, p, s);
+}
+
+// Wrappers; a state of the filter and one of the pipeline under the other wrapper; states that suit their tables, under others.
+fn wrappers() {
+    let nodes: [u32; 5] = [4, 2, 1, 0, 0];
+    let pool: [u32; 1] = [20];
+    let n = &nodes[..];
+    let p = &pool[..];
+    let no = &n[..0];
+    let a = load(1, n, p, no, no);
+    let f = a.state;
+    let s = sends();
+    piped_line(true, b"pipeline", n, p, s);
+    line(false, b"wrapper 0", 0, n, p, n, p, s);
+    line(false, b"wrapper 3", 3, n, p, n, p, s);
+    filtered_line(true, b"filter", n, p, f);
+    line(false, b"filter with nodes for side 2", 1, n, p, n, no, f);
+    line(false, b"filter with words for side 2", 1, n, p, no, p, f);
+    filtered_line(false, b"filter, state of the pipeline", n, p, s);
+    piped_line(false, b"pipeline, state of the filter", n, p, f);
+    piped_line(
+        false,
+        b"pipeline, state of other tables",
+        n,
+        p,
+        states::piped(),
+    );
+    filtered_line(
+        false,
+        b"filter, state of other tables",
+        n,
+        p,
+        states::filtered(),
+    );
+}
+
+fn main() {
+    sizes();
+    nodes();
+    chains();
+    wrappers();
+}

@@ -1,0 +1,145 @@
+// States with one thing put anew, as a list of rows, each a line.
+ghost use Prim.Native.Nat.{_≤_};
+use sides::State;
+use states::ask;
+use states::head;
+use states::label;
+use states::number;
+use states::put;
+use states::write;
+
+// Where: 0 on every side, 1 where the side may have a shelf, 2 where it may not. Whether it is allowed. What is put, by its number in
+// the crate `states`; how much or which.
+const ROWS: [[usize; 4]; 47] = [
+    [0, 1, 19, 1], // 0: an output in a box: there are boxes 0 and 1
+    [0, 0, 19, 2],
+    [0, 1, 20, 63], // 2: the last of eight values; fields that are not read
+    [0, 0, 20, 64],
+    [0, 1, 33, 0],
+    [0, 1, 34, 0],
+    [0, 1, 21, 0], // 6: parents; no box
+    [0, 0, 21, 1],
+    [0, 1, 22, 9],
+    [0, 1, 23, 1],
+    [0, 0, 23, 0],
+    [0, 1, 24, 31], // 11: the last row of a full list; one row less, and it is not read
+    [0, 0, 24, 32],
+    [0, 1, 25, 15],
+    [0, 0, 25, 16],
+    [0, 1, 26, 15],
+    [0, 0, 26, 16],
+    [1, 1, 27, 31],
+    [1, 0, 27, 32],
+    [0, 1, 28, 0], // 19: each status on channels that it may have, and on others
+    [0, 0, 28, 1],
+    [0, 1, 28, 2],
+    [0, 0, 28, 65536],
+    [0, 1, 29, 1],
+    [0, 1, 29, 65536],
+    [0, 1, 30, 1],
+    [0, 0, 30, 2],
+    [0, 0, 30, 65536],
+    [1, 0, 29, 2], // 28: arrived on mid, and values on the shelf: where what goes up on mid goes to the shelf, and where not
+    [1, 1, 7, 1],
+    [2, 1, 29, 2],
+    [2, 0, 7, 1],
+    [0, 1, 31, 0], // 32: names that have left, under the pipeline
+    [0, 0, 31, 1],
+    [0, 1, 31, 257],
+    [0, 0, 31, 258],
+    [0, 1, 31, 255], // 36: with 256 names minted on each side
+    [0, 1, 31, 511],
+    [0, 1, 31, 1], // 38: under the filter
+    [0, 0, 31, 2],
+    [0, 0, 31, 256],
+    [0, 0, 0, 1], // 41: the filter's side 2
+    [0, 0, 4, 1],
+    [0, 0, 5, 1],
+    [0, 0, 7, 1],
+    [0, 0, 9, 1],
+    [0, 0, 31, 0],
+];
+
+// Whether a side may have a shelf: side 1 under the pipeline.
+pub fn has_shelf(wrapper: u32, side: u32) -> bool {
+    if wrapper == 2 { side == 1 } else { false }
+}
+
+// Whether a row is for a side.
+fn is_for(at: usize, wrapper: u32, side: u32) -> bool {
+    match at {
+        0 => true,
+        1 => has_shelf(wrapper, side),
+        _ => !has_shelf(wrapper, side),
+    }
+}
+
+// A line; what is put has no number after it where it is fields that are not read, 33 and 34.
+pub fn case(good: bool, wrapper: u32, side: u32, s: State, what: usize, n: usize) {
+    head(good, wrapper, side);
+    label(what);
+    if what < 33 {
+        number(n);
+    }
+    ask(wrapper, put(s, side, what, n));
+}
+
+// The most that there may be of what is counted.
+fn limit(what: usize) -> usize
+    ensures { λ r. ⌜ r ≤ 256 ⌝ }
+{
+    match what {
+        0 => 32,
+        2 => 8,
+        7 => 32,
+        9 => 256,
+        _ => 16,
+    }
+}
+
+// Whether a side has what is counted.
+fn is_counted(what: usize, wrapper: u32, side: u32) -> bool {
+    match what {
+        7 => has_shelf(wrapper, side),
+        8 => has_shelf(wrapper, side),
+        _ => true,
+    }
+}
+
+// Each count at its limit, past it, and the largest number; the shelf's where the side may have one.
+pub fn counts(wrapper: u32, side: u32, s: State) {
+    let mut k: usize = 0;
+    while k < 10 {
+        if is_counted(k, wrapper, side) {
+            let n = limit(k);
+            case(true, wrapper, side, s, k, n);
+            case(false, wrapper, side, s, k, n + 1);
+            case(false, wrapper, side, s, k, 18446744073709551615);
+        }
+        k += 1;
+    }
+}
+
+// The lines of a part of the list.
+pub fn cases(wrapper: u32, side: u32, s: State, from: usize, to: usize)
+    requires { ⌜ to ≤ 47 ⌝ }
+{
+    let mut k = from;
+    while k < to {
+        let row = ROWS[k];
+        if is_for(row[0], wrapper, side) {
+            case(row[1] == 1, wrapper, side, s, row[2], row[3]);
+        }
+        k += 1;
+    }
+}
+
+// A place marked as taken, with so many on side 1's shelf.
+pub fn taken_case(good: bool, wrapper: u32, side: u32, s: State, place: usize, n: usize) {
+    head(good, wrapper, side);
+    label(32);
+    number(place);
+    write(b" of");
+    number(n);
+    ask(wrapper, put(put(s, 1, 7, n), side, 32, place));
+}
