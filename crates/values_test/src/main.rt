@@ -205,6 +205,9 @@ fn sizes_at_the_end() {
         ],
         1,
     );
+}
+
+fn size_of_17_words() {
     size_line(
         b"size of 17 words:",
         Leaf::Public,
@@ -362,6 +365,9 @@ fn extensions_long() {
         &[4999999],
         &[20],
     );
+}
+
+fn extensions_by_long_values() {
     extend_line(
         b"a value of 16 words:",
         Env::none(),
@@ -400,6 +406,7 @@ fn main() {
     values_tuples();
     sizes();
     sizes_at_the_end();
+    size_of_17_words();
     names();
     matches_tuples();
     matches_leaves();
@@ -407,4 +414,5 @@ fn main() {
     lookups();
     extensions();
     extensions_long();
+    extensions_by_long_values();
 }
