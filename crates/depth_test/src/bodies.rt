@@ -12,7 +12,8 @@ use schedules::lists::nested;
 use schedules::lists::node;
 use schedules::steps::arrive;
 use schedules::steps::depart;
-use schedules::steps::down;
+use schedules::steps::enter;
+use schedules::steps::land;
 use schedules::steps::leave;
 use schedules::steps::meet;
 use schedules::steps::pass;
@@ -25,8 +26,8 @@ fn parallels(name: &[u8], left: bool) {
     tree(&mut nodes, 6, left);
     node(&mut nodes, 255, 4, 10, 1, 1, 0);
     let mut list = [0u32; 4400];
-    let at = arrive(&mut list, 0, 1, &[4000000], 1, 0);
-    let at = arrive(&mut list, at, 1, &[1], 2, 0);
+    let at = arrive(&mut list, 0, 1, 4000000, 1, 0);
+    let at = arrive(&mut list, at, 1, 1, 2, 0);
     let at = depart(&mut list, at, 1, 2);
     tried(name, &nodes, &list, at);
 }
@@ -40,7 +41,7 @@ fn eight_news() {
     output(&mut nodes, 255, 6);
     let mut list = [0u32; 4400];
     let at = rounds(&mut list, 0, 32);
-    let at = arrive(&mut list, at, 1, &[20], 1, 0);
+    let at = arrive(&mut list, at, 1, 20, 1, 0);
     ends(b"8 new", &nodes, &list, at, 6, 191);
 }
 
@@ -51,27 +52,21 @@ fn all_outputs() {
     outputs(&mut nodes, 2, 127, 2);
     output(&mut nodes, 255, 2);
     let mut list = [0u32; 4400];
-    let at = arrive(&mut list, 0, 1, &[20], 1, 0);
-    let at = arrive(
-        &mut list,
-        at,
-        1,
-        &[4000007, 20, 21, 22, 23, 24, 25, 26],
-        2,
-        0,
-    );
+    let at = arrive(&mut list, 0, 1, 20, 1, 0);
+    let at = enter(&mut list, at, 1, &[4000007, 20, 21, 22, 23, 24, 25, 26]);
+    let at = land(&mut list, at, 1, 2, 0);
     tried(b"128 outputs", &nodes, &list, at);
 }
 
 // The steps of the next.
 fn full(list: &mut [u32; 4400]) -> usize {
-    let at = arrive(list, 0, 1, &[4000006, 20, 21, 22, 23, 24, 25], 1, 0);
-    let at = send(list, at, 1, &[21]);
+    let at = enter(list, 0, 1, &[4000006, 20, 21, 22, 23, 24, 25]);
+    let at = land(list, at, 1, 1, 0);
+    let at = send(list, at, 1, 21);
     let at = up(list, at, 1, 31);
     let at = pass(list, at, 1, 1);
     let at = leave(list, at, 1, 1);
-    let at = down(list, at, 1, 0);
-    meet(list, at, 1, 31, 0)
+    land(list, at, 1, 31, 0)
 }
 
 // !in^parent y. with 31 outputs of (y y) at the end: 32 particles.
@@ -92,7 +87,7 @@ fn last_32(name: &[u8], kind: u32) {
     outputs(&mut nodes, 194, 31, 2);
     output(&mut nodes, 255, 2);
     let mut list = [0u32; 4400];
-    let at = arrive(&mut list, 0, 1, &[20], 1, 0);
+    let at = arrive(&mut list, 0, 1, 20, 1, 0);
     let at = up(&mut list, at, 1, 31);
     tried(name, &nodes, &list, at);
 }
@@ -111,11 +106,11 @@ fn fifteen_boxes() {
     let mut nodes = [0u32; 4400];
     boxes_over_new(&mut nodes);
     let mut list = [0u32; 4400];
-    let at = arrive(&mut list, 0, 1, &[4000000], 1, 0);
-    let at = arrive(&mut list, at, 1, &[20], 2, 0);
+    let at = arrive(&mut list, 0, 1, 4000000, 1, 0);
+    let at = arrive(&mut list, at, 1, 20, 2, 0);
     let at = up(&mut list, at, 1, 2);
     let at = up(&mut list, at, 1, 2);
-    let at = arrive(&mut list, at, 1, &[20], 3, 0);
+    let at = arrive(&mut list, at, 1, 20, 3, 0);
     tried(b"15 boxes", &nodes, &list, at);
 }
 
@@ -127,7 +122,7 @@ fn sixteen_boxes() {
     spine(&mut nodes, 17, 119, false);
     output(&mut nodes, 255, 1);
     let mut list = [0u32; 4400];
-    let at = arrive(&mut list, 0, 1, &[20], 1, 0);
+    let at = arrive(&mut list, 0, 1, 20, 1, 0);
     tried(b"16 boxes in a body", &nodes, &list, at);
 }
 
@@ -145,8 +140,8 @@ fn deepest(name: &[u8], left: bool) {
     let mut nodes = [0u32; 4400];
     deepest_nodes(&mut nodes, left);
     let mut list = [0u32; 4400];
-    let at = arrive(&mut list, 0, 1, &[20], 1, 0);
-    let at = arrive(&mut list, at, 1, &[20], 2, 0);
+    let at = arrive(&mut list, 0, 1, 20, 1, 0);
+    let at = arrive(&mut list, at, 1, 20, 2, 0);
     let at = meet(&mut list, at, 1, 2, 1);
     tried(name, &nodes, &list, at);
 }

@@ -6,7 +6,7 @@ use schedules::steps::depart;
 
 // A message enters, goes down to place k + 1, and meets the input at k.
 fn meeting(list: &mut [u32; 4400], at: usize, k: usize) -> usize {
-    arrive(list, at, 1, &[20], narrow(sum(k, 1)), narrow(k))
+    arrive(list, at, 1, 20, narrow(sum(k, 1)), narrow(k))
 }
 
 // The same for k from a to below b.
@@ -22,7 +22,7 @@ pub fn meetings(list: &mut [u32; 4400], at: usize, a: usize, b: usize) -> usize 
 
 // A message enters, goes down and meets, and another goes up, passes and leaves.
 fn round(list: &mut [u32; 4400], at: usize) -> usize {
-    let end = arrive(list, at, 1, &[20], 1, 0);
+    let end = arrive(list, at, 1, 20, 1, 0);
     depart(list, end, 1, 1)
 }
 

@@ -7,7 +7,7 @@ use schedules::lists::nested;
 use schedules::lists::node;
 use schedules::steps::depart;
 use schedules::steps::descend;
-use schedules::steps::enter;
+use schedules::steps::enter_word;
 use schedules::steps::send;
 use schedules::steps::up;
 
@@ -19,7 +19,7 @@ fn parallels(name: &[u8], left: bool) {
     output(&mut nodes, 255, 1);
     let mut list = [0u32; 4400];
     let at = depart(&mut list, 0, 1, 0);
-    let at = send(&mut list, at, 1, &[65536]);
+    let at = send(&mut list, at, 1, 65536);
     tried(name, &nodes, &list, at);
 }
 
@@ -32,7 +32,7 @@ fn fifteen_boxes(name: &[u8], left: bool) {
     let mut list = [0u32; 4400];
     let at = up(&mut list, 0, 1, 0);
     let at = up(&mut list, at, 1, 0);
-    let at = send(&mut list, at, 1, &[20]);
+    let at = send(&mut list, at, 1, 20);
     let at = descend(&mut list, at, 1, 1, 1);
     tried(name, &nodes, &list, at);
 }
@@ -44,7 +44,7 @@ fn sixteen_boxes() {
     inputs(&mut nodes, 5, 16, 17);
     spine(&mut nodes, 17, 119, false);
     let mut list = [0u32; 4400];
-    let at = enter(&mut list, 0, 1, &[20]);
+    let at = enter_word(&mut list, 0, 1, 20);
     tried(b"16 boxes", &nodes, &list, at);
 }
 

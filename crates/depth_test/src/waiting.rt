@@ -31,8 +31,8 @@ fn plain() {
     let mut nodes = [0u32; 4400];
     chain(&mut nodes, 5);
     let mut list = [0u32; 4400];
-    let at = arrive(&mut list, 0, 1, &[4000000], 1, 0);
-    let at = arrive(&mut list, at, 1, &[1], 2, 0);
+    let at = arrive(&mut list, 0, 1, 4000000, 1, 0);
+    let at = arrive(&mut list, at, 1, 1, 2, 0);
     let at = meet(&mut list, at, 1, 0, 1);
     let at = remaining(&mut list, at);
     let at = depart(&mut list, at, 1, 0);
@@ -44,11 +44,11 @@ fn replicated() {
     let mut nodes = [0u32; 4400];
     chain(&mut nodes, 6);
     let mut list = [0u32; 4400];
-    let at = arrive(&mut list, 0, 1, &[4000000], 1, 0);
-    let at = arrive(&mut list, at, 1, &[20], 2, 0);
+    let at = arrive(&mut list, 0, 1, 4000000, 1, 0);
+    let at = arrive(&mut list, at, 1, 20, 2, 0);
     let at = meet(&mut list, at, 1, 1, 2);
     let at = meetings(&mut list, at, 2, 31);
-    let at = send(&mut list, at, 1, &[20]);
+    let at = send(&mut list, at, 1, 20);
     ends(b"replicated", &nodes, &list, at, 7, 91);
 }
 

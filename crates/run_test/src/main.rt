@@ -1,5 +1,6 @@
 // What `run` does with a list of steps that breaks off, with lent words that are too few, with a load that is refused and with no
 // step. The lent words are 7 before.
+
 use interpreter::run;
 use schedules::shown::number;
 use schedules::shown::outcome;

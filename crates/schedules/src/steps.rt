@@ -40,23 +40,27 @@ pub fn take(list: &mut [u32; 4400], at: usize, side: u32, i: u32) -> usize {
     add(list, at, 8, side, i, 0)
 }
 
-// Two steps: a message enters, and the first of the queue goes down.
-pub fn send(list: &mut [u32; 4400], at: usize, side: u32, words: &[u32]) -> usize {
-    let end = enter(list, at, side, words);
+// A message of one word enters.
+pub fn enter_word(list: &mut [u32; 4400], at: usize, side: u32, w: u32) -> usize {
+    enter(list, at, side, &[w])
+}
+
+// Two steps: a message of one word enters, and the first of the queue goes down.
+pub fn send(list: &mut [u32; 4400], at: usize, side: u32, w: u32) -> usize {
+    let end = enter_word(list, at, side, w);
     down(list, end, side, 0)
 }
 
-// Three steps: a message enters, the first of the queue goes down, and i meets j.
-pub fn arrive(
-    list: &mut [u32; 4400],
-    at: usize,
-    side: u32,
-    words: &[u32],
-    i: u32,
-    j: u32,
-) -> usize {
-    let end = send(list, at, side, words);
+// Two steps: the first of the queue goes down, and i meets j.
+pub fn land(list: &mut [u32; 4400], at: usize, side: u32, i: u32, j: u32) -> usize {
+    let end = down(list, at, side, 0);
     meet(list, end, side, i, j)
+}
+
+// Three steps: a message of one word enters, the first of the queue goes down, and i meets j.
+pub fn arrive(list: &mut [u32; 4400], at: usize, side: u32, w: u32, i: u32, j: u32) -> usize {
+    let end = enter_word(list, at, side, w);
+    land(list, end, side, i, j)
 }
 
 // Three steps: message i goes up, and the first that is there passes and leaves.

@@ -5,12 +5,18 @@ use schedules::lists::repeat;
 use schedules::steps::arrive;
 use schedules::steps::depart;
 use schedules::steps::descend;
-use schedules::steps::enter;
+use schedules::steps::enter_word;
 use schedules::steps::meet;
 use schedules::steps::up;
 use schedules::tried::filtered_list;
 use schedules::tried::filtered_lists;
 use schedules::tried::piped_list;
+
+// 16 words: a tuple of 15 names.
+fn sixteen(list: &mut [u32; 4400]) -> usize {
+    let at = append(list, 0, &[1, 1, 0, 0, 16, 4000015]);
+    repeat(list, at, &[20], 15)
+}
 
 // 17 words that are a value: a pair of tuples of seven.
 fn seventeen(list: &mut [u32; 4400], at: usize) -> usize {
@@ -26,8 +32,7 @@ fn lengths() {
     let nodes = [0u32; 5];
     let pool = [10u32];
     let mut list = [0u32; 4400];
-    let at = append(&mut list, 0, &[1, 1, 0, 0, 16, 4000015]);
-    let at = repeat(&mut list, at, &[20], 15);
+    let at = sixteen(&mut list);
     let at = seventeen(&mut list, at);
     let at = append(&mut list, at, &[1, 1, 0, 0, 0]);
     filtered_list(b"lengths", &nodes, &pool, &list, at);
@@ -47,8 +52,8 @@ fn used_as_box() {
     box_nodes(&mut nodes);
     let pool = [10u32, 11];
     let mut list = [0u32; 4400];
-    let at = arrive(&mut list, 0, 1, &[4000000], 1, 0);
-    let at = arrive(&mut list, at, 1, &[20], 2, 0);
+    let at = arrive(&mut list, 0, 1, 4000000, 1, 0);
+    let at = arrive(&mut list, at, 1, 20, 2, 0);
     filtered_lists(b"box", &nodes, 20, &pool, &list, at);
 }
 
@@ -58,7 +63,7 @@ fn used_as_tag() {
     let nodes = [6u32, 0, 1, 0, 1, 3, 11, 2, 0, 0, 4, 5, 12, 1, 0];
     let pool = [10u32, 11];
     let mut list = [0u32; 4400];
-    let at = arrive(&mut list, 0, 1, &[4000000], 1, 0);
+    let at = arrive(&mut list, 0, 1, 4000000, 1, 0);
     filtered_list(b"tag", &nodes, &pool, &list, at);
 }
 
@@ -68,8 +73,8 @@ fn hidden() {
     let nodes = [6u32, 0, 1, 0, 1, 5, 0, 1, 0, 2, 4, 10, 0, 0, 0];
     let pool = [10u32];
     let mut list = [0u32; 4400];
-    let at = arrive(&mut list, 0, 1, &[4000000], 1, 0);
-    let at = arrive(&mut list, at, 1, &[4000000], 2, 1);
+    let at = arrive(&mut list, 0, 1, 4000000, 1, 0);
+    let at = arrive(&mut list, at, 1, 4000000, 2, 1);
     let at = meet(&mut list, at, 1, 2, 0);
     filtered_list(b"hidden", &nodes, &pool, &list, at);
 }
@@ -110,10 +115,10 @@ fn descending() {
 // The steps of the next.
 fn exchange(list: &mut [u32; 4400]) -> usize {
     let at = depart(list, 0, 1, 0);
-    let at = enter(list, at, 1, &[131072]);
+    let at = enter_word(list, at, 1, 131072);
     let at = depart(list, at, 2, 0);
-    let at = enter(list, at, 1, &[131072]);
-    enter(list, at, 2, &[65536])
+    let at = enter_word(list, at, 1, 131072);
+    enter_word(list, at, 2, 65536)
 }
 
 // Each side mints from 0. What has left by one side enters by the other.

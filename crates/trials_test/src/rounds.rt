@@ -24,7 +24,7 @@ pub fn takes(list: &mut [u32; 4400], at: usize, n: usize) -> usize {
 
 // A message enters, goes down and meets, and two messages go up.
 pub fn two(list: &mut [u32; 4400], at: usize) -> usize {
-    let end = arrive(list, at, 1, &[20], 1, 0);
+    let end = arrive(list, at, 1, 20, 1, 0);
     let end = up(list, end, 1, 1);
     up(list, end, 1, 1)
 }

@@ -1,12 +1,13 @@
 // The trials A to I.
-use crate::stranded::after_up;
-use crate::stranded::at_start;
+use crate::stranded::asked;
 use schedules::lists::node;
 use schedules::lists::repeat;
 use schedules::steps::arrive;
 use schedules::steps::depart;
 use schedules::steps::down;
 use schedules::steps::enter;
+use schedules::steps::enter_word;
+use schedules::steps::land;
 use schedules::steps::leave;
 use schedules::steps::meet;
 use schedules::steps::pass;
@@ -22,7 +23,7 @@ fn trial_a() {
     let nodes = [6u32, 0, 1, 0, 1, 4, 1, 1, 1, 0];
     let pool = [10u32, 4000002, 10, 10];
     let mut list = [0u32; 4400];
-    let at = arrive(&mut list, 0, 1, &[20], 1, 0);
+    let at = arrive(&mut list, 0, 1, 20, 1, 0);
     let at = depart(&mut list, at, 1, 1);
     let at = leave(&mut list, at, 1, 0);
     filtered_list(b"A", &nodes, &pool, &list, at);
@@ -38,9 +39,7 @@ fn trial_b() {
     let at = depart(&mut list, 0, 2, 0);
     let at = down(&mut list, at, 2, 0);
     piped_list(b"B", &nil, &pool, &nodes, &pool, &list, at);
-    at_start(&nil, &nodes, &pool);
-    after_up(&nil, &nodes, &pool, 2);
-    after_up(&nil, &nodes, &pool, 1);
+    asked(&nil, &nodes, &pool);
 }
 
 // The steps of trial C.
@@ -50,8 +49,7 @@ fn steps_c(list: &mut [u32; 4400]) -> usize {
     let at = take(list, at, 2, 0);
     let at = take(list, at, 2, 0);
     let at = take(list, at, 1, 0);
-    let at = down(list, at, 2, 0);
-    let at = meet(list, at, 2, 1, 0);
+    let at = land(list, at, 2, 1, 0);
     depart(list, at, 2, 0)
 }
 
@@ -72,8 +70,7 @@ fn steps_d(list: &mut [u32; 4400]) -> usize {
     let at = enter(list, 0, 1, &[4000002, 20, 21]);
     let at = enter(list, at, 1, &[4000003, 20, 21, 22]);
     let at = down(list, at, 1, 0);
-    let at = down(list, at, 1, 0);
-    let at = meet(list, at, 1, 1, 0);
+    let at = land(list, at, 1, 1, 0);
     let at = meet(list, at, 1, 1, 0);
     depart(list, at, 1, 2)
 }
@@ -90,7 +87,7 @@ fn trial_d() {
 
 // The last steps of trial E: the name 1.
 fn steps_e(list: &mut [u32; 4400], at: usize) -> usize {
-    let at = enter(list, at, 1, &[1]);
+    let at = enter_word(list, at, 1, 1);
     let at = down(list, at, 1, 1);
     let at = meet(list, at, 1, 2, 0);
     let at = up(list, at, 1, 2);
@@ -104,8 +101,8 @@ fn trial_e() {
     let nodes = [6u32, 0, 1, 0, 1, 4, 10, 1, 1, 0];
     let pool = [10u32, 4000000];
     let mut list = [0u32; 4400];
-    let at = arrive(&mut list, 0, 1, &[4000000], 1, 0);
-    let at = arrive(&mut list, at, 1, &[20], 2, 0);
+    let at = arrive(&mut list, 0, 1, 4000000, 1, 0);
+    let at = arrive(&mut list, at, 1, 20, 2, 0);
     let at = up(&mut list, at, 1, 2);
     let at = pass(&mut list, at, 1, 0);
     let at = steps_e(&mut list, at);
@@ -114,9 +111,11 @@ fn trial_e() {
 
 // The steps of trial F.
 fn steps_f(list: &mut [u32; 4400]) -> usize {
-    let at = arrive(list, 0, 1, &[4000006, 20, 21, 22, 23, 24, 25], 1, 0);
+    let at = enter(list, 0, 1, &[4000006, 20, 21, 22, 23, 24, 25]);
+    let at = land(list, at, 1, 1, 0);
     let at = depart(list, at, 1, 1);
-    arrive(list, at, 1, &[4000007, 20, 21, 22, 23, 24, 25, 26], 1, 0)
+    let at = enter(list, at, 1, &[4000007, 20, 21, 22, 23, 24, 25, 26]);
+    land(list, at, 1, 1, 0)
 }
 
 // The copier with 7 words, then with 8.
@@ -137,13 +136,13 @@ fn trial_g() {
     let mut list = [0u32; 4400];
     let at = repeat(&mut list, 0, &[1, 1, 0, 0, 1, 20], 17);
     let at = down(&mut list, at, 1, 0);
-    let at = enter(&mut list, at, 1, &[20]);
+    let at = enter_word(&mut list, at, 1, 20);
     filtered_list(b"G", &nodes, &pool, &list, at);
 }
 
-// The message of one word enters on side 1.
+// A message of one word enters on side 1.
 fn word(list: &mut [u32; 4400], at: usize, w: u32) -> usize {
-    enter(list, at, 1, &[w])
+    enter_word(list, at, 1, w)
 }
 
 // The first steps of trial H: the name on its way out.

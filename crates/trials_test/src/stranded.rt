@@ -1,4 +1,4 @@
-// The question `stranded`, asked of the state of a pipeline.
+// Trial B, for the question `stranded`: side 2 sends `mid` up, and it can go nowhere.
 use interpreter::Found;
 use interpreter::load;
 use interpreter::step;
@@ -18,18 +18,25 @@ fn lost(f: Found) {
 }
 
 // What is stranded on side 2 at the start.
-pub fn at_start(nodes1: &[u32], nodes2: &[u32], pool: &[u32]) {
+fn at_start(nodes1: &[u32], nodes2: &[u32], pool: &[u32]) {
     let a = load(2, nodes1, pool, nodes2, pool);
     let s = a.state;
     lost(stranded(2, nodes1, pool, nodes2, pool, s, 2));
 }
 
 // What is stranded on a side once side 2 has sent its message up.
-pub fn after_up(nodes1: &[u32], nodes2: &[u32], pool: &[u32], side: u32) {
+fn after_up(nodes1: &[u32], nodes2: &[u32], pool: &[u32], side: u32) {
     let none = &nodes1[..0];
     let a = load(2, nodes1, pool, nodes2, pool);
     let s = a.state;
     let r = step(2, nodes1, pool, nodes2, pool, s, 3, 2, 0, 0, none);
     let t = r.state;
     lost(stranded(2, nodes1, pool, nodes2, pool, t, side));
+}
+
+// Asks before and after: side 2, and then both.
+pub fn asked(nodes1: &[u32], nodes2: &[u32], pool: &[u32]) {
+    at_start(nodes1, nodes2, pool);
+    after_up(nodes1, nodes2, pool, 2);
+    after_up(nodes1, nodes2, pool, 1);
 }
