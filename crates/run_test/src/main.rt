@@ -1,5 +1,6 @@
 // What `run` does with a list of steps that breaks off, with lent words that are too few, with a load that is refused and with no
-// step. The lent words are 7 before.
+// step. The lent words are 7 before. Last, what trial B strands.
+mod stranded; // trial B
 
 use interpreter::run;
 use schedules::shown::number;
@@ -106,7 +107,7 @@ fn refused(pool: &[u32], short: &[u32], steps: &[u32]) {
     lent_39(3, pool, steps, 12);
 }
 
-fn main() {
+fn parts() {
     let pool = [10u32, 4000002, 10, 10];
     let short = [10u32, 4000002, 10];
     // two messages enter
@@ -117,4 +118,9 @@ fn main() {
     // a count that no list has words for
     let most = [1u32, 1, 0, 0, 4294967295];
     lent_60(2, &pool, &most, 5);
+}
+
+fn main() {
+    parts();
+    stranded::trial();
 }

@@ -1,9 +1,8 @@
-// The trials of the scope document by `run`.
+// The trials of the scope document by `run`. What trial B strands is asked in run_test.
 mod more; // lengths, uses of bound names, descending, minted names
 mod others; // the trials that are not starred
 mod rounds; // the same steps many times
 mod starred; // the trials A to I
-mod stranded; // what trial B strands
 
 fn main() {
     starred::trials();

@@ -1,5 +1,4 @@
 // The trials A to I.
-use crate::stranded::asked;
 use schedules::lists::node;
 use schedules::lists::repeat;
 use schedules::steps::arrive;
@@ -39,7 +38,6 @@ fn trial_b() {
     let at = depart(&mut list, 0, 2, 0);
     let at = down(&mut list, at, 2, 0);
     piped_list(b"B", &nil, &pool, &nodes, &pool, &list, at);
-    asked(&nil, &nodes, &pool);
 }
 
 // The steps of trial C.

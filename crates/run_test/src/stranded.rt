@@ -35,8 +35,16 @@ fn after_up(nodes1: &[u32], nodes2: &[u32], pool: &[u32], side: u32) {
 }
 
 // Asks before and after: side 2, and then both.
-pub fn asked(nodes1: &[u32], nodes2: &[u32], pool: &[u32]) {
+fn asked(nodes1: &[u32], nodes2: &[u32], pool: &[u32]) {
     at_start(nodes1, nodes2, pool);
     after_up(nodes1, nodes2, pool, 2);
     after_up(nodes1, nodes2, pool, 1);
+}
+
+pub fn trial() {
+    // side 1: 0; side 2: mid^parent 20
+    let nil = [0u32; 5];
+    let nodes = [4u32, 2, 1, 0, 0];
+    let pool = [20u32];
+    asked(&nil, &nodes, &pool);
 }
