@@ -1,16 +1,15 @@
 // Tables that unfold to their last node at the start.
-use crate::lists::boxes;
-use crate::lists::inputs;
-use crate::lists::node;
-use crate::lists::output;
-use crate::lists::spine;
-use crate::schedules::descend;
-use crate::schedules::down;
-use crate::schedules::enter;
-use crate::schedules::leave;
-use crate::schedules::pass;
-use crate::schedules::up;
+use crate::tables::output;
+use crate::tables::spine;
 use crate::tried::tried;
+use schedules::lists::inputs;
+use schedules::lists::nested;
+use schedules::lists::node;
+use schedules::steps::depart;
+use schedules::steps::descend;
+use schedules::steps::enter_word;
+use schedules::steps::send;
+use schedules::steps::up;
 
 // new n. (0 | (0 | .. out^parent n)), or the same to the left.
 fn parallels(name: &[u8], left: bool) {
@@ -19,37 +18,33 @@ fn parallels(name: &[u8], left: bool) {
     spine(&mut nodes, 1, 127, left);
     output(&mut nodes, 255, 1);
     let mut list = [0u32; 4400];
-    let at = up(&mut list, 0, 0);
-    let at = pass(&mut list, at, 0);
-    let at = leave(&mut list, at, 0);
-    let at = enter(&mut list, at, &[65536]);
-    let at = down(&mut list, at, 0);
+    let at = depart(&mut list, 0, 1, 0);
+    let at = send(&mut list, at, 1, 65536);
     tried(name, &nodes, &list, at);
 }
 
 // 15 boxes one in another: 10[10[ .. (0 | (0 | .. out^parent 20))]]
 fn fifteen_boxes(name: &[u8], left: bool) {
     let mut nodes = [0u32; 4400];
-    boxes(&mut nodes, 0, 15);
+    nested(&mut nodes, 2, 0, 15);
     spine(&mut nodes, 15, 120, left);
     output(&mut nodes, 255, 5);
     let mut list = [0u32; 4400];
-    let at = up(&mut list, 0, 0);
-    let at = up(&mut list, at, 0);
-    let at = enter(&mut list, at, &[20]);
-    let at = down(&mut list, at, 0);
-    let at = descend(&mut list, at, 1, 1);
+    let at = up(&mut list, 0, 1, 0);
+    let at = up(&mut list, at, 1, 0);
+    let at = send(&mut list, at, 1, 20);
+    let at = descend(&mut list, at, 1, 1, 1);
     tried(name, &nodes, &list, at);
 }
 
 // 16 boxes one in another, and an input over the rest.
 fn sixteen_boxes() {
     let mut nodes = [0u32; 4400];
-    boxes(&mut nodes, 0, 16);
-    inputs(&mut nodes, 16, 17, 5);
+    nested(&mut nodes, 2, 0, 16);
+    inputs(&mut nodes, 5, 16, 17);
     spine(&mut nodes, 17, 119, false);
     let mut list = [0u32; 4400];
-    let at = enter(&mut list, 0, &[20]);
+    let at = enter_word(&mut list, 0, 1, 20);
     tried(b"16 boxes", &nodes, &list, at);
 }
 

@@ -1,17 +1,11 @@
-// The trials of the scope document by `run`, and what `run` does with lists that break off and with lent words that are too
-// few. Steps are words: kind, side, i, j, how many value words, value words.
-mod lists; // lists of words
+// The trials of the scope document by `run`. What trial B strands is asked in run_test.
 mod more; // lengths, uses of bound names, descending, minted names
 mod others; // the trials that are not starred
-mod parts; // what `run` does with what it is lent
-mod schedules; // steps
-mod shown; // lines
+mod rounds; // the same steps many times
 mod starred; // the trials A to I
-mod tried; // a run and its lines
 
 fn main() {
     starred::trials();
     more::trials();
     others::trials();
-    parts::trials();
 }

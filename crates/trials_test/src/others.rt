@@ -1,62 +1,71 @@
 // The trials that are not starred: the shelf's 33rd message, 256 nodes and 8 names.
-use crate::lists::append;
-use crate::lists::inputs;
-use crate::lists::news;
-use crate::schedules::down;
-use crate::schedules::enter;
-use crate::schedules::meet;
-use crate::schedules::take;
-use crate::schedules::takes;
-use crate::schedules::threes;
-use crate::schedules::up;
-use crate::tried::loaded;
-use crate::tried::loaded_list;
-use crate::tried::piped_lists;
+use crate::rounds::takes;
+use crate::rounds::threes;
+use crate::rounds::two;
+use schedules::lists::inputs;
+use schedules::lists::nested;
+use schedules::lists::node;
+use schedules::steps::take;
+use schedules::steps::up;
+use schedules::tried::filtered_lists;
+use schedules::tried::loaded;
+use schedules::tried::piped_lists;
+
+// !in^parent y. (mid^parent y | (mid^parent y | mid^parent y))
+fn three_mids(nodes: &mut [u32; 4400]) {
+    node(nodes, 0, 6, 0, 1, 0, 1);
+    node(nodes, 1, 1, 2, 3, 0, 0);
+    node(nodes, 2, 4, 2, 1, 0, 0);
+    node(nodes, 3, 1, 4, 5, 0, 0);
+    node(nodes, 4, 4, 2, 1, 0, 0);
+    node(nodes, 5, 4, 2, 1, 0, 0);
+}
+
+// 32 messages reach the shelf and are taken; then one more goes up.
+fn shelved(list: &mut [u32; 4400]) -> usize {
+    let at = threes(list, 0, 10);
+    let at = two(list, at);
+    let at = takes(list, at, 32);
+    let at = up(list, at, 1, 1);
+    take(list, at, 2, 0)
+}
 
 // The 33rd `mid` finds no room though all are taken; and none is taken twice.
 fn shelf() {
-    // side 1: !in^parent y. (mid^parent y | (mid^parent y | mid^parent y)); side 2: 0
-    let mut nodes = [0u32; 1300];
-    append(&mut nodes, 0, &[6, 0, 1, 0, 1]);
-    append(&mut nodes, 5, &[1, 2, 3, 0, 0]);
-    append(&mut nodes, 10, &[4, 2, 1, 0, 0]);
-    append(&mut nodes, 15, &[1, 4, 5, 0, 0]);
-    append(&mut nodes, 20, &[4, 2, 1, 0, 0]);
-    append(&mut nodes, 25, &[4, 2, 1, 0, 0]);
+    // side 2: 0
+    let mut nodes = [0u32; 4400];
+    three_mids(&mut nodes);
     let pool = [10u32];
     let nil = [0u32; 5];
-    let mut list = [0u32; 1300];
-    let at = threes(&mut list, 0, 10);
-    let at = enter(&mut list, at, 1, &[20]);
-    let at = down(&mut list, at, 1, 0);
-    let at = meet(&mut list, at, 1, 1, 0);
-    let at = up(&mut list, at, 1, 1);
-    let at = up(&mut list, at, 1, 1);
-    let at = takes(&mut list, at, 32);
-    let at = up(&mut list, at, 1, 1);
-    let at = take(&mut list, at, 2, 0);
+    let mut list = [0u32; 4400];
+    let at = shelved(&mut list);
     piped_lists(b"mid", &nodes, 30, &pool, &nil, &pool, &list, at);
+}
+
+// A list of n words as nodes, with no step.
+fn loaded_list(name: &[u8], nodes: &[u32; 4400], n: usize, pool: &[u32]) {
+    filtered_lists(name, nodes, n, pool, nodes, 0);
 }
 
 // 256 nodes load, 257 do not.
 fn nodes() {
     // in^parent y. in^parent y. .. 0, with a wildcard for y
-    let mut list = [0u32; 1300];
+    let mut list = [0u32; 4400];
     let pool = [4999999u32];
-    inputs(&mut list, 255);
+    inputs(&mut list, 5, 0, 255);
     loaded_list(b"256 nodes", &list, 1280, &pool);
-    inputs(&mut list, 256);
+    inputs(&mut list, 5, 0, 256);
     loaded_list(b"257 nodes", &list, 1285, &pool);
 }
 
 // 8 bound names load, 9 do not: those of `new`, all of one number.
 fn new_names() {
     // new n. new n. .. 0
-    let mut list = [0u32; 1300];
+    let mut list = [0u32; 4400];
     let pool = [10u32];
-    news(&mut list, 8);
+    nested(&mut list, 3, 0, 8);
     loaded_list(b"8 new", &list, 45, &pool);
-    news(&mut list, 9);
+    nested(&mut list, 3, 0, 9);
     loaded_list(b"9 new", &list, 50, &pool);
 }
 
