@@ -24,19 +24,18 @@ use Rattle.tables.specs.Checks.{Passes}
 use Rattle.sides.specs.declared.Side.{Side}
 use Rattle.sides.specs.declared.State.{State}
 use Rattle.sides.specs.Views.{viewSide, viewCore, viewShelf, viewState, stateOf, fitsShelf, fitsSide, fitsArrays}
-use Rattle.sides.specs.Puts.{sideOf, putSide, putLeft}
+use Rattle.sides.specs.Puts.{putSide}
 use Rattle.sides.proofs.Sides.{fits-one, fits-two, fits-put-side, side-shelf, state-some, state-none}
 use Rattle.steps.specs.declared.Said.{Said}
 use Rattle.steps.specs.declared.Said.the-variants as said
 use Rattle.steps.specs.declared.SideStep.{SideStep}
 use Rattle.steps.specs.StepIs.{labelOf, Stays, Becomes, Outcome, StepIs}
 use Rattle.steps.proofs.Settling.{no-left, no-right}
-use Rattle.steps.proofs.Outcomes.{said-refused, said-label}
 use Rattle.interpreter.specs.declared.Outcome.the-variants as outcome
 use Rattle.interpreter.specs.declared.Stepped.{Stepped}
 use Rattle.interpreter.specs.Loading.{outcomeOf}
 use Rattle.dispatch.specs.Stepping.{OwnReady}
-use Rattle.interpreter.specs.Answers.{Padded, Answered, saidOf, givenOf, isRefusal, sideAt, withSide, ResultIs, PutBack, RefusedTen, StepAnswered}
+use Rattle.interpreter.specs.Answers.{Padded, Answered, saidOf, givenOf, givenFor, isRefusal, ResultIs, RefusedTen, StepAnswered}
 use Rattle.interpreter.proofs.LoadLaws.{Taken1, taken}
 use Rattle.dispatch.proofs.StepLaws.{and-on}
 
@@ -63,84 +62,66 @@ padded-is v r k e h z w l =
 same-given : {a b : MSaid} {m n : ℕ} {i j : ℕ} {l r : List ℕ} → a ≡ b → m ≡ n → i ≡ j → l ≡ r → _≡_ {A = Given} (record { said = a; side = m; len = i; words = l }) (record { said = b; side = n; len = j; words = r })
 same-given p q r s = rw (p, q, r, s)
 
-pub given-is : (a : Answer) (y : Said) (n : ℕ) (l : List ℕ) (t : State) (r : Stepped) → Answered y n l t r → saidOf y ≡ saidBy a → n ≡ sideBy a → l ≡ valueBy a → givenOf r ≡ given a
-given-is a y n l t r h p q v =
-    same-given (ap saidOf (h .says) ∙ p) (h .side ∙ q) (h .value .len ∙ ap length v) (h .value .words ∙ ap (λ (x : List ℕ). x ++ replicate (16 - length x) 0) v)
+pub given-is : (y : Said) (n : ℕ) (l : List ℕ) (t : State) (r : Stepped) → Answered y n l t r → givenOf r ≡ givenFor y n l
+given-is y n l t r h = same-given (ap saidOf (h .says)) (h .side) (h .value .len) (h .value .words)
 
 pub refused-ten : (n : ℕ) (s : State) (l : List ℕ) (r : Stepped) → l ≡ [] → Answered (said.Refused 10) n l s r → RefusedTen n s r
-refused-ten n s l r e h = record { answer = given-is (refusal 10 n) (said.Refused 10) n l s r h refl refl e; kept = h .state }
+refused-ten n s l r e h = record { answer = given-is (said.Refused 10) n l s r h ∙ ap (givenFor (said.Refused 10) n) e; kept = h .state }
 
--- A SIDE PUT BACK
-view-put : (s : State) (k : ℕ) (o : Side) → viewState (putSide s k o) ≡ withSide (viewState s) k (viewSide o)
-view-put s k o = by (eqb k 1)
-  where
-    by : (b : Bool) → viewState (cond b (record { one = o; two = s .two }) (record { one = s .one; two = o })) ≡ cond b (record { one = viewSide o; two = viewSide (s .two) }) (record { one = viewSide (s .one); two = viewSide o })
-    by true = refl
-    by false = refl
-
-put-same : (s : MState) (k : ℕ) → withSide s k (sideAt s k) ≡ s
-put-same s k = by (eqb k 1)
-  where
-    by : (b : Bool) → cond b (record { one = cond b (s .one) (s .two); two = s .two }) (record { one = s .one; two = cond b (s .one) (s .two) }) ≡ s
-    by true = refl
-    by false = refl
-
-left-of : (s : State) (k : ℕ) → sideOf s k .left ≡ sideAt (viewState s) k .left
-left-of s k = by (eqb k 1)
-  where
-    by : (b : Bool) → cond b (s .one) (s .two) .left ≡ cond b (viewSide (s .one)) (viewSide (s .two)) .left
-    by true = refl
-    by false = refl
-
+-- WHAT A SIDE'S STEP COMES TO
 said-of : (y : Said) (l : Label) → labelOf y ≡ done l → saidOf y ≡ label l
 said-of said.In l e = let z : enters ≡ l = cc in ap label z
 said-of said.Out l e = let z : leaves ≡ l = cc in ap label z
 said-of said.Silent l e = let z : silent ≡ l = cc in ap label z
 said-of (said.Refused n) l e = let z : _≡_ {A = ℕ} 0 1 = cc in absurd (omega arith)
 
--- a value is short, whatever the step does
-pub step-short : (m : Res Moved) (o : Side) (r : SideStep) → StepIs m o r → r .value .len ≤ 16
-step-short (refuse n) o r h = h .is .short-value
-step-short (done v) o r h = h .is .short-value
+given-by : (k : ℕ) (y : Said) (l : List ℕ) (a : Answer) → saidOf y ≡ saidBy a → k ≡ sideBy a → l ≡ valueBy a → givenFor y k l ≡ given a
+given-by k y l a p q v = same-given p q (ap length v) (ap (λ (x : List ℕ). x ++ replicate (16 - length x) 0) v)
 
-module _ (k : ℕ) (m : Res Moved) (s : State) (d : SideStep) (r : Stepped) (is : StepIs m (sideOf s k) d) (f : fitsArrays s ≡ true) where
-  pub put-refused : (n : ℕ) → d .said ≡ said.Refused n → Answered (d .said) k (viewValue (d .value)) s r → PutBack k m s r
-  put-refused n e h =
-      let w = said-refused m (sideOf s k) d is n e in
-      subst (λ (x : Res Moved). PutBack k x s r) (sym (w .0))
-      (record {
-        answer = given-is (refusal n k) (d .said) k (viewValue (d .value)) s r h (ap saidOf e) refl (w .1 .value);
-        after = ap viewState (h .state) ∙ sym (put-same (viewState s) k);
-        arrays = ap fitsArrays (h .state) ∙ f;
-        kept = λ z. h .state;
-      })
+module _ (o : Side) (d : SideStep) where
+  -- a value is short, whatever the step does
+  pub step-short : (m : Res Moved) → StepIs m o d → d .value .len ≤ 16
+  step-short (refuse n) h = h .is .short-value
+  step-short (done v) h = h .is .short-value
 
-  put-done : (l : Label) (o : Side) → labelOf (d .said) ≡ done l → viewCore o ≡ viewCore (d .side) → o .left ≡ marks l (viewValue (d .value)) (d .side .left) → (fitsSide (d .side) ≡ true → fitsSide o ≡ true) →
-      Answered (d .said) k (viewValue (d .value)) (putSide s k o) r → PutBack k m s r
-  put-done l o e vc vl vf h =
-      let w = said-label m (sideOf s k) d is l e in
-      let v = w .0 in
-      let z = w .3 in
-      let left : o .left ≡ marks (v .label) (v .val) (sideAt (viewState s) k .left) = vl ∙ ap (λ (x : Label). marks x (viewValue (d .value)) (d .side .left)) (sym (w .2)) ∙ ap (λ (x : List ℕ). marks (v .label) x (d .side .left)) (z .value) ∙ ap (λ (x : List Bool). marks (v .label) (v .val) x) (z .left ∙ left-of s k) in
-      subst (λ (x : Res Moved). PutBack k x s r) (sym (w .1))
-      (record {
-        answer = given-is (labelled (v .label) k (v .val)) (d .said) k (viewValue (d .value)) (putSide s k o) r h (said-of (d .said) l e ∙ ap label (sym (w .2))) refl (z .value);
-        after = ap viewState (h .state) ∙ view-put s k o ∙ ap (λ (x : MSide). withSide (viewState s) k x) (parts (vc ∙ z .core) left);
-        arrays = ap fitsArrays (h .state) ∙ fits-put-side s k o f (vf (z .arrays));
-        kept = λ x. absurd (false≢true x);
-      })
+  pub step-given : (k : ℕ) (m : Res Moved) → StepIs m o d → givenFor (d .said) k (viewValue (d .value)) ≡ given (answerOf k m)
+  step-given k (refuse n) h = given-by k (d .said) _ (refusal n k) (ap saidOf (h .is .says)) refl (h .is .value)
+  step-given k (done v) h = given-by k (d .said) _ (labelled (v .label) k (v .val)) (said-of (d .said) (v .label) (h .is .says)) refl (h .is .value)
+
+  pub step-after : (m : Res Moved) → StepIs m o d → viewSide (d .side) ≡ sideAfter (viewSide o) m
+  step-after (refuse n) h = ap viewSide (h .is .kept)
+  step-after (done v) h = parts (h .is .core) (h .is .left)
     where
       parts : {a b : Core} {x y : List Bool} → a ≡ b → x ≡ y → _≡_ {A = MSide} (record { core = a; left = x }) (record { core = b; left = y })
       parts p q = rw (p, q)
 
-  -- no name leaves
-  pub put-plain : (l : Label) → labelOf (d .said) ≡ done l → marks l (viewValue (d .value)) (d .side .left) ≡ d .side .left → (t : State) → t ≡ putSide s k (d .side) → Answered (d .said) k (viewValue (d .value)) t r → PutBack k m s r
-  put-plain l e q t z h = put-done l (d .side) e refl (sym q) (λ x. x) (subst (λ (y : State). Answered (d .said) k (viewValue (d .value)) y r) z h)
+  pub step-fits : fitsSide o ≡ true → (m : Res Moved) → StepIs m o d → fitsSide (d .side) ≡ true
+  step-fits f (refuse n) h = ap fitsSide (h .is .kept) ∙ f
+  step-fits f (done v) h = h .is .arrays
 
-  -- names leave by the side's outlet
-  pub put-out : d .said ≡ said.Out → (x : List Bool) → x ≡ markAll (d .side .left) (viewValue (d .value)) → (o : Side) → o ≡ putLeft (d .side) x → (t : State) → t ≡ putSide s k o → Answered (d .said) k (viewValue (d .value)) t r → PutBack k m s r
-  put-out e x q o p t z h =
-      put-done leaves o (ap labelOf e) (ap viewCore p) (ap (λ (y : Side). y .left) p ∙ q) (λ y. ap fitsSide p ∙ y) (subst (λ (y : State). Answered (d .said) k (viewValue (d .value)) y r) z h)
+  pub step-kept : (k : ℕ) (m : Res Moved) → StepIs m o d → isRefusal (answerOf k m) ≡ true → d .side ≡ o
+  step-kept k (refuse n) h e = h .is .kept
+  step-kept k (done v) h e = absurd (false≢true e)
+
+-- A STEP OF THE MODEL, BY THE SIDE THAT IS ASKED
+abbrev pub firstMove : Composition → MState → Step → Res Moved
+firstMove b s x = settled (local (setting1 b) (known s) (s .one .core) x)
+
+abbrev pub secondMove : Composition → MState → Step → Res Moved
+secondMove b s x = settled (local2 (setting2 b) (known s) (s .one .core .shelf) (s .two .core) x)
+
+module _ (b : Composition) (s : MState) (x : Step) (e : ready b s ≡ true) where
+  pub first-asked : x .side ≡ 1 → step b s x ≡ record { answer = answerOf 1 (firstMove b s x); after = record { one = sideAfter (s .one) (firstMove b s x); two = s .two } }
+  unfolding step
+  first-asked p = rw (e, eq-eqb (x .side) 1 p, step)
+
+  pub second-asked : (x .side ≡ 1 → ⊥) → eqb (x .side) 2 && isPipeline b ≡ true → step b s x ≡ record { answer = answerOf 2 (secondMove b s x); after = record { one = s .one; two = sideAfter (s .two) (secondMove b s x) } }
+  unfolding step
+  second-asked p q = rw (e, ne-eqb (x .side) 1 p, q, step)
+
+  pub none-asked : (x .side ≡ 1 → ⊥) → eqb (x .side) 2 && isPipeline b ≡ false → step b s x ≡ record { answer = refusal 10 (x .side); after = s }
+  unfolding step
+  none-asked p q = rw (e, ne-eqb (x .side) 1 p, q, step)
 
 -- A STEP
 pub ok-outcome : (l : Loaded) → isOk l ≡ true → outcomeOf l ≡ outcome.Ok
@@ -165,16 +146,22 @@ module _ (b : Composition) (s : State) (f : fitsArrays s ≡ true) (e : ready b 
   unfolding ready wfState wfSide
   own-one = record { side = inl refl; passes = loads .one .passes; arrays = fits-one s f; counts = counts (viewState s); formed = fst _ _ (fst _ _ (snd _ _ e)) }
 
-  pub own-second : b .wrapper ≡ 2 → OwnReady (setting2 b) (s .two)
+  pub own-second : (n : ℕ) → eqb n 2 && isPipeline b ≡ true → OwnReady (setting2 b) (s .two)
   unfolding ready wfState wfSide
-  own-second w = record {
-    side = inr refl;
-    passes = loads .pipeline w .0 .passes;
-    arrays = fits-two s f;
-    counts = counts (viewState s);
-    formed = fst _ _ (second (isPipeline b) _ _ (eq-eqb (b .wrapper) 2 w) (snd _ _ (snd _ _ (snd _ _ e))));
-  }
+  own-second n q =
+      let w : isPipeline b ≡ true = right (eqb n 2) (isPipeline b) q in
+      record {
+        side = inr refl;
+        passes = loads .pipeline (eqb-true (b .wrapper) 2 w) .0 .passes;
+        arrays = fits-two s f;
+        counts = counts (viewState s);
+        formed = fst _ _ (second (isPipeline b) _ _ w (snd _ _ (snd _ _ (snd _ _ e))));
+      }
     where
+      right : (x y : Bool) → x && y ≡ true → y ≡ true
+      right true y h = h
+      right false y h = absurd (false≢true h)
+
       second : (t x y : Bool) → t ≡ true → cond t x y ≡ true → x ≡ true
       second true x y p h = h
       second false x y p h = absurd (false≢true p)
@@ -182,24 +169,56 @@ module _ (b : Composition) (s : State) (f : fitsArrays s ≡ true) (e : ready b 
   pub shelf-one : fitsShelf (s .one .shelf) ≡ true
   shelf-one = side-shelf (s .one) (fits-one s f)
 
-  pub step-one : (x : Step) (r : Stepped) → x .side ≡ 1 → PutBack 1 (settled (local (setting1 b) (known (viewState s)) (viewCore (s .one)) x)) s r → ResultIs (step b (viewState s) x) s r
-  unfolding step
-  step-one x r p h = rw (e, eq-eqb (x .side) 1 p, step) h
+  module _ (x : Step) (d : SideStep) where
+    -- side 1 after its step
+    module _ (p : x .side ≡ 1) (is : StepIs (firstMove b (viewState s) x) (s .one) d) where
+      pub first-given : givenFor (d .said) 1 (viewValue (d .value)) ≡ given (step b (viewState s) x .answer)
+      first-given = step-given (s .one) d 1 _ is ∙ ap (λ (y : Result). given (y .answer)) (sym (first-asked b (viewState s) x e p))
 
-  pub step-two : (x : Step) (r : Stepped) → x .side ≡ 2 → b .wrapper ≡ 2 → PutBack 2 (settled (local2 (setting2 b) (known (viewState s)) (viewShelf (s .one .shelf)) (viewCore (s .two)) x)) s r → ResultIs (step b (viewState s) x) s r
-  unfolding step
-  step-two x r p q h = rw (e, ne-eqb (x .side) 1 (λ z. omega arith), eq-eqb (x .side) 2 p, eq-eqb (b .wrapper) 2 q, step) h
+      pub first-after : viewState (record { one = d .side; two = s .two }) ≡ step b (viewState s) x .after
+      first-after = ap (λ (o : MSide). record { one = o; two = viewSide (s .two) }) (step-after (s .one) d _ is) ∙ ap (λ (y : Result). y .after) (sym (first-asked b (viewState s) x e p))
 
-  ten : (x : Step) (r : Stepped) → RefusedTen (x .side) s r → ResultIs (record { answer = refusal 10 (x .side); after = viewState s }) s r
-  ten x r h = record { answer = h .answer; after = ap viewState (h .kept); arrays = ap fitsArrays (h .kept) ∙ f; kept = λ z. h .kept }
+      pub first-fits : fitsArrays (record { one = d .side; two = s .two }) ≡ true
+      first-fits = fits-put-side s 1 (d .side) f (step-fits (s .one) d (fits-one s f) _ is)
 
-  pub step-filter : (x : Step) (r : Stepped) → x .side ≡ 2 → (b .wrapper ≡ 2 → ⊥) → RefusedTen (x .side) s r → ResultIs (step b (viewState s) x) s r
-  unfolding step
-  step-filter x r p q h = rw (e, ne-eqb (x .side) 1 (λ z. omega arith), eq-eqb (x .side) 2 p, ne-eqb (b .wrapper) 2 q, step) (ten x r h)
+    -- side 2 after its step
+    module _ (p : x .side ≡ 1 → ⊥) (q : eqb (x .side) 2 && isPipeline b ≡ true) (is : StepIs (secondMove b (viewState s) x) (s .two) d) where
+      pub second-given : givenFor (d .said) 2 (viewValue (d .value)) ≡ given (step b (viewState s) x .answer)
+      second-given = step-given (s .two) d 2 _ is ∙ ap (λ (y : Result). given (y .answer)) (sym (second-asked b (viewState s) x e p q))
 
-  pub step-other : (x : Step) (r : Stepped) → (x .side ≡ 1 → ⊥) → (x .side ≡ 2 → ⊥) → RefusedTen (x .side) s r → ResultIs (step b (viewState s) x) s r
-  unfolding step
-  step-other x r p q h = rw (e, ne-eqb (x .side) 1 p, ne-eqb (x .side) 2 q, step) (ten x r h)
+      pub second-after : viewState (record { one = s .one; two = d .side }) ≡ step b (viewState s) x .after
+      second-after = ap (λ (o : MSide). record { one = viewSide (s .one); two = o }) (step-after (s .two) d _ is) ∙ ap (λ (y : Result). y .after) (sym (second-asked b (viewState s) x e p q))
+
+      pub second-fits : fitsArrays (record { one = s .one; two = d .side }) ≡ true
+      second-fits = fits-put-side s 2 (d .side) f (step-fits (s .two) d (fits-two s f) _ is)
+
+  -- no such side: 10, and nothing is changed
+  module _ (x : Step) (p : x .side ≡ 1 → ⊥) (q : eqb (x .side) 2 && isPipeline b ≡ false) where
+    pub none-given : (l : List ℕ) → l ≡ [] → givenFor (said.Refused 10) (x .side) l ≡ given (step b (viewState s) x .answer)
+    none-given l z = ap (givenFor (said.Refused 10) (x .side)) z ∙ ap (λ (y : Result). given (y .answer)) (sym (none-asked b (viewState s) x e p q))
+
+    pub none-after : viewState s ≡ step b (viewState s) x .after
+    none-after = ap (λ (y : Result). y .after) (sym (none-asked b (viewState s) x e p q))
+
+  pub step-first : (x : Step) (d : SideStep) (r : Stepped) → x .side ≡ 1 → StepIs (firstMove b (viewState s) x) (s .one) d → Answered (d .said) 1 (viewValue (d .value)) (putSide s 1 (d .side)) r → ResultIs (step b (viewState s) x) s r
+  step-first x d r p is h = record {
+    answer = given-is (d .said) 1 _ _ r h ∙ first-given x d p is;
+    after = ap viewState (h .state) ∙ first-after x d p is;
+    arrays = ap fitsArrays (h .state) ∙ first-fits x d p is;
+    kept = λ z. h .state ∙ ap (λ (o : Side). putSide s 1 o) (step-kept (s .one) d 1 _ is (ap (λ (y : Result). isRefusal (y .answer)) (sym (first-asked b (viewState s) x e p)) ∙ z));
+  }
+
+  pub step-second : (x : Step) (d : SideStep) (r : Stepped) → (x .side ≡ 1 → ⊥) → eqb (x .side) 2 && isPipeline b ≡ true → StepIs (secondMove b (viewState s) x) (s .two) d →
+      Answered (d .said) 2 (viewValue (d .value)) (putSide s 2 (d .side)) r → ResultIs (step b (viewState s) x) s r
+  step-second x d r p q is h = record {
+    answer = given-is (d .said) 2 _ _ r h ∙ second-given x d p q is;
+    after = ap viewState (h .state) ∙ second-after x d p q is;
+    arrays = ap fitsArrays (h .state) ∙ second-fits x d p q is;
+    kept = λ z. h .state ∙ ap (λ (o : Side). putSide s 2 o) (step-kept (s .two) d 2 _ is (ap (λ (y : Result). isRefusal (y .answer)) (sym (second-asked b (viewState s) x e p q)) ∙ z));
+  }
+
+  pub step-none : (x : Step) (r : Stepped) → (x .side ≡ 1 → ⊥) → eqb (x .side) 2 && isPipeline b ≡ false → RefusedTen (x .side) s r → ResultIs (step b (viewState s) x) s r
+  step-none x r p q h = subst (λ (y : Result). ResultIs y s r) (sym (none-asked b (viewState s) x e p q)) (record { answer = h .answer; after = ap viewState (h .kept); arrays = ap fitsArrays (h .kept) ∙ f; kept = λ z. h .kept })
 
   pub step-ready : (x : Step) (r : Stepped) → ResultIs (step b (viewState s) x) s r → StepAnswered b s x r
   unfolding answerTo afterStep

@@ -15,26 +15,26 @@ use Rattle.model.specs.Side.{State as MState}
 use Rattle.model.specs.Load.{Composition, Refused, Loaded, refused, ok, load}
 use Rattle.model.specs.WellFormed.{ready}
 use Rattle.model.specs.Step.{Step, Result, step}
-use Rattle.model.specs.Answer.{valueBy, Given}
 use Rattle.model.proofs.Invariant.{keeps}
 use Rattle.model.proofs.Starts.{starts}
+use Rattle.model.specs.Answer.{Given, given}
 use Rattle.format.specs.Words.{before, stepsOf, stepAt, saidWords, givenWords, answerWords, allAnswerWords, answers, brokenOff, tooShort, unloaded, answered, runFrom, runSteps, runOf}
 use Rattle.format.specs.Words.{Ran as FRan}
 use Rattle.format.proofs.AnswerWords.{answers-many}
 use Rattle.format.proofs.StepWords.{steps-next, steps-short, steps-cut, steps-end, Next, next-step}
 use Rattle.steps.specs.declared.Said.{Said}
 use Rattle.steps.specs.declared.Said.the-variants as said
+use Rattle.sides.specs.declared.Side.{Side}
 use Rattle.sides.specs.declared.State.{State}
 use Rattle.sides.specs.Views.{viewState, stateOf, fitsArrays}
 use Rattle.sides.proofs.Sides.{state-some, state-none}
 use Rattle.interpreter.specs.declared.Outcome.the-variants as outcome
 use Rattle.interpreter.specs.declared.LoadAnswer.{LoadAnswer}
-use Rattle.interpreter.specs.declared.Stepped.{Stepped}
 use Rattle.interpreter.specs.declared.Ran.{Ran}
 use Rattle.interpreter.specs.declared.Ran.the-variants as ran
 use Rattle.interpreter.specs.Loading.{outcomeOf, stateLoaded, LoadIs}
 use Rattle.dispatch.specs.Stepping.{asked}
-use Rattle.interpreter.specs.Answers.{saidOf, ResultIs}
+use Rattle.interpreter.specs.Answers.{saidOf, givenFor}
 use Rattle.interpreter.specs.Running.{countOf, wordsIn, Put, RunIs}
 
 -- HOW MANY STEPS
@@ -92,18 +92,18 @@ words-made y a b s n m ws l z p q e h =
     ∙ ap (λ (x : List ℕ). x ++ (s ∷ n ∷ ws)) (sym (two-said y))
     ∙ ap (λ (x : ℕ). wordsIn y s x ws) z
 
--- a value has at most 16 words, since with the zeros behind it there are 16
-pub value-short : (v ws : List ℕ) → ws ≡ v ++ replicate (16 - length v) 0 → length ws ≡ 16 → length v ≤ 16
-value-short v ws e h = omega (arith, ap length e, length-append v (replicate (16 - length v) 0))
-
-pub result-short : {x : Result} {t : State} {r : Stepped} → ResultIs x t r → length (r .value .words) ≡ 16 → r .value .len ≤ 16
-result-short {x} {t} {r} h n =
-    let v = valueBy (x .answer) in
-    let l : r .value .len ≡ length v = ap (λ (g : Given). g .len) (h .answer) in
-    let w : r .value .words ≡ v ++ replicate (16 - length v) 0 = ap (λ (g : Given). g .words) (h .answer) in
-    omega (arith, l, value-short v (r .value .words) w n)
+-- an answer with zeros past its words
+pub answer-words : (y : Said) (s : ℕ) (l ws of : List ℕ) (n : ℕ) → n ≡ length l → ws ≡ l ++ replicate (16 - length l) 0 → of ≡ wordsIn y s n ws → of ≡ givenWords (givenFor y s l)
+answer-words y s l ws of n p q h = h ∙ ap (λ (m : ℕ). wordsIn y s m ws) p ∙ ap (wordsIn y s (length l)) q
 
 -- THE RUN
+-- the state of two sides
+abbrev pub joined : (one two : Side) → State
+joined a c = record { one = a; two = c }
+
+pub same-joined : {a b c d : Side} → a ≡ b → c ≡ d → joined a c ≡ joined b d
+same-joined p q = rw (p, q)
+
 -- the words written so far, and the steps still to come
 pub record Running (b : Composition) (s : MState) (l lent : List ℕ) (n k p : ℕ) (t : MState) (out : List ℕ) : Type 0 where
   pub rest : List Step
@@ -178,6 +178,14 @@ module _ {b : Composition} {s : MState} {l lent : List ℕ} {n k p : ℕ} {t : M
             ∙ ap (λ (z : MState). take (20 * k) out ++ ws ++ allAnswerWords (answers b z (y .others))) (sym after)
             ∙ ap (λ (z : List ℕ). z ++ allAnswerWords (answers b u (y .others))) (sym taken);
       }
+
+  -- the same by the structs: u is the state of the two sides after the step
+  pub run-on : k < n → 20 * n ≤ length lent → (x : Step) → x ≡ stepAt l p → (v u : State) → v ≡ u → (g : Given) → g ≡ given (step b t x .answer) → length (givenWords g) ≡ 20 → viewState u ≡ step b t x .after → fitsArrays u ≡ true →
+      (new : List ℕ) (place : ℕ) → new ≡ paste out (20 * k) (givenWords g) 20 → place ≡ p + 5 + getD l (p + 4) 0 → (fitsArrays v ≡ true) × Running b s l lent n (k + 1) place (viewState v) new
+  run-on lt room x z v u q g e len after fits new place put at = (
+    ap fitsArrays q ∙ fits,
+    run-more lt room (viewState v) (givenWords g) new place (ap givenWords (e ∙ ap (λ (y : Step). given (step b t y .answer)) z)) len (ap viewState q ∙ after ∙ ap (λ (y : Step). step b t y .after) z) put at,
+  )
 
   pub run-end : n ≤ k → 20 * n ≤ length lent → (xs : List Step) → stepsOf l ≡ some xs → Put (allAnswerWords (answers b s xs)) n lent out
   unfolding answers
@@ -272,8 +280,5 @@ begun b a h e = by (load b) refl (h .outcome) (h .state)
         record { loads = k; arrays = y .0; ready = starts b (viewState (a .state)) k }
 
 -- the step asked for is the one whose words stand at a place
-pub asked-at : (l : List ℕ) (p i j n : ℕ) → i ≡ getD l (p + 2) 0 → j ≡ getD l (p + 3) 0 → n ≡ getD l (p + 4) 0 → asked (getD l p 0) (getD l (p + 1) 0) i j (take n (drop (p + 5) l)) ≡ stepAt l p
-asked-at l p i j n a b c = rw (a, b, c)
-
-pub result-by : (b : Composition) (t : State) (x y : Step) (r : Stepped) → x ≡ y → ResultIs (step b (viewState t) x) t r → ResultIs (step b (viewState t) y) t r
-result-by b t x y r e h = subst (λ (z : Step). ResultIs (step b (viewState t) z) t r) e h
+pub asked-at : (l : List ℕ) (p k m i j : ℕ) (ws : List ℕ) → k ≡ stepAt l p .kind → m ≡ stepAt l p .side → i ≡ stepAt l p .i → j ≡ stepAt l p .j → ws ≡ stepAt l p .words → asked k m i j ws ≡ stepAt l p
+asked-at l p k m i j ws a e b c d = rw (a, e, b, c, d)

@@ -1,15 +1,12 @@
 -- The answer to a step as the struct holds it, and the state beside it.
 use mathlib.Core.Path.{_≡_}
-use mathlib.Core.Bool.{Bool, true, false, cond}
+use mathlib.Core.Bool.{Bool, true, false}
 use mathlib.Core.List.{List, [], _++_}
 use mathlib.Core.Option.{Option, some}
 use Prim.Native.Nat.{ℕ, _-_}
-use lib.Dec.{eqb}
 use lib.ListN.{length, replicate}
-use Rattle.model.specs.Basics.{Res}
-use Rattle.model.specs.Side.{Side as MSide, State as MState}
 use Rattle.model.specs.Load.{Composition}
-use Rattle.model.specs.Step.{silent, enters, leaves, Step, Moved, Answer, labelled, refusal, answerOf, sideAfter, Result, answerTo, afterStep}
+use Rattle.model.specs.Step.{silent, enters, leaves, Step, Answer, labelled, refusal, Result, answerTo, afterStep}
 use Rattle.model.specs.Answer.{Said as MSaid, label, number, Given, given}
 use Rattle.values.specs.declared.Value.{Value}
 use Rattle.sides.specs.declared.State.{State}
@@ -41,17 +38,14 @@ saidOf (said.Refused n) = number n
 abbrev pub givenOf : Stepped → Given
 givenOf r = record { said = saidOf (r .said); side = r .side; len = r .value .len; words = r .value .words }
 
+-- an answer of side n with the words l, and zeros past them
+abbrev pub givenFor : Said → (side : ℕ) → List ℕ → Given
+givenFor a n l = record { said = saidOf a; side = n; len = length l; words = l ++ replicate (16 - length l) 0 }
+
 -- an answer is a refusal
 abbrev pub isRefusal : Answer → Bool
 isRefusal (labelled l n v) = false
 isRefusal (refusal k n) = true
-
--- a state's side by its number, 1 or else 2, and a state with that side put anew
-abbrev pub sideAt : MState → ℕ → MSide
-sideAt s k = cond (eqb k 1) (s .one) (s .two)
-
-abbrev pub withSide : MState → ℕ → MSide → MState
-withSide s k o = cond (eqb k 1) (record { one = o; two = s .two }) (record { one = s .one; two = o })
 
 -- r is the answer and the state after it; where it is a refusal, the very struct s
 pub record ResultIs (x : Result) (s : State) (r : Stepped) : Type 0 where
@@ -59,10 +53,6 @@ pub record ResultIs (x : Result) (s : State) (r : Stepped) : Type 0 where
   pub after : viewState (r .state) ≡ x .after
   pub arrays : fitsArrays (r .state) ≡ true
   pub kept : isRefusal (x .answer) ≡ true → r .state ≡ s
-
--- r is what the model's result m makes of side k of s
-abbrev pub PutBack : (k : ℕ) → Res Moved → State → Stepped → Type 0
-PutBack k m s r = ResultIs (record { answer = answerOf k m; after = withSide (viewState s) k (sideAfter (sideAt (viewState s) k) m) }) s r
 
 -- r is refusal 10 with the side as asked, beside the very struct s
 pub record RefusedTen (n : ℕ) (s : State) (r : Stepped) : Type 0 where

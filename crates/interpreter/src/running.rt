@@ -8,17 +8,19 @@ ghost use lib.ListN.{length, getD};
 ghost use lib.Seq.{paste};
 ghost use Rattle.model.specs.WellFormed.{ready};
 ghost use Rattle.model.specs.Step.{Step};
-ghost use Rattle.model.specs.Step.{step as Step·step};
-ghost use Rattle.format.specs.Words.{stepsOf, stepAt, saidWords, answers, allAnswerWords, runOf};
+ghost use Rattle.format.specs.Words.{stepsOf, stepAt, saidWords, givenWords, answers, allAnswerWords, runOf};
+ghost use Rattle.values.specs.Env.{viewValue};
 ghost use Rattle.sides.specs.Views.{viewState, fitsArrays};
 ghost use Rattle.interpreter.specs.Loading.{composition};
-ghost use Rattle.interpreter.specs.Answers.{saidOf, ResultIs};
+ghost use Rattle.interpreter.specs.Answers.{saidOf, givenFor};
 ghost use Rattle.interpreter.specs.Running.{countOf, countedOf, wordsIn, Put, RunIs};
 use crate::Outcome;
 use crate::Ran;
-use crate::Stepped;
 use crate::loading::load;
-use crate::whole::step_unchecked;
+use crate::whole::is_second;
+use crate::whole::padded;
+use dispatch::own_step;
+use dispatch::second_step;
 use sides::State;
 use steps::Said;
 use values::Value;
@@ -122,6 +124,14 @@ fn put(out: &mut [u32], i: usize, w: Words)
     }
 }
 
+// Writes the answer with index k.
+fn put_answer(out: &mut [u32], k: usize, said: Said, side: u32, v: Value)
+    requires { ⌜ (20 * k + 20 ≤ length (now out)) × (v .len ≤ 16) ⌝ }
+    ensures { λ _. ⌜ (length (givenWords (givenFor said side (viewValue v))) ≡ 20) × (now (out .exit) ≡ paste (now (out .entry)) (20 * k) (givenWords (givenFor said side (viewValue v))) 20) ⌝ }
+{
+    put(out, k, words_of(said, side, padded(v)));
+}
+
 // The place behind the words of the step at a place.
 fn next_place(steps: &[u32], p: usize) -> usize
     requires { ⌜ (p + 5 ≤ length (now steps)) × (getD (now steps) (p + 4) 0 ≤ length (now steps) - (p + 5)) ⌝ }
@@ -130,43 +140,38 @@ fn next_place(steps: &[u32], p: usize) -> usize
     p + 5 + wide(steps[p + 4])
 }
 
-// The step whose words stand at a place.
-fn step_at(
-    wrapper: u32,
-    nodes1: &[u32],
-    pool1: &[u32],
-    nodes2: &[u32],
-    pool2: &[u32],
-    s: State,
-    steps: &[u32],
-    p: usize,
-) -> Stepped
-    requires { ⌜ (fitsArrays s ≡ true) × (ready (composition wrapper (now nodes1) (now pool1) (now nodes2) (now pool2)) (viewState s) ≡ true) × (p + 5 ≤ length (now steps)) × (getD (now steps) (p + 4) 0 ≤ length (now steps) - (p + 5)) ⌝ }
-    ensures { λ r. ⌜ ResultIs (Step·step (composition wrapper (now (nodes1 .entry)) (now (pool1 .entry)) (now (nodes2 .entry)) (now (pool2 .entry))) (viewState s) (stepAt (now (steps .entry)) p)) s r ⌝ }
+// A step but for its value words.
+struct Asked {
+    kind: u32,
+    side: u32,
+    i: usize,
+    j: usize,
+}
+
+// The step whose words stand at a place, but for its value words.
+fn asked_at(steps: &[u32], p: usize) -> Asked
+    requires { ⌜ p + 5 ≤ length (now steps) ⌝ }
+    ensures { λ r. ⌜ (r .kind ≡ stepAt (now (steps .entry)) p .kind) × (r .side ≡ stepAt (now (steps .entry)) p .side) × (r .i ≡ stepAt (now (steps .entry)) p .i) × (r .j ≡ stepAt (now (steps .entry)) p .j) ⌝ }
 {
-    let a = p + 5;
-    let e = next_place(steps, p);
     let kind = steps[p];
     let side = steps[p + 1];
     let i = wide(steps[p + 2]);
     let j = wide(steps[p + 3]);
-    let words = &steps[a..e];
-    step_unchecked(
-        wrapper,
-        nodes1,
-        pool1,
-        nodes2,
-        pool2,
-        s,
-        kind,
-        side,
-        i,
-        j,
-        words,
-    )
+    Asked { kind, side, i, j }
 }
 
-// The steps of a list of words, n of them, from a state that is well formed for tables that load takes.
+// Its value words.
+fn value_at(steps: &[u32], p: usize) -> &[u32]
+    requires { ⌜ (p + 5 ≤ length (now steps)) × (getD (now steps) (p + 4) 0 ≤ length (now steps) - (p + 5)) ⌝ }
+    ensures { λ r. ⌜ now r ≡ stepAt (now (steps .entry)) p .words ⌝ }
+{
+    let a = p + 5;
+    let e = next_place(steps, p);
+    &steps[a..e]
+}
+
+// The steps of a list of words, n of them, from a state that is well formed for tables that load takes. The sides are held
+// apart, so that a step copies its own side alone.
 fn run_loaded(
     wrapper: u32,
     nodes1: &[u32],
@@ -181,17 +186,56 @@ fn run_loaded(
     requires { ⌜ (fitsArrays s ≡ true) × (ready (composition wrapper (now nodes1) (now pool1) (now nodes2) (now pool2)) (viewState s) ≡ true) × (countOf (stepsOf (now steps)) ≡ some n) × (20 * n ≤ length (now out)) ⌝ }
     ensures { λ _. ⌜ ((xs : List Step) → stepsOf (now (steps .entry)) ≡ some xs → Put (allAnswerWords (answers (composition wrapper (now (nodes1 .entry)) (now (pool1 .entry)) (now (nodes2 .entry)) (now (pool2 .entry))) (viewState s) xs)) n (now (out .entry)) (now (out .exit))) ⌝ }
 {
-    let mut state = s;
+    let piped = wrapper == 2;
+    let mut one = s.one;
+    let mut two = s.two;
     let mut p: usize = 0;
     let mut k: usize = 0;
     while k < n {
-        let r = step_at(wrapper, nodes1, pool1, nodes2, pool2, state, steps, p);
-        let said = r.said;
-        let side = r.side;
-        let value = r.value;
-        let after = r.state;
-        put(out, k, words_of(said, side, value));
-        state = after;
+        let x = asked_at(steps, p);
+        let words = value_at(steps, p);
+        let l1 = one.left;
+        let l2 = two.left;
+        if x.side == 1 {
+            let d = own_step(
+                nodes1,
+                pool1,
+                1,
+                piped,
+                one,
+                l1,
+                l2,
+                x.kind,
+                x.i,
+                x.j,
+                words,
+            );
+            let said = d.said;
+            let v = d.value;
+            one = d.side;
+            put_answer(out, k, said, 1, v);
+        } else if is_second(wrapper, x.side) {
+            let h = one.shelf;
+            let d = second_step(
+                nodes2,
+                pool2,
+                piped,
+                two,
+                l1,
+                l2,
+                h,
+                x.kind,
+                x.i,
+                x.j,
+                words,
+            );
+            let said = d.said;
+            let v = d.value;
+            two = d.side;
+            put_answer(out, k, said, 2, v);
+        } else {
+            put_answer(out, k, Said::Refused(10), x.side, Value::none());
+        }
         p = next_place(steps, p);
         k += 1;
     }

@@ -1,33 +1,32 @@
 // A step of the whole state: the side that is asked makes it, and is put back.
 ghost use mathlib.Core.Path.{_≡_};
-ghost use mathlib.Core.Bool.{true};
+ghost use mathlib.Core.Bool.{true, _&&_};
 ghost use mathlib.Core.List.{_++_};
 ghost use Prim.Native.Nat.{_-_, _≤_};
+ghost use lib.Dec.{eqb};
 ghost use lib.ListN.{length, replicate};
-ghost use Rattle.model.specs.Basics.{_&_, Res};
+ghost use Rattle.model.specs.Basics.{_&_};
 ghost use Rattle.model.specs.WellFormed.{ready};
-ghost use Rattle.model.specs.Step.{Moved, step};
+ghost use Rattle.model.specs.Step.{step};
 ghost use Rattle.values.specs.Env.{viewValue};
 ghost use Rattle.sides.specs.Views.{viewState, stateOf, fitsArrays};
-ghost use Rattle.sides.specs.Puts.{sideOf};
-ghost use Rattle.steps.specs.StepIs.{StepIs};
+ghost use Rattle.sides.specs.Puts.{putSide};
 ghost use Rattle.interpreter.specs.Loading.{composition};
 ghost use Rattle.dispatch.specs.Stepping.{asked};
-ghost use Rattle.interpreter.specs.Answers.{Padded, Answered, PutBack, RefusedTen, ResultIs, StepAnswered};
+ghost use Rattle.interpreter.specs.Answers.{Padded, Answered, RefusedTen, ResultIs, StepAnswered};
 use crate::Outcome;
 use crate::Stepped;
 use crate::loading::load_verdict;
 use dispatch::own_step;
 use dispatch::second_step;
 use sides::State;
-use sides::marked_all;
 use steps::Said;
 use steps::SideStep;
 use values::Value;
 use wellformed::whole::well_formed;
 
 // A value with zeros past its length.
-fn padded(v: Value) -> Value
+pub(crate) fn padded(v: Value) -> Value
     requires { ⌜ v .len ≤ 16 ⌝ }
     ensures { λ r. ⌜ Padded (viewValue v) r ⌝ }
 {
@@ -55,25 +54,15 @@ fn answered(said: Said, side: u32, v: Value, state: State) -> Stepped
     }
 }
 
-// Side k put back into the state, with its answer. What leaves by its outlet is marked; a refusal leaves the old state.
+// A side put back into the state, with its answer: side 1, else side 2.
 fn put_back(s: State, k: u32, d: SideStep) -> Stepped
-    requires { ⌜ (d .value .len ≤ 16) × (fitsArrays s ≡ true) ⌝ }
-    ensures { λ r. ⌜ ((m : Res Moved) → StepIs m (sideOf s k) d → PutBack k m s r) ⌝ }
+    requires { ⌜ d .value .len ≤ 16 ⌝ }
+    ensures { λ r. ⌜ Answered (d .said) k (viewValue (d .value)) (putSide s k (d .side)) r ⌝ }
 {
     let said = d.said;
     let v = d.value;
     let o = d.side;
-    match said {
-        Said::Refused(_) => answered(said, k, v, s),
-        Said::Out => {
-            let left = o.left;
-            let m = marked_all(left, v);
-            let l = m.left;
-            answered(said, k, v, s.with_side(k, o.with_left(l)))
-        },
-        Said::In => answered(said, k, v, s.with_side(k, o)),
-        Said::Silent => answered(said, k, v, s.with_side(k, o)),
-    }
+    answered(said, k, v, s.with_side(k, o))
 }
 
 // Refusal 10, with the side as asked.
@@ -83,8 +72,15 @@ fn refused(s: State, side: u32) -> Stepped
     answered(Said::Refused(10), side, Value::none(), s)
 }
 
+// Whether side 2 is asked, and is there.
+pub(crate) fn is_second(wrapper: u32, side: u32) -> bool
+    ensures { λ r. ⌜ r ≡ eqb side 2 && eqb wrapper 2 ⌝ }
+{
+    if side == 2 { wrapper == 2 } else { false }
+}
+
 // A step of a state that is well formed for tables that load takes.
-pub(crate) fn step_unchecked(
+fn step_unchecked(
     wrapper: u32,
     nodes1: &[u32],
     pool1: &[u32],
@@ -109,13 +105,10 @@ pub(crate) fn step_unchecked(
         let d = own_step(nodes1, pool1, 1, piped, one, l1, l2, kind, i, j, words);
         return put_back(s, 1, d);
     }
-    if side == 2 {
-        if wrapper == 2 {
-            let h = one.shelf;
-            let d = second_step(nodes2, pool2, piped, two, l1, l2, h, kind, i, j, words);
-            return put_back(s, 2, d);
-        }
-        return refused(s, side);
+    if is_second(wrapper, side) {
+        let h = one.shelf;
+        let d = second_step(nodes2, pool2, piped, two, l1, l2, h, kind, i, j, words);
+        return put_back(s, 2, d);
     }
     refused(s, side)
 }

@@ -12,7 +12,7 @@ use Rattle.model.specs.Side.{output, input, Core}
 use Rattle.model.specs.Side.{Particle as MParticle}
 use Rattle.model.specs.Load.{Setting}
 use Rattle.model.specs.WellFormed.{Counts, wfCore, wfParticle}
-use Rattle.model.specs.Step.{Moved}
+use Rattle.model.specs.Step.{Moved, marks}
 use Rattle.model.proofs.Tests.{fst, snd, every-mono}
 use Rattle.model.proofs.Growing.{CoreOk, core-ok}
 use Rattle.model.proofs.Invariant.{core-short, core-limits}
@@ -191,7 +191,7 @@ quiet-is m k o s t r e p q v l f =
 
 -- a step with a label and a value
 pub said-is : (m : Res Moved) (mv : Moved) (o t : Side) (r : SideStep) → m ≡ done mv → labelOf (r .said) ≡ done (mv .label) → viewValue (r .value) ≡ mv .val → r .value .len ≤ 16 → r .side ≡ t →
-    viewCore t ≡ mv .core → t .left ≡ o .left → fitsSide t ≡ true → StepIs m o r
+    viewCore t ≡ mv .core → t .left ≡ marks (mv .label) (mv .val) (o .left) → fitsSide t ≡ true → StepIs m o r
 said-is m mv o t r e y x z q v l f = record {
   is = subst (λ (x : Res Moved). Outcome x o r) (sym e) (record { says = y; value = x; short-value = z; core = ap viewCore q ∙ v; left = ap (λ (x : Side). x .left) q ∙ l; arrays = ap fitsSide q ∙ f });
 }

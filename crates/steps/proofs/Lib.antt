@@ -4,4 +4,3 @@ pub mod Held
 pub mod LobbySteps
 pub mod ParticleSteps
 pub mod EnterSteps
-pub mod Outcomes

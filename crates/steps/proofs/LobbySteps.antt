@@ -1,13 +1,13 @@
 -- Down, pass and leave: a law for each way that the code goes.
 use mathlib.Core.Path.{_≡_, refl, ap, subst, _∙_}
-use mathlib.Core.Bool.{true, false}
-use mathlib.Core.List.{[], _∷_, _++_}
+use mathlib.Core.Bool.{Bool, true, false}
+use mathlib.Core.List.{List, [], _∷_, _++_}
 use Prim.Native.Nat.{ℕ, _<_, _≤_}
 use borrow.Author.Tests.{ne-eqb}
 use lib.ListN.{length, getD, set}
 use Rattle.model.specs.Basics.{_&_, refuse, remove}
 use Rattle.model.specs.Side.{output, fromParent}
-use Rattle.model.specs.Step.{isDown, isArrived, isLeaving, goDown, pass, leave, leaves, withLobby, settled}
+use Rattle.model.specs.Step.{isDown, isArrived, isLeaving, goDown, pass, leave, leaves, markAll, withLobby, settled}
 use Rattle.model.proofs.Tests.{both}
 use Rattle.values.specs.Env.{viewValue}
 use Rattle.sides.specs.declared.Status.the-variants.{Leaving}
@@ -18,7 +18,7 @@ use Rattle.sides.specs.declared.Particles.{Particles}
 use Rattle.sides.specs.declared.Side.{Side}
 use Rattle.sides.specs.Views.{viewStatus, viewMessage, viewLobby, viewParticle, viewParticles, viewCore, fitsValue, fitsMessage, fitsLobby, fitsParticle, fitsParticles, fitsSide}
 use Rattle.sides.specs.Holding.{LobbyIs, ParticlesIs}
-use Rattle.sides.specs.Puts.{putParticles, putLobby}
+use Rattle.sides.specs.Puts.{putParticles, putLobby, putLeft}
 use Rattle.sides.proofs.Sides.{side-particles, side-boxes, side-lobby, side-shelf, side-fits}
 use Rattle.steps.specs.declared.Said.the-variants as said
 use Rattle.steps.specs.declared.SideStep.{SideStep}
@@ -110,17 +110,19 @@ module _ (o : Side) (i k : ℕ) (same : k ≡ i) (ok : Sane o) (full : Full o) (
       subst (λ (x : ℕ). StepIs (settled (pass (viewCore o) x)) o r) same
       (quiet-is _ (core.passCore (viewCore o) k (viewMessage m)) o t (putLobby o l) r e says te (rw (ls .view, me)) refl fits)
 
-  pub leave-did : (l : Lobby) (t : Side) (n : ℕ) → LeaveAt o k →
+  pub leave-did : (l : Lobby) (s t : Side) (n : ℕ) (x : List Bool) → LeaveAt o k →
       LobbyIs (remove (viewLobby (o .lobby)) k) n (fitsLobby (o .lobby)) l →
-      t ≡ putLobby o l →
+      x ≡ markAll (o .left) (viewValue (getD (o .lobby .msgs) k d .value)) →
+      s ≡ putLobby o l →
+      t ≡ putLeft s x →
       r ≡ record { said = said.Out; value = getD (o .lobby .msgs) k d .value; side = t } →
       StepIs (settled (leave (viewCore o) i)) o r
-  leave-did l t n a ls te re =
+  leave-did l s t n x a ls xe se te re =
       let m : Message = getD (o .lobby .msgs) k d in
       let e = core.leave-done (viewCore o) (ok .short-outputs) (ok .few) k (viewMessage m) (message-at o ok full k d (a .held)) (a .status d) in
-      let fits : fitsSide (putLobby o l) ≡ true =
-      side-fits (putLobby o l) (side-particles o (ok .arrays)) (side-boxes o (ok .arrays)) (ls .fits (side-lobby o (ok .arrays))) (side-shelf o (ok .arrays)) in
-      subst (λ (x : ℕ). StepIs (settled (leave (viewCore o) x)) o r) same
+      let fits : fitsSide (putLeft (putLobby o l) x) ≡ true =
+      side-fits (putLeft (putLobby o l) x) (side-particles o (ok .arrays)) (side-boxes o (ok .arrays)) (ls .fits (side-lobby o (ok .arrays))) (side-shelf o (ok .arrays)) in
+      subst (λ (y : ℕ). StepIs (settled (leave (viewCore o) y)) o r) same
       (rw re
-      (said-is _ (record { label = leaves; val = viewValue (m .value); core = withLobby (viewCore o) (remove (viewLobby (o .lobby)) k) }) o (putLobby o l)
-      (record { said = said.Out; value = m .value; side = t }) e refl refl (message-short o ok full k d (a .held)) te (rw (ls .view)) refl fits))
+      (said-is _ (record { label = leaves; val = viewValue (m .value); core = withLobby (viewCore o) (remove (viewLobby (o .lobby)) k) }) o (putLeft (putLobby o l) x)
+      (record { said = said.Out; value = m .value; side = t }) e refl refl (message-short o ok full k d (a .held)) (te ∙ ap (λ (y : Side). putLeft y x) se) (rw (ls .view)) xe fits))

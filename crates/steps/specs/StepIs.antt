@@ -8,7 +8,7 @@ use lib.ListN.{length}
 use Rattle.model.specs.Basics.{Res, refuse, done, every}
 use Rattle.model.specs.Side.{limits, output, input}
 use Rattle.model.specs.Side.{Particle as MParticle}
-use Rattle.model.specs.Step.{Label, silent, enters, leaves, Moved, short}
+use Rattle.model.specs.Step.{Label, silent, enters, leaves, Moved, marks, short}
 use Rattle.values.specs.Env.{viewValue}
 use Rattle.sides.specs.declared.Side.{Side}
 use Rattle.sides.specs.Views.{viewCore, viewParticles, viewBoxes, fitsSide}
@@ -30,13 +30,13 @@ pub record Stays (n : ℕ) (o : Side) (r : SideStep) : Type 0 where
   pub value : viewValue (r .value) ≡ []
   pub short-value : r .value .len ≤ 16
 
--- what the model's step does: its label and value, its core, every count within its array; the names that have left are not touched
+-- what the model's step does: its label and value, its core, the names that have left marked, every count within its array
 pub record Becomes (m : Moved) (o : Side) (r : SideStep) : Type 0 where
   pub says : labelOf (r .said) ≡ done (m .label)
   pub value : viewValue (r .value) ≡ m .val
   pub short-value : r .value .len ≤ 16
   pub core : viewCore (r .side) ≡ m .core
-  pub left : r .side .left ≡ o .left
+  pub left : r .side .left ≡ marks (m .label) (m .val) (o .left)
   pub arrays : fitsSide (r .side) ≡ true
 
 abbrev pub Outcome : Res Moved → Side → SideStep → Type 0

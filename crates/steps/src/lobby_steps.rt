@@ -12,6 +12,7 @@ use sides::Particle;
 use sides::Side;
 use sides::Status;
 use sides::Tag;
+use sides::marked_all;
 
 fn is_down(s: Status) -> bool
     ensures { λ r. ⌜ r ≡ isDown (viewStatus s) ⌝ }
@@ -137,7 +138,7 @@ fn leave_offer(o: Side, i: usize) -> Offer
     Offer::At(i)
 }
 
-// Leave: lobby i, leaving, is removed and said with its value.
+// Leave: lobby i, leaving, is removed and said with its value, whose minted names are marked as left.
 pub fn leave(o: Side, i: usize) -> SideStep
     requires { ⌜ Sane o ⌝ }
     ensures { λ r. ⌜ StepIs (settled (leave (viewCore o) i)) o r ⌝ }
@@ -149,7 +150,10 @@ pub fn leave(o: Side, i: usize) -> SideStep
     let l = o.lobby;
     let m = l.msgs[k];
     let value = m.value;
-    let side = o.with_lobby(l.without(k));
+    let left = o.left;
+    let marks = marked_all(left, value);
+    let x = marks.left;
+    let side = o.with_lobby(l.without(k)).with_left(x);
     SideStep {
         said: Said::Out,
         value,

@@ -1,67 +1,72 @@
 use mathlib.Core.Path.{_≡_, refl, sym, ap, _∙_}
 use mathlib.Core.Bool.{true}
+use mathlib.Core.Logic.{⊎-elim}
 use Prim.Native.Nat.{_-_, _+_, _*_, _≤_, _<_}
 use lib.ListN.{length}
 use Rattle.sides.specs.Views.{viewState, fitsArrays}
-use Rattle.format.specs.Words.{givenWords}
+use Rattle.steps.proofs.Held.{stored-none}
+use Rattle.dispatch.specs.Stepping.{asked}
 use Rattle.interpreter.specs.Loading.{composition}
-use Rattle.interpreter.proofs.RunLaws.{Running, run-start, next-head, next-fits, run-more, run-end, result-short}
-use borrow.Author.Needs.{needs}
+use Rattle.interpreter.proofs.AnswerLaws.{step-short, own-one, own-second, shelf-one, first-given, first-after, first-fits, second-given, second-after, second-fits, none-given, none-after}
+use Rattle.interpreter.proofs.RunLaws.{Running, joined, same-joined, asked-at, run-start, next-head, next-fits, run-on, run-end}
 use native.Mathlib.Omega.{arith}
+use borrow.Author.Needs.{needs}
 use Rattle.interpreter.proofs.running.run_loaded.Statement.{statement}
 use Rattle.interpreter.proofs.running.run_loaded.Tie as tie
-use Rattle.interpreter.proofs.running.run_loaded.Reads as reads
-use Rattle.interpreter.proofs.running.run_loaded.Lts as lts
-use Rattle.interpreter.proofs.running.next_place.Reads as next-place-reads
-use Rattle.interpreter.proofs.running.put.Reads as put-reads
-use Rattle.interpreter.proofs.running.step_at.Reads as step-at-reads
-use Rattle.interpreter.proofs.running.words_of.Reads as words-of-reads
 
 abbrev Inv-loop : tie.InvT-loop
-Inv-loop wrapper nodes1 pool1 nodes2 pool2 steps n out₀ state₀ p₀ k₀ out state p k = (20 * n ≤ length out₀) × (fitsArrays state ≡ true) × Running (composition wrapper nodes1 pool1 nodes2 pool2) (viewState state₀) steps out₀ n k p (viewState state) out
+Inv-loop wrapper nodes1 pool1 nodes2 pool2 steps n out₀ piped one₀ two₀ p₀ k₀ out one two p k = (20 * n ≤ length out₀) × (fitsArrays (joined one two) ≡ true) × Running (composition wrapper nodes1 pool1 nodes2 pool2) (viewState (joined one₀ two₀)) steps out₀ n k p (viewState (joined one two)) out
 
 abbrev μ-loop : tie.MeasureT-loop
-μ-loop wrapper nodes1 pool1 nodes2 pool2 steps n out₀ state₀ p₀ k₀ out state p k = n - k
+μ-loop wrapper nodes1 pool1 nodes2 pool2 steps n out₀ piped one₀ two₀ p₀ k₀ out one two p k = n - k
 
--- src/running.rt:187:5
 loop-holds : tie.Need-loop-holds Inv-loop μ-loop
-loop-holds c = let x = c .before .before .before .before .before .before in (x .pre .3, x .pre .0, run-start _ _ _ _ _ (x .pre .2) (x .pre .1))
+loop-holds c = let p = c .before .before .before .before .before .before .before .before .pre in (p .3, p .0, run-start _ _ _ _ _ (p .2) (p .1))
 
--- src/running.rt:188:13
-step-at-requires : tie.Need-step-at-requires Inv-loop μ-loop
-step-at-requires c κs = let l = c .before .loop in (l .inv .1, l .inv .2 .ready, next-head (l .inv .2) (c .loop-test .taken), next-fits (l .inv .2) (c .loop-test .taken))
+asked-at-requires : tie.Need-asked-at-requires Inv-loop μ-loop
+asked-at-requires c κs = next-head (c .before .loop .inv .2) (c .loop-test .taken)
 
--- src/running.rt:193:21
-words-of-requires : tie.Need-words-of-requires Inv-loop μ-loop
-words-of-requires c κs = search needs
+value-at-requires : tie.Need-value-at-requires Inv-loop μ-loop
+value-at-requires c κs = (next-head (c .before .before .loop .inv .2) (c .before .loop-test .taken), next-fits (c .before .before .loop .inv .2) (c .before .loop-test .taken))
 
--- src/running.rt:193:9
-put-requires : tie.Need-put-requires Inv-loop μ-loop
-put-requires c κs = let l = c .before .before .before .before .before .before .loop in let s = l .inv .2 .size in let r = l .inv .0 in let t = c .before .before .before .before .before .loop-test .taken in omega (arith, s, r, t)
+own-step-requires : tie.Need-own-step-requires Inv-loop μ-loop
+own-step-requires c κs = let l = c .before .before .before .before .before .before .before .loop in let b = composition (c .before .before .before .before .before .before .before .before .before .before .before .before .before .before .before .before .args .wrapper) (c .before .before .before .before .before .before .before .before .before .before .before .before .before .before .before .before .args .nodes1 .now) (c .before .before .before .before .before .before .before .before .before .before .before .before .before .before .before .before .args .pool1 .now) (c .before .before .before .before .before .before .before .before .before .before .before .before .before .before .before .before .args .nodes2 .now) (c .before .before .before .before .before .before .before .before .before .before .before .before .before .before .before .before .args .pool2 .now) in own-one b (joined (c .before .before .before .before .before .before .before .loop .one) (c .before .before .before .before .before .before .before .loop .two)) (l .inv .1) (l .inv .2 .ready)
 
--- src/running.rt:195:9
+put-answer-requires : tie.Need-put-answer-requires Inv-loop μ-loop
+put-answer-requires c κs = (omega (arith, c .before .before .before .before .before .before .before .before .before .before .before .loop .inv .0, c .before .before .before .before .before .before .before .before .before .before .before .loop .inv .2 .size, c .before .before .before .before .before .before .before .before .before .before .loop-test .taken), step-short _ _ _ (c .before .before .before .own-step .ensures (c .before .before .before .before .before .before .before .before .before .asked-at .result .side)))
+
+is-second-requires : tie.Need-is-second-requires Inv-loop μ-loop
+is-second-requires c κs = search needs
+
+second-step-requires : tie.Need-second-step-requires Inv-loop μ-loop
+second-step-requires c κs = let l = c .before .before .before .before .before .before .before .before .before .before .loop in let b = composition (c .before .before .before .before .before .before .before .before .before .before .before .before .before .before .before .before .before .before .before .args .wrapper) (c .before .before .before .before .before .before .before .before .before .before .before .before .before .before .before .before .before .before .before .args .nodes1 .now) (c .before .before .before .before .before .before .before .before .before .before .before .before .before .before .before .before .before .before .before .args .pool1 .now) (c .before .before .before .before .before .before .before .before .before .before .before .before .before .before .before .before .before .before .before .args .nodes2 .now) (c .before .before .before .before .before .before .before .before .before .before .before .before .before .before .before .before .before .before .before .args .pool2 .now) in (own-second b (joined (c .before .before .before .before .before .before .before .before .before .before .loop .one) (c .before .before .before .before .before .before .before .before .before .before .loop .two)) (l .inv .1) (l .inv .2 .ready) (c .before .before .before .before .before .before .before .before .asked-at .result .side) (sym (c .before .before .is-second .ensures) ∙ c .before .if2 .taken), shelf-one b (joined (c .before .before .before .before .before .before .before .before .before .before .loop .one) (c .before .before .before .before .before .before .before .before .before .before .loop .two)) (l .inv .1) (l .inv .2 .ready))
+
+put-answer-requires-2 : tie.Need-put-answer-requires-2 Inv-loop μ-loop
+put-answer-requires-2 c κs = (omega (arith, c .before .before .before .before .before .before .before .before .before .before .before .before .before .before .loop .inv .0, c .before .before .before .before .before .before .before .before .before .before .before .before .before .before .loop .inv .2 .size, c .before .before .before .before .before .before .before .before .before .before .before .before .before .loop-test .taken), step-short _ _ _ (c .before .before .before .second-step .ensures (c .before .before .before .before .before .before .before .before .before .before .before .before .asked-at .result .side)))
+
+none-requires : tie.Need-none-requires Inv-loop μ-loop
+none-requires c κs = search needs
+
+put-answer-requires-3 : tie.Need-put-answer-requires-3 Inv-loop μ-loop
+put-answer-requires-3 c κs = (omega (arith, c .before .before .before .before .before .before .before .before .before .before .before .loop .inv .0, c .before .before .before .before .before .before .before .before .before .before .before .loop .inv .2 .size, c .before .before .before .before .before .before .before .before .before .before .loop-test .taken), stored-none _ (c .none .ensures))
+
 next-place-requires : tie.Need-next-place-requires Inv-loop μ-loop
-next-place-requires c κs = let l = c .before .before .before .before .before .before .before .before .before .loop in (next-head (l .inv .2) (c .before .before .before .before .before .before .before .before .loop-test .taken), next-fits (l .inv .2) (c .before .before .before .before .before .before .before .before .loop-test .taken))
+next-place-requires c κs = (next-head (c .before .before .before .before .before .before .before .loop .inv .2) (c .before .before .before .before .before .before .loop-test .taken), next-fits (c .before .before .before .before .before .before .before .loop .inv .2) (c .before .before .before .before .before .before .loop-test .taken))
 
--- src/running.rt:196:9
 add-k : tie.Need-add-k Inv-loop μ-loop
-add-k c = search (needs, c .before .before .before .before .before .before .before .before .before .before .before .before .before .before .before .before .before .fits .n .fits, c .before .before .before .before .before .before .before .before .before .loop-test .taken)
+add-k c = search (needs, c .before .before .before .before .before .before .before .before .before .before .before .before .before .before .before .before .before .fits .n .fits, c .before .before .before .before .before .before .before .loop-test .taken)
 
--- src/running.rt:187:5
 loop-less : tie.Need-loop-less Inv-loop μ-loop
 loop-less c = search needs
 
--- src/running.rt:187:5
 loop-again : tie.Need-loop-again Inv-loop μ-loop
-loop-again c = let l = c .before .before .before .before .before .before .before .before .before .before .loop in (l .inv .0, c .before .before .before .before .before .before .before .before .step-at .ensures .arrays, run-more (l .inv .2) (c .before .before .before .before .before .before .before .before .before .loop-test .taken) (l .inv .0) _ (c .before .before .before .before .words-of .result .of) _ _ (c .before .before .before .before .words-of .ensures .2 (result-short (c .before .before .before .before .before .before .before .before .step-at .ensures) (c .before .before .before .before .words-of .ensures .0)) ∙ ap givenWords (c .before .before .before .before .before .before .before .before .step-at .ensures .answer)) (c .before .before .before .before .words-of .ensures .1) (c .before .before .before .before .before .before .before .before .step-at .ensures .after) (c .before .before .before .put .ensures) (c .next-place .ensures))
+loop-again c = let l = c .before .before .before .before .before .before .before .before .loop in let b = composition (c .before .before .before .before .before .before .before .before .before .before .before .before .before .before .before .before .before .args .wrapper) (c .before .before .before .before .before .before .before .before .before .before .before .before .before .before .before .before .before .args .nodes1 .now) (c .before .before .before .before .before .before .before .before .before .before .before .before .before .before .before .before .before .args .pool1 .now) (c .before .before .before .before .before .before .before .before .before .before .before .before .before .before .before .before .before .args .nodes2 .now) (c .before .before .before .before .before .before .before .before .before .before .before .before .before .before .before .before .before .args .pool2 .now) in let r = c .before .before .before .before .before .before .asked-at .result in let y = asked (r .kind) (r .side) (r .i) (r .j) _ in let z = asked-at (c .before .before .before .before .before .before .before .before .before .before .before .before .before .before .before .before .before .args .steps .now) (c .before .before .before .before .before .before .before .before .loop .p) (r .kind) (r .side) (r .i) (r .j) _ (c .before .before .before .before .before .before .asked-at .ensures .0) (c .before .before .before .before .before .before .asked-at .ensures .1) (c .before .before .before .before .before .before .asked-at .ensures .2) (c .before .before .before .before .before .before .asked-at .ensures .3) (c .before .before .before .before .before .value-at .ensures) in let t = joined (c .before .before .before .before .before .before .before .before .loop .one) (c .before .before .before .before .before .before .before .before .loop .two) in let f = l .inv .1 in let e = l .inv .2 .ready in let on = run-on (l .inv .2) (c .before .before .before .before .before .before .before .loop-test .taken) (l .inv .0) _ z (joined (c .before .if1 .one) (c .before .if1 .two)) in let g = ⊎-elim (λ q. on (joined _ _) (same-joined (q .9) (q .10)) _ (first-given b t f e _ _ (q .0 .taken) (q .1 .ensures (r .side))) (q .5 .ensures .0) (first-after b t f e _ _ (q .0 .taken) (q .1 .ensures (r .side))) (first-fits b t f e _ _ (q .0 .taken) (q .1 .ensures (r .side))) _ _ (q .8 ∙ q .5 .ensures .1) (c .next-place .ensures)) (⊎-elim (λ q. let s2 = sym (q .1 .ensures) ∙ q .2 .taken in on (joined _ _) (same-joined (q .12) (q .13)) _ (second-given b t f e _ _ (q .0 .left) s2 (q .4 .ensures (r .side))) (q .8 .ensures .0) (second-after b t f e _ _ (q .0 .left) s2 (q .4 .ensures (r .side))) (second-fits b t f e _ _ (q .0 .left) s2 (q .4 .ensures (r .side))) _ _ (q .11 ∙ q .8 .ensures .1) (c .next-place .ensures)) (λ q. let s2 = sym (q .1 .ensures) ∙ q .2 .left in on t (same-joined (q .9) (q .10)) _ (none-given b t f e y (q .0 .left) s2 _ (q .4 .ensures .words)) (q .5 .ensures .0) (none-after b t f e y (q .0 .left) s2) f _ _ (q .8 ∙ q .5 .ensures .1) (c .next-place .ensures))) (c .before .if1 .came) in (l .inv .0, g .0, g .1)
 
--- src/running.rt:170:1
 same-length : tie.Need-same-length Inv-loop μ-loop
 same-length c = c .before .loop .inv .2 .size
 
--- src/running.rt:170:1
 returns : tie.Need-returns Inv-loop μ-loop
-returns c = let l = c .before .loop in run-end (l .inv .2) (c .loop-test .left) (l .inv .0)
+returns c = run-end (c .before .loop .inv .2) (c .loop-test .left) (c .before .loop .inv .0)
 
 pub run-loaded-spec : {M : Type 1} → statement M
 run-loaded-spec =
@@ -70,9 +75,15 @@ run-loaded-spec =
     Inv-loop
     μ-loop
     loop-holds
-    step-at-requires
-    words-of-requires
-    put-requires
+    asked-at-requires
+    value-at-requires
+    own-step-requires
+    put-answer-requires
+    is-second-requires
+    second-step-requires
+    put-answer-requires-2
+    none-requires
+    put-answer-requires-3
     next-place-requires
     add-k
     loop-less

@@ -1,41 +1,38 @@
-use mathlib.Core.Path.{_≡_, refl, sym, ap, _∙_}
+use mathlib.Core.Path.{sym, _∙_}
 use Rattle.interpreter.specs.Loading.{composition}
 use Rattle.dispatch.specs.Stepping.{asked}
-use Rattle.interpreter.proofs.AnswerLaws.{step-short, own-one, own-second, shelf-one, step-one, step-two, step-filter, step-other}
-use borrow.Author.Needs.{needs}
+use Rattle.interpreter.proofs.AnswerLaws.{step-short, own-one, own-second, shelf-one, step-first, step-second, step-none}
 use native.Mathlib.Omega.{arith}
+use borrow.Author.Needs.{needs}
 use Rattle.interpreter.proofs.whole.step_unchecked.Statement.{statement}
 use Rattle.interpreter.proofs.whole.step_unchecked.Tie as tie
 
 own-step-requires : tie.Need-own-step-requires
-own-step-requires c κs = let x = c .before .before .before .before .before .before .before .before .before .before in let b = composition (x .args .wrapper) (x .args .nodes1 .now) (x .args .pool1 .now) (x .args .nodes2 .now) (x .args .pool2 .now) in let a = x .args in let p = x .pre in let y = asked (a .kind) (a .side) (a .i) (a .j) (a .words .now) in own-one b (a .s) (p .0) (p .1)
+own-step-requires c κs = let a = c .before .before .before .before .before .before .before .before .before .before .args in let p = c .before .before .before .before .before .before .before .before .before .before .pre in own-one (composition (c .before .before .before .before .before .before .before .before .before .before .args .wrapper) (c .before .before .before .before .before .before .before .before .before .before .args .nodes1 .now) (c .before .before .before .before .before .before .before .before .before .before .args .pool1 .now) (c .before .before .before .before .before .before .before .before .before .before .args .nodes2 .now) (c .before .before .before .before .before .before .before .before .before .before .args .pool2 .now)) (a .s) (p .0) (p .1)
 
 put-back-requires : tie.Need-put-back-requires
-put-back-requires c κs = let x = c .before .before .before .before .before .before .before .before .before .before .before in let b = composition (x .args .wrapper) (x .args .nodes1 .now) (x .args .pool1 .now) (x .args .nodes2 .now) (x .args .pool2 .now) in let a = x .args in let p = x .pre in let y = asked (a .kind) (a .side) (a .i) (a .j) (a .words .now) in (step-short _ _ _ (c .own-step .ensures (a .side)), p .0)
+put-back-requires c κs = step-short _ _ _ (c .own-step .ensures (c .before .before .before .before .before .before .before .before .before .before .before .args .side))
 
 returns : tie.Need-returns
-returns c = let x = c .before .before .before .before .before .before .before .before .before .before .before .before in let b = composition (x .args .wrapper) (x .args .nodes1 .now) (x .args .pool1 .now) (x .args .nodes2 .now) (x .args .pool2 .now) in let a = x .args in let p = x .pre in let y = asked (a .kind) (a .side) (a .i) (a .j) (a .words .now) in step-one b (a .s) (p .0) (p .1) y _ (c .before .before .if1 .taken) (c .put-back .ensures _ (c .before .own-step .ensures (a .side)))
+returns c = let a = c .before .before .before .before .before .before .before .before .before .before .before .before .args in let b = composition (c .before .before .before .before .before .before .before .before .before .before .before .before .args .wrapper) (c .before .before .before .before .before .before .before .before .before .before .before .before .args .nodes1 .now) (c .before .before .before .before .before .before .before .before .before .before .before .before .args .pool1 .now) (c .before .before .before .before .before .before .before .before .before .before .before .before .args .nodes2 .now) (c .before .before .before .before .before .before .before .before .before .before .before .before .args .pool2 .now) in let y = asked (a .kind) (a .side) (a .i) (a .j) (a .words .now) in let p = c .before .before .before .before .before .before .before .before .before .before .before .before .pre in step-first b (a .s) (p .0) (p .1) y _ _ (c .before .before .if1 .taken) (c .before .own-step .ensures (a .side)) (c .put-back .ensures)
+
+is-second-requires : tie.Need-is-second-requires
+is-second-requires c κs = search needs
 
 second-step-requires : tie.Need-second-step-requires
-second-step-requires c κs = let x = c .before .before .before .before .before .before .before .before .before .before .before .before .before in let b = composition (x .args .wrapper) (x .args .nodes1 .now) (x .args .pool1 .now) (x .args .nodes2 .now) (x .args .pool2 .now) in let a = x .args in let p = x .pre in let y = asked (a .kind) (a .side) (a .i) (a .j) (a .words .now) in (own-second b (a .s) (p .0) (p .1) (c .before .if3 .taken), shelf-one b (a .s) (p .0) (p .1))
+second-step-requires c κs = let a = c .before .before .before .before .before .before .before .before .before .before .before .before .before .args in let p = c .before .before .before .before .before .before .before .before .before .before .before .before .before .pre in let b = composition (c .before .before .before .before .before .before .before .before .before .before .before .before .before .args .wrapper) (c .before .before .before .before .before .before .before .before .before .before .before .before .before .args .nodes1 .now) (c .before .before .before .before .before .before .before .before .before .before .before .before .before .args .pool1 .now) (c .before .before .before .before .before .before .before .before .before .before .before .before .before .args .nodes2 .now) (c .before .before .before .before .before .before .before .before .before .before .before .before .before .args .pool2 .now) in (own-second b (a .s) (p .0) (p .1) (a .side) (sym (c .before .before .is-second .ensures) ∙ c .before .if2 .taken), shelf-one b (a .s) (p .0) (p .1))
 
 put-back-requires-2 : tie.Need-put-back-requires-2
-put-back-requires-2 c κs = let x = c .before .before .before .before .before .before .before .before .before .before .before .before .before .before in let b = composition (x .args .wrapper) (x .args .nodes1 .now) (x .args .pool1 .now) (x .args .nodes2 .now) (x .args .pool2 .now) in let a = x .args in let p = x .pre in let y = asked (a .kind) (a .side) (a .i) (a .j) (a .words .now) in (step-short _ _ _ (c .second-step .ensures (a .side)), p .0)
+put-back-requires-2 c κs = step-short _ _ _ (c .second-step .ensures (c .before .before .before .before .before .before .before .before .before .before .before .before .before .before .args .side))
 
 returns-2 : tie.Need-returns-2
-returns-2 c = let x = c .before .before .before .before .before .before .before .before .before .before .before .before .before .before .before in let b = composition (x .args .wrapper) (x .args .nodes1 .now) (x .args .pool1 .now) (x .args .nodes2 .now) (x .args .pool2 .now) in let a = x .args in let p = x .pre in let y = asked (a .kind) (a .side) (a .i) (a .j) (a .words .now) in step-two b (a .s) (p .0) (p .1) y _ (c .before .before .before .before .if2 .taken) (c .before .before .before .if3 .taken) (c .put-back2 .ensures _ (c .before .second-step .ensures (a .side)))
+returns-2 c = let a = c .before .before .before .before .before .before .before .before .before .before .before .before .before .before .before .args in let b = composition (c .before .before .before .before .before .before .before .before .before .before .before .before .before .before .before .args .wrapper) (c .before .before .before .before .before .before .before .before .before .before .before .before .before .before .before .args .nodes1 .now) (c .before .before .before .before .before .before .before .before .before .before .before .before .before .before .before .args .pool1 .now) (c .before .before .before .before .before .before .before .before .before .before .before .before .before .before .before .args .nodes2 .now) (c .before .before .before .before .before .before .before .before .before .before .before .before .before .before .before .args .pool2 .now) in let y = asked (a .kind) (a .side) (a .i) (a .j) (a .words .now) in let p = c .before .before .before .before .before .before .before .before .before .before .before .before .before .before .before .pre in step-second b (a .s) (p .0) (p .1) y _ _ (c .before .before .before .before .before .if1 .left) (sym (c .before .before .before .before .is-second .ensures) ∙ c .before .before .before .if2 .taken) (c .before .second-step .ensures (a .side)) (c .put-back2 .ensures)
 
 refused-requires : tie.Need-refused-requires
 refused-requires c κs = search needs
 
 returns-3 : tie.Need-returns-3
-returns-3 c = let x = c .before .before .before .before .before .before .before .before .before .before .before .before .before in let b = composition (x .args .wrapper) (x .args .nodes1 .now) (x .args .pool1 .now) (x .args .nodes2 .now) (x .args .pool2 .now) in let a = x .args in let p = x .pre in let y = asked (a .kind) (a .side) (a .i) (a .j) (a .words .now) in step-filter b (a .s) (p .0) (p .1) y _ (c .before .before .if2 .taken) (c .before .if3 .left) (c .refused .ensures)
-
-refused-requires-2 : tie.Need-refused-requires-2
-refused-requires-2 c κs = search needs
-
-returns-4 : tie.Need-returns-4
-returns-4 c = let x = c .before .before .before .before .before .before .before .before .before .before .before .before in let b = composition (x .args .wrapper) (x .args .nodes1 .now) (x .args .pool1 .now) (x .args .nodes2 .now) (x .args .pool2 .now) in let a = x .args in let p = x .pre in let y = asked (a .kind) (a .side) (a .i) (a .j) (a .words .now) in step-other b (a .s) (p .0) (p .1) y _ (c .before .before .if1 .left) (c .before .if2 .left) (c .refused2 .ensures)
+returns-3 c = let a = c .before .before .before .before .before .before .before .before .before .before .before .before .before .args in let b = composition (c .before .before .before .before .before .before .before .before .before .before .before .before .before .args .wrapper) (c .before .before .before .before .before .before .before .before .before .before .before .before .before .args .nodes1 .now) (c .before .before .before .before .before .before .before .before .before .before .before .before .before .args .pool1 .now) (c .before .before .before .before .before .before .before .before .before .before .before .before .before .args .nodes2 .now) (c .before .before .before .before .before .before .before .before .before .before .before .before .before .args .pool2 .now) in let y = asked (a .kind) (a .side) (a .i) (a .j) (a .words .now) in let p = c .before .before .before .before .before .before .before .before .before .before .before .before .before .pre in step-none b (a .s) (p .0) (p .1) y _ (c .before .before .before .if1 .left) (sym (c .before .before .is-second .ensures) ∙ c .before .if2 .left) (c .refused .ensures)
 
 pub step-unchecked-spec : {M : Type 1} → statement M
 step-unchecked-spec =
@@ -44,10 +41,9 @@ step-unchecked-spec =
     own-step-requires
     put-back-requires
     returns
+    is-second-requires
     second-step-requires
     put-back-requires-2
     returns-2
     refused-requires
-    returns-3
-    refused-requires-2
-    returns-4)
+    returns-3)

@@ -3,7 +3,7 @@ use Rattle.sides.proofs.Lists.{unmap}
 use Rattle.sides.specs.Views.{viewCore}
 use Rattle.model.specs.Step.{leave, settled}
 use Rattle.steps.specs.Asked.{LeaveAt}
-use Rattle.steps.proofs.Held.{Full, lobby-cap, offer-at, offer-refused}
+use Rattle.steps.proofs.Held.{Full, lobby-cap, message-short, offer-at, offer-refused}
 use Rattle.steps.proofs.LobbySteps.{leave-did}
 use native.Mathlib.Omega.{arith}
 use borrow.Author.Needs.{needs}
@@ -29,22 +29,28 @@ plain-requires : tie.Need-plain-requires
 plain-requires c κs = search needs
 
 returns : tie.Need-returns
-returns c = let x = c .before .before .before .before .before in let o = x .args .o in let i = x .args .i in offer-refused (settled (leave (viewCore o) i)) i (LeaveAt o) (c .before .before .before .before .leave-offer .result) (c .before .before .before .before .leave-offer .ensures) _ (c .before .number .result) o _ (c .before .before .enum-told .given .1) (c .before .number .ensures) (c .plain .ensures)
+returns c = let o = c .before .before .before .before .before .args .o in let i = c .before .before .before .before .before .args .i in offer-refused (settled (leave (viewCore o) i)) i (LeaveAt o) (c .before .before .before .before .leave-offer .result) (c .before .before .before .before .leave-offer .ensures) _ (c .before .number .result) o _ (c .before .before .enum-told .given .1) (c .before .number .ensures) (c .plain .ensures)
 
 mul-m : tie.Need-mul-m
-mul-m c = let x = c .before .before .before .before .before in let o = x .args .o in let i = x .args .i in let w = offer-at (settled (leave (viewCore o) i)) i (LeaveAt o) (c .before .before .before .before .leave-offer .result) (c .before .before .before .before .leave-offer .ensures) _ (c .before .before .a .given .1) in omega (arith, w .1 .held, lobby-cap o (x .pre) (full x))
+mul-m c = let o = c .before .before .before .before .before .args .o in let i = c .before .before .before .before .before .args .i in let w = offer-at (settled (leave (viewCore o) i)) i (LeaveAt o) (c .before .before .before .before .leave-offer .result) (c .before .before .before .before .leave-offer .ensures) _ (c .before .before .a .given .1) in omega (arith, w .1 .held, lobby-cap o (c .before .before .before .before .before .pre) (full (c .before .before .before .before .before)))
 
 element-copy-out-m : tie.Need-element-copy-out-m
-element-copy-out-m c = let x = c .before .before .before .before .before in let o = x .args .o in let i = x .args .i in let w = offer-at (settled (leave (viewCore o) i)) i (LeaveAt o) (c .before .before .before .before .leave-offer .result) (c .before .before .before .before .leave-offer .ensures) _ (c .before .before .a .given .1) in omega (arith, w .1 .held, lobby-cap o (x .pre) (full x))
+element-copy-out-m c = let o = c .before .before .before .before .before .args .o in let i = c .before .before .before .before .before .args .i in let w = offer-at (settled (leave (viewCore o) i)) i (LeaveAt o) (c .before .before .before .before .leave-offer .result) (c .before .before .before .before .leave-offer .ensures) _ (c .before .before .a .given .1) in omega (arith, w .1 .held, lobby-cap o (c .before .before .before .before .before .pre) (full (c .before .before .before .before .before)))
+
+marked-all-requires : tie.Need-marked-all-requires
+marked-all-requires c κs = let o = c .before .before .before .before .before .before .before .before .args .o in let i = c .before .before .before .before .before .before .before .before .args .i in let w = offer-at (settled (leave (viewCore o) i)) i (LeaveAt o) (c .before .before .before .before .before .before .before .leave-offer .result) (c .before .before .before .before .before .before .before .leave-offer .ensures) _ (c .before .before .before .before .before .a .given .1) in message-short o (c .before .before .before .before .before .before .before .before .pre) (full (c .before .before .before .before .before .before .before .before)) _ _ (w .1 .held)
 
 without-requires : tie.Need-without-requires
-without-requires c κs = let x = c .before .before .before .before .before .before .before in let o = x .args .o in let i = x .args .i in let w = offer-at (settled (leave (viewCore o) i)) i (LeaveAt o) (c .before .before .before .before .before .before .leave-offer .result) (c .before .before .before .before .before .before .leave-offer .ensures) _ (c .before .before .before .before .a .given .1) in (w .1 .held, lobby-cap o (x .pre) (full x))
+without-requires c κs = let o = c .before .before .before .before .before .before .before .before .before .before .args .o in let i = c .before .before .before .before .before .before .before .before .before .before .args .i in let w = offer-at (settled (leave (viewCore o) i)) i (LeaveAt o) (c .before .before .before .before .before .before .before .before .before .leave-offer .result) (c .before .before .before .before .before .before .before .before .before .leave-offer .ensures) _ (c .before .before .before .before .before .before .before .a .given .1) in (w .1 .held, lobby-cap o (c .before .before .before .before .before .before .before .before .before .before .pre) (full (c .before .before .before .before .before .before .before .before .before .before)))
 
 with-lobby-requires : tie.Need-with-lobby-requires
 with-lobby-requires c κs = search needs
 
+with-left-requires : tie.Need-with-left-requires
+with-left-requires c κs = search needs
+
 returns-2 : tie.Need-returns-2
-returns-2 c = let x = c .before .before .before .before .before .before .before .before .before in let o = x .args .o in let i = x .args .i in let w = offer-at (settled (leave (viewCore o) i)) i (LeaveAt o) (c .before .before .before .before .before .before .before .before .leave-offer .result) (c .before .before .before .before .before .before .before .before .leave-offer .ensures) _ (c .before .before .before .before .before .before .a .given .1) in leave-did o i _ (w .0) (x .pre) (full x) _ _ (c .before .without .result) (c .with-lobby .result) _ (w .1) (c .before .without .ensures) (c .with-lobby .ensures) refl
+returns-2 c = let o = c .before .before .before .before .before .before .before .before .before .before .before .before .before .args .o in let i = c .before .before .before .before .before .before .before .before .before .before .before .before .before .args .i in let w = offer-at (settled (leave (viewCore o) i)) i (LeaveAt o) (c .before .before .before .before .before .before .before .before .before .before .before .before .leave-offer .result) (c .before .before .before .before .before .before .before .before .before .before .before .before .leave-offer .ensures) _ (c .before .before .before .before .before .before .before .before .before .before .a .given .1) in leave-did o i _ (w .0) (c .before .before .before .before .before .before .before .before .before .before .before .before .before .pre) (full (c .before .before .before .before .before .before .before .before .before .before .before .before .before)) _ _ (c .before .before .without .result) (c .before .with-lobby .result) (c .with-left .result) _ (c .before .before .before .before .marked-all .result .left) (w .1) (c .before .before .without .ensures) (c .before .before .before .before .marked-all .ensures) (c .before .with-lobby .ensures) (c .with-left .ensures) refl
 
 pub leave-spec : {M : Type 1} → statement M
 leave-spec =
@@ -58,6 +64,8 @@ leave-spec =
     returns
     mul-m
     element-copy-out-m
+    marked-all-requires
     without-requires
     with-lobby-requires
+    with-left-requires
     returns-2)
