@@ -194,8 +194,8 @@ module _ (b : Composition) (s : State) (f : fitsArrays s ≡ true) (e : ready b 
 
   -- no such side: 10, and nothing is changed
   module _ (x : Step) (p : x .side ≡ 1 → ⊥) (q : eqb (x .side) 2 && isPipeline b ≡ false) where
-    pub none-given : (l : List ℕ) → l ≡ [] → givenFor (said.Refused 10) (x .side) l ≡ given (step b (viewState s) x .answer)
-    none-given l z = ap (givenFor (said.Refused 10) (x .side)) z ∙ ap (λ (y : Result). given (y .answer)) (sym (none-asked b (viewState s) x e p q))
+    pub none-given : (n : ℕ) (l : List ℕ) → n ≡ x .side → l ≡ [] → givenFor (said.Refused 10) n l ≡ given (step b (viewState s) x .answer)
+    none-given n l i z = ap (λ (m : ℕ). givenFor (said.Refused 10) m l) i ∙ ap (givenFor (said.Refused 10) (x .side)) z ∙ ap (λ (y : Result). given (y .answer)) (sym (none-asked b (viewState s) x e p q))
 
     pub none-after : viewState s ≡ step b (viewState s) x .after
     none-after = ap (λ (y : Result). y .after) (sym (none-asked b (viewState s) x e p q))

@@ -1,4 +1,3 @@
 pub mod LoadLaws
 pub mod AnswerLaws
 pub mod FindLaws
-pub mod RunLaws

@@ -1,16 +1,16 @@
-// Load, the eight steps, a run of many and the question `stranded`: the exported functions. Nothing is asked of what they are lent or given.
+// Load, the eight steps and the question `stranded`: the exported functions. Nothing is asked of what they are lent or given.
 use sides::State;
 use steps::Said;
 use values::Value;
 
 mod loading; // load
 mod lost; // stranded
-mod running; // a run of many steps
 mod whole; // a step of the whole state
 
 pub use loading::load;
 pub use lost::stranded;
-pub use running::run;
+pub use whole::is_second;
+pub use whole::padded;
 pub use whole::step;
 
 // What load says: ok, or number, side and node of a refusal.
@@ -36,13 +36,4 @@ pub struct Stepped {
     pub side: u32,
     pub value: Value,
     pub state: State,
-}
-
-// What a run comes to: how many answers are written, load's refusal, or that the steps break off, or the lent words are too
-// few.
-pub enum Ran {
-    Done(usize),
-    Refused(usize, u32, usize),
-    BrokenOff,
-    TooShort,
 }

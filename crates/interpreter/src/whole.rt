@@ -26,7 +26,7 @@ use values::Value;
 use wellformed::whole::well_formed;
 
 // A value with zeros past its length.
-pub(crate) fn padded(v: Value) -> Value
+pub fn padded(v: Value) -> Value
     requires { ⌜ v .len ≤ 16 ⌝ }
     ensures { λ r. ⌜ Padded (viewValue v) r ⌝ }
 {
@@ -73,7 +73,7 @@ fn refused(s: State, side: u32) -> Stepped
 }
 
 // Whether side 2 is asked, and is there.
-pub(crate) fn is_second(wrapper: u32, side: u32) -> bool
+pub fn is_second(wrapper: u32, side: u32) -> bool
     ensures { λ r. ⌜ r ≡ eqb side 2 && eqb wrapper 2 ⌝ }
 {
     if side == 2 { wrapper == 2 } else { false }

@@ -2,7 +2,7 @@
 // step. The lent words are 7 before. Last, what trial B strands.
 mod stranded; // trial B
 
-use interpreter::run;
+use running::run;
 use schedules::shown::number;
 use schedules::shown::outcome;
 use schedules::shown::write;

@@ -1,5 +1,5 @@
 // Writes what a run comes to, and a line for each answer: name, index, label (with a refusal's number), side and value words.
-use interpreter::Ran;
+use running::Ran;
 
 pub fn write(text: &[u8]) {
     io::write_all(1, text);

@@ -3,7 +3,7 @@ use crate::shown::lines;
 use crate::shown::outcome;
 use crate::shown::write;
 use crate::shown::written;
-use interpreter::run;
+use running::run;
 
 // A run under a wrapper, with lines for the answers before one index and from another on.
 fn wrapped(

@@ -26,10 +26,10 @@ use Rattle.reading.specs.Lists.{Lists, Filled, Holds, ReadAs, ReadIs}
 use Rattle.reading.specs.declared.Places.{Places}
 use Rattle.reading.specs.declared.Reading.{Reading}
 use Rattle.reading.specs.declared.Reading.the-variants as answer
-use Rattle.interpreter.specs.declared.Ran.{Ran}
-use Rattle.interpreter.specs.declared.Ran.the-variants as ran
+use Rattle.running.specs.declared.Ran.{Ran}
+use Rattle.running.specs.declared.Ran.the-variants as ran
 use Rattle.interpreter.specs.Loading.{composition}
-use Rattle.interpreter.specs.Running.{RunIs, ranOf, answersIn}
+use Rattle.running.specs.Running.{RunIs, ranOf, answersIn}
 use Rattle.text.specs.Text.{Given, OnPage, writtenOf, bufferAfter, TextIs}
 use Rattle.text.specs.declared.Written.{Written}
 use Rattle.text.specs.declared.Written.the-variants.{Bytes, TooShort}

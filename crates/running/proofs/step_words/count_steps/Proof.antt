@@ -2,15 +2,12 @@ use mathlib.Core.Path.{_≡_, refl}
 use Prim.Native.Nat.{_-_, _≤_}
 use lib.ListN.{length, drop}
 use Rattle.format.specs.Words.{stepsOf}
-use Rattle.interpreter.specs.Running.{countOf}
-use Rattle.interpreter.proofs.RunLaws.{plus, plus-none, count-next, count-short, count-cut, count-end}
+use Rattle.running.specs.Running.{countOf}
+use Rattle.running.proofs.RunLaws.{plus, plus-none, count-next, count-short, count-cut, count-end}
 use borrow.Author.Needs.{needs}
 use native.Mathlib.Omega.{arith}
-use Rattle.interpreter.proofs.running.count_steps.Statement.{statement}
-use Rattle.interpreter.proofs.running.count_steps.Tie as tie
-use Rattle.interpreter.proofs.running.count_steps.Reads as reads
-use Rattle.interpreter.proofs.running.count_steps.Lts as lts
-use Rattle.interpreter.proofs.running.wide.Reads as wide-reads
+use Rattle.running.proofs.step_words.count_steps.Statement.{statement}
+use Rattle.running.proofs.step_words.count_steps.Tie as tie
 
 abbrev Inv-loop : tie.InvT-loop
 Inv-loop steps len p₀ n₀ p n = (len ≡ length steps) × (p ≤ len) × (n ≤ p) × (countOf (stepsOf steps) ≡ plus n (countOf (stepsOf (drop p steps))))

@@ -8,11 +8,11 @@ use Rattle.model.specs.Step.{Step}
 use Rattle.format.specs.Words.{brokenOff, tooShort, unloaded, answered, givenWords, writtenBy, onto}
 use Rattle.format.specs.Words.{Ran as FRan}
 use Rattle.steps.specs.declared.Said.{Said}
 use Rattle.interpreter.specs.Answers.{saidOf}
-use Rattle.interpreter.specs.declared.running.Counted.{Counted}
-use Rattle.interpreter.specs.declared.running.Counted.the-variants as counted
-use Rattle.interpreter.specs.declared.Ran.{Ran}
-use Rattle.interpreter.specs.declared.Ran.the-variants as ran
+use Rattle.running.specs.declared.step_words.Counted.{Counted}
+use Rattle.running.specs.declared.step_words.Counted.the-variants as counted
+use Rattle.running.specs.declared.Ran.{Ran}
+use Rattle.running.specs.declared.Ran.the-variants as ran
 
 -- how many steps there are; none where the list breaks off
 abbrev pub countOf : Option (List Step) → Option ℕ

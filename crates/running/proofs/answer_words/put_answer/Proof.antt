@@ -5,10 +5,10 @@ use lib.ListN.{length, length-take}
 use lib.Seq.{paste}
 use native.Mathlib.Omega.{arith}
 use Rattle.values.specs.Env.{viewValue}
-use Rattle.interpreter.proofs.RunLaws.{answer-words}
+use Rattle.running.proofs.RunLaws.{answer-words}
 use borrow.Author.Needs.{needs}
-use Rattle.interpreter.proofs.running.put_answer.Statement.{statement}
-use Rattle.interpreter.proofs.running.put_answer.Tie as tie
+use Rattle.running.proofs.answer_words.put_answer.Statement.{statement}
+use Rattle.running.proofs.answer_words.put_answer.Tie as tie
 
 padded-requires : tie.Need-padded-requires
 padded-requires c κs = search needs

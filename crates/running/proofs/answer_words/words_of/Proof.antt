@@ -2,16 +2,11 @@ use mathlib.Core.Path.{_≡_, refl, sym, ap, _∙_}
 use Prim.Native.Nat.{_-_, _+_, _≤_}
 use lib.ListN.{length, set, replicate}
 use lib.Seq.{paste, paste-zero}
-use Rattle.interpreter.proofs.RunLaws.{copy-next, copy-all, words-made}
+use Rattle.running.proofs.RunLaws.{copy-next, copy-all, words-made}
 use borrow.Author.Needs.{needs}
 use native.Mathlib.Omega.{arith}
-use Rattle.interpreter.proofs.running.words_of.Statement.{statement}
-use Rattle.interpreter.proofs.running.words_of.Tie as tie
-use Rattle.interpreter.proofs.running.words_of.Reads as reads
-use Rattle.interpreter.proofs.running.words_of.Lts as lts
-use Rattle.interpreter.proofs.running.label_word.Reads as label-word-reads
-use Rattle.interpreter.proofs.running.narrow.Reads as narrow-reads
-use Rattle.interpreter.proofs.running.number_word.Reads as number-word-reads
+use Rattle.running.proofs.answer_words.words_of.Statement.{statement}
+use Rattle.running.proofs.answer_words.words_of.Tie as tie
 
 abbrev Inv-loop : tie.InvT-loop
 Inv-loop side v of₀ k₀ of k = (k ≤ 16) × (length of₀ ≡ 20) × (of ≡ paste of₀ 4 (v .words) k) × (length of ≡ 20)

@@ -3,18 +3,13 @@ use mathlib.Core.Option.{some}
 use Prim.Native.Nat.{_-_, _+_, _*_, _≤_, _<_}
 use lib.ListN.{length}
 use Rattle.format.specs.Words.{stepsOf}
 use Rattle.interpreter.specs.Loading.{composition}
-use Rattle.interpreter.specs.Running.{countOf, countedOf}
-use Rattle.interpreter.proofs.RunLaws.{has-steps, has-room, run-broken, run-short, run-refused, run-done, begun}
+use Rattle.running.specs.Running.{countOf, countedOf}
+use Rattle.running.proofs.RunLaws.{has-steps, has-room, run-broken, run-short, run-refused, run-done, begun}
 use borrow.Author.Needs.{needs}
 use native.Mathlib.Omega.{arith}
-use Rattle.interpreter.proofs.running.run.Statement.{statement}
-use Rattle.interpreter.proofs.running.run.Tie as tie
-use Rattle.interpreter.proofs.running.run.Reads as reads
-use Rattle.interpreter.proofs.running.run.Lts as lts
-use Rattle.interpreter.proofs.loading.load.Reads as load-reads
-use Rattle.interpreter.proofs.running.count_steps.Reads as count-steps-reads
-use Rattle.interpreter.proofs.running.run_loaded.Reads as run-loaded-reads
+use Rattle.running.proofs.run.Statement.{statement}
+use Rattle.running.proofs.run.Tie as tie
 
 -- src/running.rt:212:9
 count-steps-requires : tie.Need-count-steps-requires

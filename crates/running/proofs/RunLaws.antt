@@ -1,18 +1,18 @@
 -- A run by words.
 use mathlib.Core.Path.{_≡_, refl, sym, ap, subst, _∙_}
-use mathlib.Core.Bool.{Bool, true, false}
+use mathlib.Core.Bool.{Bool, true, false, _&&_}
 use mathlib.Core.List.{List, [], _∷_, _++_, append-nil, append-assoc}
 use mathlib.Core.Option.{Option, none, some}
 use Prim.Native.Nat.{ℕ, zero, suc, _+_, _-_, _*_, _/_, _<_, _≤_}
 use native.Mathlib.Omega.{arith}
 use native.Mathlib.Numerals.{add-one}
 use borrow.Author.Tests.{lt-ltb, le-ltb}
-use lib.Dec.{ltb}
+use lib.Dec.{eqb, ltb}
 use lib.ListN.{length, getD, take, drop, set, replicate, length-append, take-append-drop}
 use lib.Seq.{paste, take-all, length-take-le, drop-drop, paste-suc, length-paste, take-paste, drop-paste}
 use Rattle.model.specs.Basics.{choose}
 use Rattle.model.specs.Side.{State as MState}
-use Rattle.model.specs.Load.{Composition, Refused, Loaded, refused, ok, load}
+use Rattle.model.specs.Load.{Composition, isPipeline, Refused, Loaded, refused, ok, load}
 use Rattle.model.specs.WellFormed.{ready}
 use Rattle.model.specs.Step.{Step, Result, step}
 use Rattle.model.proofs.Invariant.{keeps}
@@ -28,14 +28,14 @@ use Rattle.sides.specs.declared.Side.{Side}
 use Rattle.sides.specs.declared.State.{State}
 use Rattle.sides.specs.Views.{viewState, stateOf, fitsArrays}
 use Rattle.sides.proofs.Sides.{state-some, state-none}
 use Rattle.interpreter.specs.declared.Outcome.the-variants as outcome
 use Rattle.interpreter.specs.declared.LoadAnswer.{LoadAnswer}
-use Rattle.interpreter.specs.declared.Ran.{Ran}
-use Rattle.interpreter.specs.declared.Ran.the-variants as ran
+use Rattle.running.specs.declared.Ran.{Ran}
+use Rattle.running.specs.declared.Ran.the-variants as ran
 use Rattle.interpreter.specs.Loading.{outcomeOf, stateLoaded, LoadIs}
 use Rattle.dispatch.specs.Stepping.{asked}
 use Rattle.interpreter.specs.Answers.{saidOf, givenFor}
-use Rattle.interpreter.specs.Running.{countOf, wordsIn, Put, RunIs}
+use Rattle.running.specs.Running.{countOf, wordsIn, Put, RunIs}
 
 -- HOW MANY STEPS
 -- n steps before a count
@@ -180,12 +180,9 @@ module _ {b : Composition} {s : MState} {l lent : List ℕ} {n k p : ℕ} {t : M
       }
 
   -- the same by the structs: u is the state of the two sides after the step
-  pub run-on : k < n → 20 * n ≤ length lent → (x : Step) → x ≡ stepAt l p → (v u : State) → v ≡ u → (g : Given) → g ≡ given (step b t x .answer) → length (givenWords g) ≡ 20 → viewState u ≡ step b t x .after → fitsArrays u ≡ true →
+  pub run-on : k < n → 20 * n ≤ length lent → (v u : State) → v ≡ u → (g : Given) → g ≡ given (step b t (stepAt l p) .answer) → length (givenWords g) ≡ 20 → viewState u ≡ step b t (stepAt l p) .after → fitsArrays u ≡ true →
       (new : List ℕ) (place : ℕ) → new ≡ paste out (20 * k) (givenWords g) 20 → place ≡ p + 5 + getD l (p + 4) 0 → (fitsArrays v ≡ true) × Running b s l lent n (k + 1) place (viewState v) new
-  run-on lt room x z v u q g e len after fits new place put at = (
-    ap fitsArrays q ∙ fits,
-    run-more lt room (viewState v) (givenWords g) new place (ap givenWords (e ∙ ap (λ (y : Step). given (step b t y .answer)) z)) len (ap viewState q ∙ after ∙ ap (λ (y : Step). step b t y .after) z) put at,
-  )
+  run-on lt room v u q g e len after fits new place put at = (ap fitsArrays q ∙ fits, run-more lt room (viewState v) (givenWords g) new place (ap givenWords e) len (ap viewState q ∙ after) put at)
 
   pub run-end : n ≤ k → 20 * n ≤ length lent → (xs : List Step) → stepsOf l ≡ some xs → Put (allAnswerWords (answers b s xs)) n lent out
   unfolding answers
@@ -280,5 +277,12 @@ begun b a h e = by (load b) refl (h .outcome) (h .state)
         record { loads = k; arrays = y .0; ready = starts b (viewState (a .state)) k }
 
 -- the step asked for is the one whose words stand at a place
-pub asked-at : (l : List ℕ) (p k m i j : ℕ) (ws : List ℕ) → k ≡ stepAt l p .kind → m ≡ stepAt l p .side → i ≡ stepAt l p .i → j ≡ stepAt l p .j → ws ≡ stepAt l p .words → asked k m i j ws ≡ stepAt l p
-asked-at l p k m i j ws a e b c d = rw (a, e, b, c, d)
+pub asked-at : (l : List ℕ) (p k i j : ℕ) (ws : List ℕ) → k ≡ stepAt l p .kind → i ≡ stepAt l p .i → j ≡ stepAt l p .j → ws ≡ stepAt l p .words → asked k (stepAt l p .side) i j ws ≡ stepAt l p
+asked-at l p k i j ws a b c d = rw (a, b, c, d)
+
+-- which side is asked, by the word read
+pub not-first : {n m : ℕ} → n ≡ m → (n ≡ 1 → ⊥) → m ≡ 1 → ⊥
+not-first e h z = h (e ∙ z)
+
+pub asked-second : (b : Composition) {n m : ℕ} {r q : Bool} → n ≡ m → r ≡ eqb n 2 && eqb (b .wrapper) 2 → r ≡ q → eqb m 2 && isPipeline b ≡ q
+asked-second b e f g = ap (λ (k : ℕ). eqb k 2 && eqb (b .wrapper) 2) (sym e) ∙ sym f ∙ g

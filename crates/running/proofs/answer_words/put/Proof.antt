@@ -2,13 +2,11 @@ use mathlib.Core.Path.{_≡_, refl, sym, ap, _∙_}
 use Prim.Native.Nat.{_-_, _+_, _*_, _≤_}
 use lib.ListN.{length}
 use lib.Seq.{paste, paste-zero}
-use Rattle.interpreter.proofs.RunLaws.{copy-next, copy-all}
+use Rattle.running.proofs.RunLaws.{copy-next, copy-all}
 use borrow.Author.Needs.{needs}
 use native.Mathlib.Omega.{arith}
-use Rattle.interpreter.proofs.running.put.Statement.{statement}
-use Rattle.interpreter.proofs.running.put.Tie as tie
-use Rattle.interpreter.proofs.running.put.Reads as reads
-use Rattle.interpreter.proofs.running.put.Lts as lts
+use Rattle.running.proofs.answer_words.put.Statement.{statement}
+use Rattle.running.proofs.answer_words.put.Tie as tie
 
 abbrev Inv-loop : tie.InvT-loop
 Inv-loop out₀ i w at k₀ out k = (k ≤ 20) × (length out ≡ length out₀) × (at + 20 ≤ length out₀) × (out ≡ paste out₀ at (w .of) k)

@@ -3,8 +3,8 @@ use Prim.Native.Nat.{ℕ, _+_, _-_}
 use lib.ListN.{getD, take, drop}
 use native.Mathlib.Omega.{arith}
 use borrow.Author.Needs.{needs}
-use Rattle.interpreter.proofs.running.value_at.Statement.{statement}
-use Rattle.interpreter.proofs.running.value_at.Tie as tie
+use Rattle.running.proofs.step_words.value_at.Statement.{statement}
+use Rattle.running.proofs.step_words.value_at.Tie as tie
 
 add-a : tie.Need-add-a
 add-a c = search needs
