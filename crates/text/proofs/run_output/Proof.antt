@@ -9,7 +9,7 @@ use Rattle.text.proofs.run_output.Statement.{statement}
 use Rattle.text.proofs.run_output.Tie as tie
 use Rattle.text.proofs.run_output.Reads as reads
 use Rattle.text.proofs.run_output.Lts as lts
-use Rattle.interpreter.proofs.run.Reads as run-reads
+use Rattle.running.proofs.run.Reads as run-reads
 use Rattle.writing.proofs.answered.Reads as answered-reads
 use Rattle.writing.proofs.fault.Reads as fault-reads
 use Rattle.writing.proofs.refused.Reads as refused-reads
