@@ -37,8 +37,7 @@ pub fn too_long(nodes: &[u32], pool: &[u32], n: usize, e: Env) -> bool
         return too_long(nodes, pool, child(n, x.b, c), f);
     }
     if x.kind == 4 {
-        let v = values::substituted(e, words_at(Leaf::Public, pool, x.c));
-        return 16 < v.len;
+        return values::over_long(e, words_at(Leaf::Public, pool, x.c));
     }
     false
 }

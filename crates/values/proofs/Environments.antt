@@ -5,9 +5,9 @@ use mathlib.Core.List.{List, [], _∷_, _++_, map, append-assoc, append-nil, map
 use Prim.Native.Nat.{ℕ, _+_, _-_, _<_, _≤_}
 use native.Mathlib.Omega.{arith}
 use native.Mathlib.Numerals.{add-one}
-use borrow.Author.Tests.{le-leb, lt-leb, lt-ltb, eq-eqb, ne-eqb, eqb-true, eqb-false}
-use lib.Dec.{eqb}
-use lib.ListN.{length, getD, take, set, length-append, length-take, length-map}
+use borrow.Author.Tests.{le-leb, lt-leb, lt-ltb, le-ltb, eq-eqb, ne-eqb, eqb-true, eqb-false}
+use lib.Dec.{eqb, ltb}
+use lib.ListN.{length, getD, take, drop, set, length-append, length-take, length-map, take-append-drop}
 use lib.Seq.{take-suc, take-suc-set, take-all, length-take-le, getD-set-same, getD-set-other}
 use Rattle.model.specs.Basics.{_&_, choose}
 use Rattle.model.specs.Values.{Env, lookup, value, isPublic, substitute, extend, isNameIn, binders}
@@ -17,7 +17,7 @@ use Rattle.values.specs.declared.Env as dec
 use Rattle.values.specs.declared.Part.{Part}
 use Rattle.values.specs.declared.Bound.{Bound}
 use Rattle.values.specs.Match.{partOf, viewBound}
-use Rattle.values.specs.Env.{viewValue, viewEnv, Stores, tupleOf, firstEight, canExtend, extendedOf, Given}
+use Rattle.values.specs.Env.{viewValue, viewEnv, Stores, standsFor, tupleOf, firstEight, canExtend, extendedOf, Given}
 use Rattle.values.proofs.Lists.{view-push, take-count, push-full, push-fits}
 use Rattle.values.proofs.Words.{left-false, right-false}
 use Rattle.values.proofs.Storing.{val}
@@ -52,7 +52,7 @@ subst-append : (ρ : Env) (a b : List ℕ) → substitute ρ (a ++ b) ≡ substi
 subst-append ρ [] b = refl
 subst-append ρ (w ∷ a) b = rw (subst-append ρ a b, append-assoc)
 
-subst-more : (ρ : Env) (s : List ℕ) (i : ℕ) → i < length s → substitute ρ (take (i + 1) s) ≡ substitute ρ (take i s) ++ cond (isPublic (getD s i 0)) (value ρ (getD s i 0)) (getD s i 0 ∷ [])
+subst-more : (ρ : Env) (s : List ℕ) (i : ℕ) → i < length s → substitute ρ (take (i + 1) s) ≡ substitute ρ (take i s) ++ standsFor ρ (getD s i 0)
 subst-more ρ s i h = rw (add-one, take-suc s i 0 h, subst-append) (ap (λ (x : List ℕ). substitute ρ (take i s) ++ x) (append-nil _))
 
 module _ (ρ : Env) (s : List ℕ) (i : ℕ) (b r : Value) (h : i < length s) (p : Stores (substitute ρ (take i s)) b) where
@@ -65,6 +65,25 @@ module _ (ρ : Env) (s : List ℕ) (i : ℕ) (b r : Value) (h : i < length s) (p
 
 pub subst-all : (ρ : Env) (s : List ℕ) (i : ℕ) (r : Value) → length s ≤ i → Stores (substitute ρ (take i s)) r → Stores (substitute ρ s) r
 subst-all ρ s i r h p = subst (λ (x : List ℕ). Stores (substitute ρ x) r) (take-all i s h) p
+
+-- how long what stands for the words is
+module _ (ρ : Env) (s : List ℕ) (i n m : ℕ) (h : i < length s) (p : n ≡ length (substitute ρ (take i s))) (q : m ≡ length (standsFor ρ (getD s i 0))) where
+  pub size-more : n + m ≡ length (substitute ρ (take (i + 1) s))
+  size-more = ap₂ _+_ p q ∙ sym (length-append (substitute ρ (take i s)) (standsFor ρ (getD s i 0))) ∙ sym (ap length (subst-more ρ s i h))
+
+  pub size-over : 16 < n + m → true ≡ ltb 16 (length (substitute ρ s))
+  size-over lt =
+      let all = ap (λ (x : List ℕ). length (substitute ρ x)) (sym (take-append-drop (i + 1) s)) ∙ ap length (subst-append ρ (take (i + 1) s) (drop (i + 1) s)) ∙ length-append (substitute ρ (take (i + 1) s)) (substitute ρ (drop (i + 1) s)) in
+      sym (lt-ltb 16 (length (substitute ρ s)) (omega (arith, all, size-more)))
+
+pub size-all : (ρ : Env) (s : List ℕ) (i n : ℕ) → length s ≤ i → n ≡ length (substitute ρ (take i s)) → n ≤ 16 → false ≡ ltb 16 (length (substitute ρ s))
+size-all ρ s i n h p le = sym (le-ltb 16 (length (substitute ρ s)) (omega (arith, p, ap (λ (x : List ℕ). length (substitute ρ x)) (take-all i s h))))
+
+pub size-name : (ρ : Env) (w r : ℕ) → w ≤ 63 → r ≡ length (value ρ w) → r ≡ length (standsFor ρ w)
+size-name ρ w r h e = e ∙ sym (ap (λ (b : Bool). length (cond b (value ρ w) (w ∷ []))) (le-leb w 63 h))
+
+pub size-word : (ρ : Env) (w : ℕ) → 63 < w → 1 ≡ length (standsFor ρ w)
+size-word ρ w h = sym (ap (λ (b : Bool). length (cond b (value ρ w) (w ∷ []))) (lt-leb w 63 h))
 
 -- one name more
 abbrev env : List ℕ → List (List ℕ) → Env

@@ -1,12 +1,12 @@
 -- Values and environments as the structs hold them.
 use mathlib.Core.Path.{_≡_}
-use mathlib.Core.Bool.{Bool, not}
-use mathlib.Core.List.{List, map}
+use mathlib.Core.Bool.{Bool, not, cond}
+use mathlib.Core.List.{List, [], _∷_, map}
 use Prim.Native.Nat.{ℕ, _+_, _≤_, min}
 use lib.Dec.{leb, ltb, eqb}
 use lib.ListN.{length, getD, take}
 use Rattle.model.specs.Basics.{_&_, choose}
-use Rattle.model.specs.Values.{Env, extend, binders}
+use Rattle.model.specs.Values.{Env, isPublic, value, extend, binders}
 use Rattle.values.specs.declared.Value.{Value}
 use Rattle.values.specs.declared.Env as dec
 use Rattle.values.specs.declared.Bound.{Bound}
@@ -24,6 +24,10 @@ viewEnv e = record { names = take (e .n) (e .names); vals = map viewValue (take 
 pub record Stores (l : List ℕ) (r : Value) : Type 0 where
   pub count : min 17 (r .len) ≡ min 17 (length l)
   pub words : viewValue r ≡ take 16 l
+
+-- what stands for a word of a table's value, once its bound names are replaced: a name's value, or the word itself
+abbrev pub standsFor : Env → ℕ → List ℕ
+standsFor ρ w = cond (isPublic w) (value ρ w) (w ∷ [])
 
 -- whether a value is a tuple, by its first word
 unfoldable pub tupleOf : List ℕ → Bool

@@ -3,12 +3,13 @@ ghost use mathlib.Core.Path.{_≡_};
 ghost use mathlib.Core.Bool.{true, false};
 ghost use mathlib.Core.List.{List, [], _∷_, _++_};
 ghost use Prim.Native.Nat.{ℕ, _≤_};
+ghost use lib.Dec.{ltb};
 ghost use lib.ListN.{length, take, drop};
 ghost use Rattle.model.specs.Basics.{has};
 ghost use Rattle.model.specs.Values.{isTuple, isMinted, matches, binders, distinct, at, isValue, noNames, value, substitute, extend};
 ghost use Rattle.values.specs.Span.{leafOf, spanOf, endOf, sizeOf};
 ghost use Rattle.values.specs.Match.{viewBound, partOf, fitOf, storedAfter};
-ghost use Rattle.values.specs.Env.{viewValue, viewEnv, Stores, tupleOf, firstEight, extendedOf, Given};
+ghost use Rattle.values.specs.Env.{viewValue, viewEnv, Stores, standsFor, tupleOf, firstEight, extendedOf, Given};
 
 // Which words are items by themselves: in a table's value, in a table's pattern, in a value that a step handles.
 pub enum Leaf {
@@ -444,6 +445,30 @@ impl Env {
         }
         v
     }
+
+    // How many words the value of the last w in force has; 1 where there is none.
+    fn size(self, w: u32) -> usize
+        ensures { λ r. ⌜ r ≡ length (value (viewEnv self) w) ⌝ }
+    {
+        let n = self.count();
+        let mut r: usize = 1;
+        let mut k: usize = 0;
+        while k < n {
+            if self.names[k] == w {
+                let v = self.vals[k];
+                r = v.count();
+            }
+            k += 1;
+        }
+        r
+    }
+
+    // How many words stand for a word of a table's value, once its bound names are replaced.
+    fn size_for(self, w: u32) -> usize
+        ensures { λ r. ⌜ r ≡ length (standsFor (viewEnv self) w) ⌝ }
+    {
+        if w <= 63 { self.size(w) } else { 1 }
+    }
 }
 
 // A table's value with its bound names replaced by their values.
@@ -462,6 +487,23 @@ pub fn substituted(e: Env, s: &[u32]) -> Value
         i += 1;
     }
     b
+}
+
+// Whether a table's value has over 16 words, once its bound names are replaced by their values. Nothing is stored.
+pub fn over_long(e: Env, s: &[u32]) -> bool
+    ensures { λ r. ⌜ r ≡ ltb 16 (length (substitute (viewEnv e) (now (s .entry)))) ⌝ }
+{
+    let mut n: usize = 0;
+    let mut i: usize = 0;
+    while i < s.len() {
+        let m = e.size_for(s[i]);
+        if 16 - n < m {
+            return true;
+        }
+        n += m;
+        i += 1;
+    }
+    false
 }
 
 // The words of a bound part.
