@@ -2,17 +2,16 @@
 use mathlib.Core.Path.{_≡_, refl, sym, ap, ap₂, _∙_, subst}
 use mathlib.Core.Bool.{Bool, true, false}
 use mathlib.Core.List.{List, [], _∷_}
-use Prim.Native.Nat.{ℕ, _+_, _≤_, min}
+use Prim.Native.Nat.{ℕ, _+_, _≤_}
 use native.Mathlib.Omega.{arith}
-use borrow.Author.Tests.{ltb-true, ltb-false, lt-ltb, le-ltb}
+use borrow.Author.Tests.{ltb-true, ltb-false}
 use lib.Dec.{ltb}
 use lib.ListN.{length, length-append}
 use Rattle.model.specs.Basics.{_or_, orElse}
 use Rattle.model.specs.Values.{Env, extend, substitute, at, isPublic}
 use Rattle.model.specs.Table.{Table, count, field, build, term}
 use Rattle.model.proofs.Environments.{Sized}
-use Rattle.values.specs.declared.Value.{Value}
-use Rattle.values.specs.Env.{Stores, firstEight}
+use Rattle.values.specs.Env.{firstEight}
 use Rattle.values.proofs.Environments.{eight-all}
 use Rattle.tables.specs.declared.nodes.Node.{Node}
 use Rattle.tables.specs.Nodes.{table, NodeIs}
@@ -26,14 +25,6 @@ use Rattle.unfolding.proofs.Standing.{walks, scoped-left, scoped-right,
 -- the answer of the term at a node
 abbrev longAt : Table → ℕ → Env → Bool
 longAt t n ρ = longIn (term t n) ρ
-
--- as many words as are counted up to 17
-same-test : (k n : ℕ) → min 17 k ≡ min 17 n → ltb 16 k ≡ ltb 16 n
-same-test k n e = go (ltb 16 n) refl
-  where
-    go : (b : Bool) → ltb 16 n ≡ b → ltb 16 k ≡ b
-    go true q = let z = ltb-true 16 n q in lt-ltb 16 k (omega arith)
-    go false q = let z = ltb-false 16 n q in le-ltb 16 k (omega arith)
 
 or-yes : (a b : Bool) → a ≡ true → true ≡ a or b
 unfolding _or_
@@ -98,10 +89,9 @@ module _ (ns pool : List ℕ) (n : ℕ) (ρ : Env) (s : Scoped (table ns pool) n
       let sc = subst (λ (j : ℕ). Scoped t r j) (sym c) (scoped-new ns pool n _ s x i r e st) in
       child-is (x .b) r π q (to-new ns pool n (walks ns pool n _ s x i n) x i r e st .0) sc k ∙ ap (longAt t (x .b)) f′ ∙ sym (long-new e)
 
-  pub out-is : (ws : List ℕ) (v : Value) → x .kind ≡ 4 → ws ≡ orElse (at isPublic pool (x .c)) [] → Stores (substitute ρ ws) v → ltb 16 (v .len) ≡ longAt t n ρ
+  pub out-is : (ws : List ℕ) (q : Bool) → x .kind ≡ 4 → ws ≡ orElse (at isPublic pool (x .c)) [] → q ≡ ltb 16 (length (substitute ρ ws)) → q ≡ longAt t n ρ
   unfolding longIn build
-  out-is ws v e w st =
-      same-test (v .len) (length (substitute ρ ws)) (st .count) ∙ ap (λ (u : List ℕ). ltb 16 (length (substitute ρ u))) (w ∙ ap (λ (j : ℕ). orElse (at isPublic pool j) []) (i .f3)) ∙ sym (is 4 e)
+  out-is ws q e w h = h ∙ ap (λ (u : List ℕ). ltb 16 (length (substitute ρ u))) (w ∙ ap (λ (j : ℕ). orElse (at isPublic pool j) []) (i .f3)) ∙ sym (is 4 e)
 
   pub input-is : 5 ≤ x .kind → false ≡ longAt t n ρ
   unfolding longIn build

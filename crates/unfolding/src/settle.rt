@@ -181,7 +181,7 @@ pub fn settle_boxes(e: Env, side: u32, p: Plan, boxes: Boxes) -> Boxes
     r
 }
 
-// The planned particles after those that are there.
+// The planned particles after those that are there. They are written where they stand, since `with` copies the whole list.
 pub fn settle_particles(
     nodes: &[u32],
     pool: &[u32],
@@ -198,7 +198,10 @@ pub fn settle_particles(
     let mut k: usize = 0;
     while k < n {
         let q = p.rows[k];
-        r = r.with(particle_at(nodes, pool, e, side, q));
+        let x = particle_at(nodes, pool, e, side, q);
+        let at = r.len;
+        r.rows[at] = x;
+        r.len = at + 1;
         k += 1;
     }
     r

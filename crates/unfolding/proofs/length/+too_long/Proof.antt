@@ -20,7 +20,7 @@ use Rattle.tables.proofs.nodes.node_at.Reads as node-at-reads
 use Rattle.tables.proofs.pool.words_at.Reads as words-at-reads
 use Rattle.values.proofs.Env.with.Reads as with-reads
 use Rattle.values.proofs.Value.name.Reads as name-reads
-use Rattle.values.proofs.substituted.Reads as substituted-reads
+use Rattle.values.proofs.over_long.Reads as over-long-reads
 use Rattle.unfolding.proofs.length.+too_long.{statement}
 use Rattle.unfolding.proofs.length.+too_long.Tie.{close}
 
@@ -50,8 +50,8 @@ too-long-returns : (t : ℕ) → too-long-lts.Need-returns (
   with-reads.Learnt,
   words-at-reads.Asked,
   words-at-reads.Learnt,
-  substituted-reads.Asked,
-  substituted-reads.Learnt,
+  over-long-reads.Asked,
+  over-long-reads.Learnt,
 ) (too-long-at t) too-long.Post
 too-long-returns t c = λ w. let z = w .inside in absurd (omega arith)
 
@@ -71,8 +71,8 @@ too-long-node-at-requires : (t : ℕ) → too-long-lts.Need-node-at-requires (
   with-reads.Learnt,
   words-at-reads.Asked,
   words-at-reads.Learnt,
-  substituted-reads.Asked,
-  substituted-reads.Learnt,
+  over-long-reads.Asked,
+  over-long-reads.Learnt,
 ) (too-long-at t) too-long.Post
 too-long-node-at-requires t c κs = search needs
 
@@ -92,8 +92,8 @@ too-long-child-requires : (t : ℕ) → too-long-lts.Need-child-requires (
   with-reads.Learnt,
   words-at-reads.Asked,
   words-at-reads.Learnt,
-  substituted-reads.Asked,
-  substituted-reads.Learnt,
+  over-long-reads.Asked,
+  over-long-reads.Learnt,
 ) (too-long-at t) too-long.Post
 too-long-child-requires t c κs = search needs
 
@@ -113,8 +113,8 @@ too-long-too-long-requires : (t : ℕ) → too-long-lts.Need-too-long-requires (
   with-reads.Learnt,
   words-at-reads.Asked,
   words-at-reads.Learnt,
-  substituted-reads.Asked,
-  substituted-reads.Learnt,
+  over-long-reads.Asked,
+  over-long-reads.Learnt,
 ) (too-long-at t) too-long.Post
 too-long-too-long-requires t c κs = (omega (arith, c .child .ensures .above (omega arith)), search needs)
 
@@ -134,8 +134,8 @@ too-long-returns-2 : (t : ℕ) → too-long-lts.Need-returns-2 (
   with-reads.Learnt,
   words-at-reads.Asked,
   words-at-reads.Learnt,
-  substituted-reads.Asked,
-  substituted-reads.Learnt,
+  over-long-reads.Asked,
+  over-long-reads.Learnt,
 ) (too-long-at t) too-long.Post
 too-long-returns-2 t c = let a = c .before .before .before .before .before .before .before .before .before .args in let ns = a .nodes .now in let pool = a .pool .now in λ w. left-yes ns pool (a .n) (viewEnv (a .e)) w _ (c .before .before .before .before .before .node-at .ensures) _ _ (c .before .before .before .if2 .taken) (c .before .before .child .ensures) (c .before .too-long .ensures) (c .if3 .taken)
 
@@ -155,8 +155,8 @@ too-long-child-requires-2 : (t : ℕ) → too-long-lts.Need-child-requires-2 (
   with-reads.Learnt,
   words-at-reads.Asked,
   words-at-reads.Learnt,
-  substituted-reads.Asked,
-  substituted-reads.Learnt,
+  over-long-reads.Asked,
+  over-long-reads.Learnt,
 ) (too-long-at t) too-long.Post
 too-long-child-requires-2 t c κs = search needs
 
@@ -176,8 +176,8 @@ too-long-too-long-requires-2 : (t : ℕ) → too-long-lts.Need-too-long-requires
   with-reads.Learnt,
   words-at-reads.Asked,
   words-at-reads.Learnt,
-  substituted-reads.Asked,
-  substituted-reads.Learnt,
+  over-long-reads.Asked,
+  over-long-reads.Learnt,
 ) (too-long-at t) too-long.Post
 too-long-too-long-requires-2 t c κs = (omega (arith, c .child2 .ensures .above (omega arith)), search needs)
 
@@ -197,8 +197,8 @@ too-long-returns-3 : (t : ℕ) → too-long-lts.Need-returns-3 (
   with-reads.Learnt,
   words-at-reads.Asked,
   words-at-reads.Learnt,
-  substituted-reads.Asked,
-  substituted-reads.Learnt,
+  over-long-reads.Asked,
+  over-long-reads.Learnt,
 ) (too-long-at t) too-long.Post
 too-long-returns-3 t c = let a = c .before .before .before .before .before .before .before .before .before .before .before .args in let ns = a .nodes .now in let pool = a .pool .now in λ w. left-no ns pool (a .n) (viewEnv (a .e)) w _ (c .before .before .before .before .before .before .before .node-at .ensures) _ _ _ _ (c .before .before .before .before .before .if2 .taken) (c .before .before .before .before .child .ensures) (c .before .before .before .too-long .ensures) (c .before .before .if3 .left) (c .before .child2 .ensures) (c .too-long2 .ensures)
 
@@ -218,8 +218,8 @@ too-long-child-requires-3 : (t : ℕ) → too-long-lts.Need-child-requires-3 (
   with-reads.Learnt,
   words-at-reads.Asked,
   words-at-reads.Learnt,
-  substituted-reads.Asked,
-  substituted-reads.Learnt,
+  over-long-reads.Asked,
+  over-long-reads.Learnt,
 ) (too-long-at t) too-long.Post
 too-long-child-requires-3 t c κs = search needs
 
@@ -239,8 +239,8 @@ too-long-too-long-requires-3 : (t : ℕ) → too-long-lts.Need-too-long-requires
   with-reads.Learnt,
   words-at-reads.Asked,
   words-at-reads.Learnt,
-  substituted-reads.Asked,
-  substituted-reads.Learnt,
+  over-long-reads.Asked,
+  over-long-reads.Learnt,
 ) (too-long-at t) too-long.Post
 too-long-too-long-requires-3 t c κs = (omega (arith, c .child3 .ensures .above (omega arith)), search needs)
 
@@ -260,8 +260,8 @@ too-long-returns-4 : (t : ℕ) → too-long-lts.Need-returns-4 (
   with-reads.Learnt,
   words-at-reads.Asked,
   words-at-reads.Learnt,
-  substituted-reads.Asked,
-  substituted-reads.Learnt,
+  over-long-reads.Asked,
+  over-long-reads.Learnt,
 ) (too-long-at t) too-long.Post
 too-long-returns-4 t c = let a = c .before .before .before .before .before .before .before .before .before .before .args in let ns = a .nodes .now in let pool = a .pool .now in λ w. box-is ns pool (a .n) (viewEnv (a .e)) w _ (c .before .before .before .before .before .before .node-at .ensures) _ _ (c .before .before .if4 .taken) (c .before .child3 .ensures) (c .too-long3 .ensures)
 
@@ -281,8 +281,8 @@ too-long-field-at-requires : (t : ℕ) → too-long-lts.Need-field-at-requires (
   with-reads.Learnt,
   words-at-reads.Asked,
   words-at-reads.Learnt,
-  substituted-reads.Asked,
-  substituted-reads.Learnt,
+  over-long-reads.Asked,
+  over-long-reads.Learnt,
 ) (too-long-at t) too-long.Post
 too-long-field-at-requires t c κs = search needs
 
@@ -302,8 +302,8 @@ too-long-name-requires : (t : ℕ) → too-long-lts.Need-name-requires (
   with-reads.Learnt,
   words-at-reads.Asked,
   words-at-reads.Learnt,
-  substituted-reads.Asked,
-  substituted-reads.Learnt,
+  over-long-reads.Asked,
+  over-long-reads.Learnt,
 ) (too-long-at t) too-long.Post
 too-long-name-requires t c κs = search needs
 
@@ -323,8 +323,8 @@ too-long-with-requires : (t : ℕ) → too-long-lts.Need-with-requires (
   with-reads.Learnt,
   words-at-reads.Asked,
   words-at-reads.Learnt,
-  substituted-reads.Asked,
-  substituted-reads.Learnt,
+  over-long-reads.Asked,
+  over-long-reads.Learnt,
 ) (too-long-at t) too-long.Post
 too-long-with-requires t c κs = search needs
 
@@ -344,8 +344,8 @@ too-long-child-requires-4 : (t : ℕ) → too-long-lts.Need-child-requires-4 (
   with-reads.Learnt,
   words-at-reads.Asked,
   words-at-reads.Learnt,
-  substituted-reads.Asked,
-  substituted-reads.Learnt,
+  over-long-reads.Asked,
+  over-long-reads.Learnt,
 ) (too-long-at t) too-long.Post
 too-long-child-requires-4 t c κs = search needs
 
@@ -365,8 +365,8 @@ too-long-too-long-requires-4 : (t : ℕ) → too-long-lts.Need-too-long-requires
   with-reads.Learnt,
   words-at-reads.Asked,
   words-at-reads.Learnt,
-  substituted-reads.Asked,
-  substituted-reads.Learnt,
+  over-long-reads.Asked,
+  over-long-reads.Learnt,
 ) (too-long-at t) too-long.Post
 too-long-too-long-requires-4 t c κs = (omega (arith, c .child4 .ensures .above (omega arith)), search needs)
 
@@ -386,8 +386,8 @@ too-long-returns-5 : (t : ℕ) → too-long-lts.Need-returns-5 (
   with-reads.Learnt,
   words-at-reads.Asked,
   words-at-reads.Learnt,
-  substituted-reads.Asked,
-  substituted-reads.Learnt,
+  over-long-reads.Asked,
+  over-long-reads.Learnt,
 ) (too-long-at t) too-long.Post
 too-long-returns-5 t c = let a = c .before .before .before .before .before .before .before .before .before .before .before .before .before .before .before .args in let ns = a .nodes .now in let pool = a .pool .now in let full : length (a .e .vals) ≡ 8 = search (needs, unmap, c .before .before .before .before .before .before .before .before .before .before .before .before .before .before .before .good) in let full′ : length (a .e .names) ≡ 8 = search (needs, c .before .before .before .before .before .before .before .before .before .before .before .before .before .before .before .good) in λ w. new-is ns pool (a .n) (viewEnv (a .e)) w _ (c .before .before .before .before .before .before .before .before .before .before .before .node-at .ensures) _ _ _ _ _ (c .before .before .before .before .before .if5 .taken) (sized (a .e) full′ full) (c .before .before .with .ensures) (c .before .before .before .before .field-at .ensures pool) (c .before .before .before .name .ensures) (c .before .child4 .ensures) (c .too-long4 .ensures)
 
@@ -407,13 +407,13 @@ too-long-words-at-requires : (t : ℕ) → too-long-lts.Need-words-at-requires (
   with-reads.Learnt,
   words-at-reads.Asked,
   words-at-reads.Learnt,
-  substituted-reads.Asked,
-  substituted-reads.Learnt,
+  over-long-reads.Asked,
+  over-long-reads.Learnt,
 ) (too-long-at t) too-long.Post
 too-long-words-at-requires t c κs = search needs
 
 -- src/length.rt:39:13
-too-long-substituted-requires : (t : ℕ) → too-long-lts.Need-substituted-requires (
+too-long-over-long-requires : (t : ℕ) → too-long-lts.Need-over-long-requires (
   node-at-reads.Asked,
   node-at-reads.Learnt,
   child-reads.Asked,
@@ -428,10 +428,10 @@ too-long-substituted-requires : (t : ℕ) → too-long-lts.Need-substituted-requ
   with-reads.Learnt,
   words-at-reads.Asked,
   words-at-reads.Learnt,
-  substituted-reads.Asked,
-  substituted-reads.Learnt,
+  over-long-reads.Asked,
+  over-long-reads.Learnt,
 ) (too-long-at t) too-long.Post
-too-long-substituted-requires t c κs = search needs
+too-long-over-long-requires t c κs = search needs
 
 -- src/length.rt:40:9
 too-long-returns-6 : (t : ℕ) → too-long-lts.Need-returns-6 (
@@ -449,11 +449,11 @@ too-long-returns-6 : (t : ℕ) → too-long-lts.Need-returns-6 (
   with-reads.Learnt,
   words-at-reads.Asked,
   words-at-reads.Learnt,
-  substituted-reads.Asked,
-  substituted-reads.Learnt,
+  over-long-reads.Asked,
+  over-long-reads.Learnt,
 ) (too-long-at t) too-long.Post
 unfolding leafOf
-too-long-returns-6 t c = let a = c .before .before .before .before .before .before .before .before .before .before .before .before .before .before .before .args in let ns = a .nodes .now in let pool = a .pool .now in λ w. out-is ns pool (a .n) (viewEnv (a .e)) w _ (c .before .before .before .before .before .before .before .before .before .before .before .node-at .ensures) _ _ (c .before .before .before .if6 .taken) (c .before .before .words-at .ensures) (c .before .substituted .ensures)
+too-long-returns-6 t c = let a = c .before .before .before .before .before .before .before .before .before .before .before .before .before .before .args in let ns = a .nodes .now in let pool = a .pool .now in λ w. out-is ns pool (a .n) (viewEnv (a .e)) w _ (c .before .before .before .before .before .before .before .before .before .before .node-at .ensures) _ _ (c .before .before .if6 .taken) (c .before .words-at .ensures) (c .over-long .ensures)
 
 -- src/length.rt:17:1
 too-long-returns-7 : (t : ℕ) → too-long-lts.Need-returns-7 (
@@ -471,8 +471,8 @@ too-long-returns-7 : (t : ℕ) → too-long-lts.Need-returns-7 (
   with-reads.Learnt,
   words-at-reads.Asked,
   words-at-reads.Learnt,
-  substituted-reads.Asked,
-  substituted-reads.Learnt,
+  over-long-reads.Asked,
+  over-long-reads.Learnt,
 ) (too-long-at t) too-long.Post
 too-long-returns-7 t c = let a = c .before .before .before .before .before .before .before .before .before .before .before .before .args in let ns = a .nodes .now in let pool = a .pool .now in λ w. rest-is ns pool (a .n) (viewEnv (a .e)) w _ (c .before .before .before .before .before .before .before .before .node-at .ensures) (c .before .before .before .before .before .before .if2 .left) (c .before .before .before .before .if4 .left) (c .before .before .if5 .left) (c .if6 .left)
 
@@ -492,8 +492,8 @@ pub +too-long-spec : {M : Type 1} → statement M
   with-reads.Learnt,
   words-at-reads.Asked,
   words-at-reads.Learnt,
-  substituted-reads.Asked,
-  substituted-reads.Learnt,
+  over-long-reads.Asked,
+  over-long-reads.Learnt,
 )
     (too-long-at t)
     too-long.Post
@@ -515,6 +515,6 @@ pub +too-long-spec : {M : Type 1} → statement M
     (too-long-too-long-requires-4 t)
     (too-long-returns-5 t)
     (too-long-words-at-requires t)
-    (too-long-substituted-requires t)
+    (too-long-over-long-requires t)
     (too-long-returns-6 t)
     (too-long-returns-7 t)
