@@ -4,7 +4,7 @@ ghost use Rattle.model.specs.Load.{Setting};
 ghost use Rattle.model.specs.Step.{meet, meetParticles, settled};
 ghost use Rattle.sides.specs.Views.{viewParticle, viewCore};
 ghost use Rattle.tables.specs.Nodes.{table};
-ghost use Rattle.steps.specs.Asked.{OfferIs, Says, numberOf};
+ghost use Rattle.steps.specs.Asked.{OfferIs};
 ghost use Rattle.steps.specs.StepIs.{Sane, StepIs};
 ghost use Rattle.meeting.specs.Meeting.{PairAt, Meetable, MeetablePair};
 use bodies::has_room;
@@ -17,28 +17,9 @@ use steps::Offer;
 use steps::Said;
 use steps::SideStep;
 use tables::nodes::node_at;
-use values::Value;
 
 mod bodies; // what is left of the particles, the limits, and the body's unfolding
 mod pairs; // whether an output and an input meet
-
-// The number of a refusal.
-fn number(a: Offer) -> u32
-    ensures { λ r. ⌜ r ≡ numberOf a ⌝ }
-{
-    match a {
-        Offer::At(_) => 0,
-        Offer::Refused(n) => n,
-    }
-}
-
-// What is said, with no value, beside a side.
-fn plain(said: Said, side: Side) -> SideStep
-    ensures { λ r. ⌜ Says said side r ⌝ }
-{
-    let value = Value::none();
-    SideStep { said, value, side }
-}
 
 // Whether particle i is an output and particle j an input. The position is j.
 fn pair_offer(o: Side, i: usize, j: usize) -> Offer
@@ -80,7 +61,7 @@ fn meet_pair(
     let w = join(nodes, pool, p, q);
     let a = w.offer;
     let Offer::At(n) = a else {
-        return plain(Said::Refused(number(a)), o);
+        return SideStep::plain(Said::Refused(a.number()), o);
     };
     let e = w.env;
     let x = node_at(nodes, q.node);
@@ -88,12 +69,12 @@ fn meet_pair(
     let bs = o.boxes;
     let rest = remaining(ps, x.kind == 6, i, j);
     if has_room(nodes, n, rest.len, bs.len, o.minted) {
-        return plain(
+        return SideStep::plain(
             Said::Silent,
             with_body(nodes, pool, side, o, rest, n, e, p.at),
         );
     }
-    plain(Said::Refused(17), o)
+    SideStep::plain(Said::Refused(17), o)
 }
 
 // Meet: output i and input j.
@@ -103,7 +84,7 @@ pub fn meet(nodes: &[u32], pool: &[u32], side: u32, o: Side, i: usize, j: usize)
 {
     let a = pair_offer(o, i, j);
     let Offer::At(k) = a else {
-        return plain(Said::Refused(number(a)), o);
+        return SideStep::plain(Said::Refused(a.number()), o);
     };
     let ps = o.particles;
     let p = ps.rows[i];

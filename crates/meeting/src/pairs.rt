@@ -18,7 +18,7 @@ use scopes::free_uses::defined_at;
 use scopes::names::Names;
 use scopes::names::names_in_force;
 use sides::Particle;
-use sides::Tag;
+use sides::tag_at;
 use sides::tags_fit;
 use steps::Offer;
 use tables::nodes::field_at;
@@ -52,30 +52,6 @@ fn env_at(nodes: &[u32], pool: &[u32], q: Particle) -> Env
     with_values(names_in_force(nodes, pool, q.node), vals)
 }
 
-// The first word of what a name stands for.
-fn word_at(e: Env, x: u32) -> u32
-    ensures { λ r. ⌜ r ≡ word (viewEnv e) x ⌝ }
-{
-    let v = e.value(x);
-    if v.len == 0 {
-        return 0;
-    }
-    v.words[0]
-}
-
-// The tag of a tag word.
-fn tag_at(e: Env, g: u32) -> Tag
-    ensures { λ r. ⌜ viewTag r ≡ tagOf (viewEnv e) g ⌝ }
-{
-    if g == 0 {
-        return Tag::Within;
-    }
-    if g == 1 {
-        return Tag::ToParent;
-    }
-    Tag::ToChild(word_at(e, g - 2))
-}
-
 // Whether an output and an input with the environment e are in one box, on one channel, with fitting tags.
 fn fit(nodes: &[u32], e: Env, p: Particle, q: Particle) -> bool
     ensures { λ r. ⌜ ((pool : List ℕ) → r ≡ eqb (p .at) (q .at) & (eqb (p .channel) (word (viewEnv e) (field (table (now (nodes .entry)) pool) (q .node) 1)) & tagsFit (viewTag (p .tag)) (tagOf (viewEnv e) (field (table (now (nodes .entry)) pool) (q .node) 2)))) ⌝ }
@@ -83,7 +59,7 @@ fn fit(nodes: &[u32], e: Env, p: Particle, q: Particle) -> bool
     let n = q.node;
     let g = p.tag;
     if p.at == q.at {
-        if p.channel == word_at(e, field_at(nodes, n, 1)) {
+        if p.channel == e.word(field_at(nodes, n, 1)) {
             return tags_fit(g, tag_at(e, field_at(nodes, n, 2)));
         }
         return false;

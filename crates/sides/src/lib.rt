@@ -16,6 +16,7 @@ pub use left_marks::has_left;
 pub use left_marks::marked_all;
 pub use tags::is_to_child;
 pub use tags::is_to_parent;
+pub use tags::tag_at;
 pub use tags::tags_fit;
 
 pub enum Status {

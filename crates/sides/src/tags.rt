@@ -1,9 +1,12 @@
-// Tests of tags.
+// Tests of tags, and the tag of a tag word.
 ghost use mathlib.Core.Path.{_≡_};
 ghost use Rattle.model.specs.Step.{isToParent, isToChild, tagsFit};
 ghost use Rattle.model.specs.Side.{within};
+ghost use Rattle.model.specs.Unfolding.{tagOf};
+ghost use Rattle.values.specs.Env.{viewEnv};
 ghost use Rattle.sides.specs.Views.{viewTag};
 use crate::Tag;
+use values::Env;
 
 fn is_within(t: Tag) -> bool
     ensures { λ r. ⌜ r ≡ tagsFit within (viewTag t) ⌝ }
@@ -54,4 +57,17 @@ pub fn tags_fit(output: Tag, input: Tag) -> bool
         Tag::ToChild(_) => false,
         Tag::FromChild(n) => is_to_child(input, n),
     }
+}
+
+// The tag of a tag word.
+pub fn tag_at(e: Env, g: u32) -> Tag
+    ensures { λ r. ⌜ viewTag r ≡ tagOf (viewEnv e) g ⌝ }
+{
+    if g == 0 {
+        return Tag::Within;
+    }
+    if g == 1 {
+        return Tag::ToParent;
+    }
+    Tag::ToChild(e.word(g - 2))
 }

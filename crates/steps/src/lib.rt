@@ -39,7 +39,7 @@ pub enum Offer {
 
 impl Offer {
     // The number of a refusal.
-    fn number(self) -> u32
+    pub fn number(self) -> u32
         ensures { λ r. ⌜ r ≡ numberOf self ⌝ }
     {
         match self {
@@ -51,7 +51,7 @@ impl Offer {
 
 impl SideStep {
     // What is said, with no value, beside a side.
-    fn plain(said: Said, side: Side) -> Self
+    pub fn plain(said: Said, side: Side) -> Self
         ensures { λ r. ⌜ Says said side r ⌝ }
     {
         let value = Value::none();

@@ -7,11 +7,11 @@ use native.Mathlib.Omega.{arith}
 use native.Mathlib.Numerals.{add-one}
 use borrow.Author.Tests.{leb-true, le-leb, ltb-true}
 use lib.ListN.{length, take, getD, set, length-append, length-map}
-use lib.Seq.{take-suc, getD-take, length-take-le}
+use lib.Seq.{take-suc, length-take-le}
 use Rattle.model.specs.Basics.{every, orElse}
 use Rattle.model.specs.Values.{Env, word, value, extend, substitute, at, isPublic}
-use Rattle.model.specs.Table.{Table, count, kind, field, Term, box, build, term}
-use Rattle.model.specs.Side.{Tag, within, toParent, toChild, Particle, output, input}
+use Rattle.model.specs.Table.{Table, count, kind, field, Term, build, term}
+use Rattle.model.specs.Side.{Tag, within, Particle, output, input}
 use Rattle.model.specs.Unfolding.{tagOf}
 use Rattle.model.specs.Step.{short}
 use Rattle.model.proofs.Tests.{fst, snd}
@@ -74,25 +74,6 @@ pub below-all : (i : ℕ) (ρ π : Env) (w : News) (k n : ℕ) → n ≤ k → k
 below-all i ρ π w k n h h′ a b p =
     let e : k ≡ n = omega arith in
     p ∙ ap₂ (λ (u v : List ℕ). below i ρ (mnews u v)) (ap (λ (j : ℕ). take j (w .names)) (e ∙ a) ∙ take-count (w .n) (w .names)) (ap (λ (j : ℕ). take j (w .serials)) (e ∙ b) ∙ take-count (w .n) (w .serials))
-
--- THE FIRST WORD
-pub word-none : (v : Value) (ρ : Env) (x : ℕ) → viewValue v ≡ value ρ x → v .len ≡ 0 → 0 ≡ word ρ x
-word-none v ρ x e z = sym (ap (λ (u : List ℕ). getD u 0 0) (sym e) ∙ ap (λ (k : ℕ). getD (take k (v .words)) 0 0) z)
-
-pub word-some : (v : Value) (ρ : Env) (x : ℕ) → viewValue v ≡ value ρ x → ((v .len ≡ 0) → ⊥) → getD (v .words) 0 0 ≡ word ρ x
-word-some v ρ x e z = sym (getD-take (v .len) (v .words) 0 0 (omega arith)) ∙ ap (λ (u : List ℕ). getD u 0 0) e
-
--- A TAG of a child box
-pub tag-child : (ρ : Env) (g c : ℕ) → ((g ≡ 0) → ⊥) → ((g ≡ 1) → ⊥) → c ≡ word ρ (g - 2) → toChild c ≡ tagOf ρ g
-tag-child ρ zero c a b e = absurd (a refl)
-tag-child ρ (suc zero) c a b e = absurd (b refl)
-tag-child ρ (suc (suc n)) c a b e = let z : suc (suc n) - 2 ≡ n = omega arith in ap toChild (e ∙ ap (word ρ) z)
-
-pub tag-within : (ρ : Env) (g : ℕ) → g ≡ 0 → within ≡ tagOf ρ g
-tag-within ρ g e = sym (ap (tagOf ρ) e)
-
-pub tag-parent : (ρ : Env) (g : ℕ) → g ≡ 1 → toParent ≡ tagOf ρ g
-tag-parent ρ g e = sym (ap (tagOf ρ) e)
 
 -- VALUES within their arrays
 pub clipped-view : (v : Value) (n : ℕ) → n ≡ length (viewValue v) → take n (v .words) ≡ viewValue v

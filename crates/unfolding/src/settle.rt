@@ -19,7 +19,7 @@ use crate::plan::Plan;
 use sides::Boxes;
 use sides::Particle;
 use sides::Particles;
-use sides::Tag;
+use sides::tag_at;
 use tables::nodes::field_at;
 use tables::nodes::node_at;
 use tables::pool::words_at;
@@ -54,30 +54,6 @@ fn env_below(e: Env, side: u32, w: News) -> Env
         k += 1;
     }
     r
-}
-
-// The first word of what a name stands for.
-fn word_at(e: Env, x: u32) -> u32
-    ensures { λ r. ⌜ r ≡ word (viewEnv e) x ⌝ }
-{
-    let v = e.value(x);
-    if v.len == 0 {
-        return 0;
-    }
-    v.words[0]
-}
-
-// The tag of a tag word.
-fn tag_at(e: Env, g: u32) -> Tag
-    ensures { λ r. ⌜ viewTag r ≡ tagOf (viewEnv e) g ⌝ }
-{
-    if g == 0 {
-        return Tag::Within;
-    }
-    if g == 1 {
-        return Tag::ToParent;
-    }
-    Tag::ToChild(word_at(e, g - 2))
 }
 
 // A value whose length is within its array.
@@ -125,7 +101,7 @@ fn output_at(nodes: &[u32], pool: &[u32], n: usize, at: usize, e: Env) -> Partic
     ensures { λ r. ⌜ OutputIs (table (now (nodes .entry)) (now (pool .entry))) n at (viewEnv e) r ⌝ }
 {
     let x = node_at(nodes, n);
-    let c = word_at(e, field_at(nodes, n, 1));
+    let c = e.word(field_at(nodes, n, 1));
     let g = tag_at(e, field_at(nodes, n, 2));
     let v = values::substituted(e, words_at(Leaf::Public, pool, x.c));
     Particle::output(at, c, g, v)
@@ -162,7 +138,7 @@ fn box_name(e: Env, side: u32, q: Place) -> u32
     ensures { λ r. ⌜ (boxFine (viewEnv e) (viewPlace q) ≡ true → r ≡ settledBox side (viewEnv e) (viewPlace q) .name) ⌝ }
 {
     let w = q.news;
-    word_at(env_below(e, side, w), word_of_byte(q.what))
+    env_below(e, side, w).word(word_of_byte(q.what))
 }
 
 // The planned boxes after those that are there.

@@ -8,9 +8,9 @@ use native.Mathlib.Numerals.{add-one}
 use borrow.Author.Tests.{le-leb, lt-leb, lt-ltb, le-ltb, eq-eqb, ne-eqb, eqb-true, eqb-false}
 use lib.Dec.{eqb, ltb}
 use lib.ListN.{length, getD, take, drop, set, length-append, length-take, length-map, take-append-drop}
-use lib.Seq.{take-suc, take-suc-set, take-all, length-take-le, getD-set-same, getD-set-other}
+use lib.Seq.{take-suc, take-suc-set, take-all, length-take-le, getD-take, getD-set-same, getD-set-other}
 use Rattle.model.specs.Basics.{_&_, choose}
-use Rattle.model.specs.Values.{Env, lookup, value, isPublic, substitute, extend, isNameIn, binders}
+use Rattle.model.specs.Values.{Env, lookup, value, word, isPublic, substitute, extend, isNameIn, binders}
 use Rattle.model.proofs.Environments.{look-append}
 use Rattle.values.specs.declared.Value.{Value}
 use Rattle.values.specs.declared.Env as dec
@@ -46,6 +46,13 @@ look-all e k w v p q r =
     let a : take k (e .names) ≡ take (e .n) (e .names) = ap (λ (j : ℕ). take j (e .names)) p ∙ take-count (e .n) (e .names) in
     let b : take k (e .vals) ≡ take (e .n) (e .vals) = ap (λ (j : ℕ). take j (e .vals)) q′ ∙ take-count (e .n) (e .vals) in
     r ∙ rw (a, b)
+
+-- the first word of a value
+pub word-none : (v : Value) (ρ : Env) (x : ℕ) → viewValue v ≡ value ρ x → v .len ≡ 0 → 0 ≡ word ρ x
+word-none v ρ x e z = sym (ap (λ (u : List ℕ). getD u 0 0) (sym e) ∙ ap (λ (k : ℕ). getD (take k (v .words)) 0 0) z)
+
+pub word-some : (v : Value) (ρ : Env) (x : ℕ) → viewValue v ≡ value ρ x → ((v .len ≡ 0) → ⊥) → getD (v .words) 0 0 ≡ word ρ x
+word-some v ρ x e z = sym (getD-take (v .len) (v .words) 0 0 (omega arith)) ∙ ap (λ (u : List ℕ). getD u 0 0) e
 
 -- substituting, a word further
 subst-append : (ρ : Env) (a b : List ℕ) → substitute ρ (a ++ b) ≡ substitute ρ a ++ substitute ρ b

@@ -6,7 +6,7 @@ ghost use Prim.Native.Nat.{ℕ, _≤_};
 ghost use lib.Dec.{ltb};
 ghost use lib.ListN.{length, take, drop};
 ghost use Rattle.model.specs.Basics.{has};
-ghost use Rattle.model.specs.Values.{isTuple, isMinted, matches, binders, distinct, at, isValue, noNames, value, substitute, extend};
+ghost use Rattle.model.specs.Values.{isTuple, isMinted, matches, binders, distinct, at, isValue, noNames, value, word, substitute, extend};
 ghost use Rattle.values.specs.Span.{leafOf, spanOf, endOf, sizeOf};
 ghost use Rattle.values.specs.Match.{viewBound, partOf, fitOf, storedAfter};
 ghost use Rattle.values.specs.Env.{viewValue, viewEnv, Stores, standsFor, tupleOf, firstEight, extendedOf, Given};
@@ -444,6 +444,17 @@ impl Env {
             k += 1;
         }
         v
+    }
+
+    // The first word of what a name stands for.
+    pub fn word(self, x: u32) -> u32
+        ensures { λ r. ⌜ r ≡ word (viewEnv self) x ⌝ }
+    {
+        let v = self.value(x);
+        if v.len == 0 {
+            return 0;
+        }
+        v.words[0]
     }
 
     // How many words the value of the last w in force has; 1 where there is none.

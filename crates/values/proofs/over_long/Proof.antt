@@ -5,7 +5,6 @@ use Rattle.model.specs.Values.{substitute}
 use Rattle.values.specs.Env.{viewEnv}
 use Rattle.values.proofs.Environments.{size-more, size-over, size-all}
 use native.Mathlib.Omega.{arith}
-
 use borrow.Author.Needs.{needs}
 use Rattle.values.proofs.over_long.Statement.{statement}
 use Rattle.values.proofs.over_long.Tie as tie

@@ -14,8 +14,8 @@ use Rattle.meeting.proofs.pairs.fit.Tie as tie
 field-at-requires : tie.Need-field-at-requires
 field-at-requires c κs = search needs
 
-word-at-requires : tie.Need-word-at-requires
-word-at-requires c κs = search needs
+word-requires : tie.Need-word-requires
+word-requires c κs = search needs
 
 field-at-requires-2 : tie.Need-field-at-requires-2
 field-at-requires-2 c κs = search needs
@@ -27,10 +27,10 @@ tags-fit-requires : tie.Need-tags-fit-requires
 tags-fit-requires c κs = search needs
 
 returns : tie.Need-returns
-returns c = let a = c .before .before .before .before .before .before .before .before .before .before .before .args in λ pool. fit-tags (a .p .at) (a .q .at) (a .p .channel) _ _ (c .before .before .before .before .before .before .before .if1 .taken) (c .before .before .before .before .before .word-at .result) (c .before .before .before .before .before .word-at .ensures ∙ ap (λ (x : ℕ). word (viewEnv (a .e)) x) (c .before .before .before .before .before .before .field-at .ensures pool)) (c .before .before .before .if2 .taken) _ (c .tags-fit .ensures ∙ ap (λ (x : Tag). tagsFit (viewTag (a .p .tag)) x) (c .before .tag-at .ensures ∙ ap (λ (x : ℕ). tagOf (viewEnv (a .e)) x) (c .before .before .field-at2 .ensures pool)))
+returns c = let a = c .before .before .before .before .before .before .before .before .before .before .before .args in λ pool. fit-tags (a .p .at) (a .q .at) (a .p .channel) _ _ (c .before .before .before .before .before .before .before .if1 .taken) (c .before .before .before .before .before .word .result) (c .before .before .before .before .before .word .ensures ∙ ap (λ (x : ℕ). word (viewEnv (a .e)) x) (c .before .before .before .before .before .before .field-at .ensures pool)) (c .before .before .before .if2 .taken) _ (c .tags-fit .ensures ∙ ap (λ (x : Tag). tagsFit (viewTag (a .p .tag)) x) (c .before .tag-at .ensures ∙ ap (λ (x : ℕ). tagOf (viewEnv (a .e)) x) (c .before .before .field-at2 .ensures pool)))
 
 returns-2 : tie.Need-returns-2
-returns-2 c = let a = c .before .before .before .before .before .before .before .before .args in λ pool. fit-channel (a .p .at) (a .q .at) (a .p .channel) _ _ (c .before .before .before .before .if1 .taken) (c .before .before .word-at .result) (c .before .before .word-at .ensures ∙ ap (λ (x : ℕ). word (viewEnv (a .e)) x) (c .before .before .before .field-at .ensures pool)) (c .if2 .left)
+returns-2 c = let a = c .before .before .before .before .before .before .before .before .args in λ pool. fit-channel (a .p .at) (a .q .at) (a .p .channel) _ _ (c .before .before .before .before .if1 .taken) (c .before .before .word .result) (c .before .before .word .ensures ∙ ap (λ (x : ℕ). word (viewEnv (a .e)) x) (c .before .before .before .field-at .ensures pool)) (c .if2 .left)
 
 returns-3 : tie.Need-returns-3
 returns-3 c = let a = c .before .before .before .before .args in λ pool. fit-box (a .p .at) (a .q .at) (a .p .channel) _ _ (c .if1 .left)
@@ -40,7 +40,7 @@ fit-spec =
     tie.close
     (tie.spec
     field-at-requires
-    word-at-requires
+    word-requires
     field-at-requires-2
     tag-at-requires
     tags-fit-requires

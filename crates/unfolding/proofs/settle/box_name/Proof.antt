@@ -18,13 +18,13 @@ word-of-byte-requires : tie.Need-word-of-byte-requires
 word-of-byte-requires c κs = search needs
 
 -- src/settle.rt:169:5
-word-at-requires : tie.Need-word-at-requires
-word-at-requires c κs = search needs
+word-requires : tie.Need-word-requires
+word-requires c κs = search needs
 
 -- src/settle.rt:164:1
 returns : tie.Need-returns
-returns c = let a = c .before .before .before .before .args in λ h. c .word-at .ensures ∙ ap₂ word (c .before .before .env-below .ensures (leb-true (length (viewEnv (a .e) .names) + length (viewNews (a .q .news) .names)) 8 h)) (c .before .word-of-byte .ensures .0)
+returns c = let a = c .before .before .before .before .args in λ h. c .word .ensures ∙ ap₂ word (c .before .before .env-below .ensures (leb-true (length (viewEnv (a .e) .names) + length (viewNews (a .q .news) .names)) 8 h)) (c .before .word-of-byte .ensures .0)
 
 pub box-name-spec : {M : Type 1} → statement M
 box-name-spec =
-    tie.close (tie.spec env-below-requires word-of-byte-requires word-at-requires returns)
+    tie.close (tie.spec env-below-requires word-of-byte-requires word-requires returns)

@@ -17,8 +17,8 @@ field-at-requires : tie.Need-field-at-requires
 field-at-requires c κs = search needs
 
 -- src/settle.rt:132:9
-word-at-requires : tie.Need-word-at-requires
-word-at-requires c κs = search needs
+word-requires : tie.Need-word-requires
+word-requires c κs = search needs
 
 -- src/settle.rt:133:23
 field-at-requires-2 : tie.Need-field-at-requires-2
@@ -43,7 +43,7 @@ output-requires c κs = search needs
 -- src/settle.rt:128:1
 returns : tie.Need-returns
 unfolding leafOf
-returns c = let a = c .before .before .before .before .before .before .before .before .before .before .args in let ns = a .nodes .now in let pool = a .pool .now in output-is ns pool (a .n) (a .at) (viewEnv (a .e)) _ (c .before .before .before .before .before .before .before .node-at .ensures) _ 0 (c .before .before .before .tag-at .result) _ _ _ (c .before .before .before .before .before .word-at .ensures ∙ ap (word (viewEnv (a .e))) (c .before .before .before .before .before .before .field-at .ensures pool)) (c .before .before .before .tag-at .ensures ∙ ap (tagOf (viewEnv (a .e))) (c .before .before .before .before .field-at2 .ensures pool)) (c .before .before .words-at .ensures) (c .before .substituted .ensures) (c .output .ensures .0) (c .output .ensures .1)
+returns c = let a = c .before .before .before .before .before .before .before .before .before .before .args in let ns = a .nodes .now in let pool = a .pool .now in output-is ns pool (a .n) (a .at) (viewEnv (a .e)) _ (c .before .before .before .before .before .before .before .node-at .ensures) _ 0 (c .before .before .before .tag-at .result) _ _ _ (c .before .before .before .before .before .word .ensures ∙ ap (word (viewEnv (a .e))) (c .before .before .before .before .before .before .field-at .ensures pool)) (c .before .before .before .tag-at .ensures ∙ ap (tagOf (viewEnv (a .e))) (c .before .before .before .before .field-at2 .ensures pool)) (c .before .before .words-at .ensures) (c .before .substituted .ensures) (c .output .ensures .0) (c .output .ensures .1)
 
 pub output-at-spec : {M : Type 1} → statement M
 output-at-spec =
@@ -51,7 +51,7 @@ output-at-spec =
     (tie.spec
     node-at-requires
     field-at-requires
-    word-at-requires
+    word-requires
     field-at-requires-2
     tag-at-requires
     words-at-requires

@@ -16,7 +16,6 @@ use Rattle.unfolding.proofs.SettleLoops.{place-fine, grown-none, grown-
 use Rattle.tables.specs.Nodes.{table}
 use Rattle.tables.specs.Checks.{Passes}
 use native.Mathlib.Omega.{arith}
-
 use borrow.Author.Needs.{needs}
 use Rattle.unfolding.proofs.settle.settle_particles.Statement.{statement}
 use Rattle.unfolding.proofs.settle.settle_particles.Tie as tie

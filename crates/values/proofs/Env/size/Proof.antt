@@ -8,7 +8,6 @@ use Rattle.values.proofs.Lists.{unmap}
 use Rattle.values.specs.Env.{viewValue}
 use Rattle.values.proofs.Environments.{look-hit, look-miss, look-all}
 use native.Mathlib.Omega.{arith}
-
 use borrow.Author.Needs.{needs}
 use Rattle.values.proofs.Env.size.Statement.{statement}
 use Rattle.values.proofs.Env.size.Tie as tie
