@@ -47,12 +47,13 @@ fn counts(nodes: &[u32], n: usize) -> Unfolded
     ensures { λ r. ⌜ Few r × ((pool : List ℕ) → Walks (table (now (nodes .entry)) pool) n → CappedTo (term (table (now (nodes .entry)) pool) n) r) ⌝ }
 {
     let c = nodes.len() / 5;
+    let mut r = Unfolded {
+        particles: 0,
+        boxes: 0,
+        names: 0,
+    };
     if c <= n {
-        return Unfolded {
-            particles: 0,
-            boxes: 0,
-            names: 0,
-        };
+        return r;
     }
     let x = node_at(nodes, n);
     if x.kind == 1 {
@@ -62,34 +63,19 @@ fn counts(nodes: &[u32], n: usize) -> Unfolded
     }
     if x.kind == 2 {
         let a = counts(nodes, child(n, x.b, c));
-        let one = Unfolded {
-            particles: 0,
-            boxes: 1,
-            names: 0,
-        };
-        return one.plus(a);
+        r.boxes = 1;
+        return r.plus(a);
     }
     if x.kind == 3 {
         let a = counts(nodes, child(n, x.b, c));
-        let one = Unfolded {
-            particles: 0,
-            boxes: 0,
-            names: 1,
-        };
-        return one.plus(a);
+        r.names = 1;
+        return r.plus(a);
     }
     if 4 <= x.kind {
-        return Unfolded {
-            particles: 1,
-            boxes: 0,
-            names: 0,
-        };
+        r.particles = 1;
+        return r;
     }
-    Unfolded {
-        particles: 0,
-        boxes: 0,
-        names: 0,
-    }
+    r
 }
 
 // How many particles, boxes and new names the term at node n unfolds to.
