@@ -1,6 +1,6 @@
 // The handler's table, and the states to break, by load and steps.
 ghost use Prim.Native.Nat.{_≤_};
-use super::writing::size;
+use changes::size;
 use interpreter::LoadAnswer;
 use interpreter::Stepped;
 use interpreter::load;
