@@ -1,11 +1,8 @@
 // Whether two states are equal in every field, places past a count and words past a length too.
 ghost use Prim.Native.Nat.{_<_};
-use sides::Boxes;
-use sides::Lobby;
+use sides::BoxRow;
 use sides::Message;
 use sides::Particle;
-use sides::Particles;
-use sides::Shelf;
 use sides::Side;
 use sides::State;
 use sides::Status;
@@ -37,27 +34,11 @@ fn same_message(a: Message, b: Message) -> bool {
     let t = b.status;
     let v = a.value;
     let w = b.value;
-    if status_number(s) != status_number(t) {
-        return false;
-    }
-    if a.channel != b.channel {
-        return false;
-    }
-    same_value(v, w)
+    status_number(s) == status_number(t) && a.channel == b.channel && same_value(v, w)
 }
 
-fn same_lobby(a: Lobby, b: Lobby) -> bool {
-    let mut k: usize = 0;
-    while k < 16 {
-        let x = a.msgs[k];
-        let y = b.msgs[k];
-        if same_message(x, y) {
-            k += 1;
-        } else {
-            return false;
-        }
-    }
-    a.len == b.len
+fn same_box(a: BoxRow, b: BoxRow) -> bool {
+    a.name == b.name && a.parent == b.parent
 }
 
 // A number for each tag: those that hold a name are odd, to a child, or even, from a child, above the others.
@@ -77,32 +58,20 @@ fn wide(n: u32) -> u64
     n as u64
 }
 
-fn same_values(a: [Value; 8], b: [Value; 8]) -> bool {
-    let mut k: usize = 0;
-    while k < 8 {
-        let x = a[k];
-        let y = b[k];
-        if same_value(x, y) {
-            k += 1;
-        } else {
-            return false;
-        }
-    }
-    true
+// Values k and k + 1 of eight.
+fn same_two(a: [Value; 8], b: [Value; 8], k: usize) -> bool
+    requires { ⌜ k < 7 ⌝ }
+{
+    same_value(a[k], b[k]) && same_value(a[k + 1], b[k + 1])
 }
 
-// Box, kind, node and number of values.
+fn same_values(a: [Value; 8], b: [Value; 8]) -> bool {
+    same_two(a, b, 0) && same_two(a, b, 2) && same_two(a, b, 4) && same_two(a, b, 6)
+}
+
+// Kind, box, node and number of values.
 fn same_place(a: Particle, b: Particle) -> bool {
-    if a.is_output != b.is_output {
-        return false;
-    }
-    if a.at != b.at {
-        return false;
-    }
-    if a.node != b.node {
-        return false;
-    }
-    a.n == b.n
+    a.is_output == b.is_output && a.at == b.at && a.node == b.node && a.n == b.n
 }
 
 fn same_particle(a: Particle, b: Particle) -> bool {
@@ -112,75 +81,67 @@ fn same_particle(a: Particle, b: Particle) -> bool {
     let y = b.value;
     let v = a.vals;
     let w = b.vals;
-    if a.channel != b.channel {
-        return false;
-    }
-    if tag_number(s) != tag_number(t) {
-        return false;
-    }
-    if same_value(x, y) {
-        if same_place(a, b) {
-            return same_values(v, w);
-        }
-    }
-    false
+    a.channel == b.channel
+        && tag_number(s) == tag_number(t)
+        && same_value(x, y)
+        && same_place(a, b)
+        && same_values(v, w)
 }
 
-fn same_particles(a: Particles, b: Particles) -> bool {
+// Box and message k, and the number of each.
+fn same_row_of_16(a: Side, b: Side, k: usize) -> bool
+    requires { ⌜ k < 16 ⌝ }
+{
+    let x = a.boxes;
+    let y = b.boxes;
+    let l = a.lobby;
+    let m = b.lobby;
+    x.len == y.len
+        && l.len == m.len
+        && same_box(x.rows[k], y.rows[k])
+        && same_message(l.msgs[k], m.msgs[k])
+}
+
+// Particle and shelf value k, the number of each, and whether the value is taken.
+fn same_row_of_32(a: Side, b: Side, k: usize) -> bool
+    requires { ⌜ k < 32 ⌝ }
+{
+    let p = a.particles;
+    let q = b.particles;
+    let h = a.shelf;
+    let g = b.shelf;
+    let t = a.taken;
+    let u = b.taken;
+    p.len == q.len
+        && h.len == g.len
+        && t[k] == u[k]
+        && same_particle(p.rows[k], q.rows[k])
+        && same_value(h.rows[k], g.rows[k])
+}
+
+// Place k of each list that has one.
+fn same_row(a: Side, b: Side, k: usize) -> bool
+    requires { ⌜ k < 32 ⌝ }
+{
+    if k < 16 {
+        return same_row_of_16(a, b, k) && same_row_of_32(a, b, k);
+    }
+    same_row_of_32(a, b, k)
+}
+
+fn same_rows(a: Side, b: Side) -> bool {
     let mut k: usize = 0;
     while k < 32 {
-        let x = a.rows[k];
-        let y = b.rows[k];
-        if same_particle(x, y) {
+        if same_row(a, b, k) {
             k += 1;
         } else {
             return false;
         }
-    }
-    a.len == b.len
-}
-
-fn same_boxes(a: Boxes, b: Boxes) -> bool {
-    let mut k: usize = 0;
-    while k < 16 {
-        let x = a.rows[k];
-        let y = b.rows[k];
-        if x.name != y.name {
-            return false;
-        }
-        if x.parent != y.parent {
-            return false;
-        }
-        k += 1;
-    }
-    a.len == b.len
-}
-
-fn same_shelf(a: Shelf, b: Shelf) -> bool {
-    let mut k: usize = 0;
-    while k < 32 {
-        let x = a.rows[k];
-        let y = b.rows[k];
-        if same_value(x, y) {
-            k += 1;
-        } else {
-            return false;
-        }
-    }
-    a.len == b.len
-}
-
-fn same_taken(a: [bool; 32], b: [bool; 32]) -> bool {
-    let mut k: usize = 0;
-    while k < 32 {
-        if a[k] != b[k] {
-            return false;
-        }
-        k += 1;
     }
     true
 }
 
+// Marks of names that have left.
 fn same_left(a: [bool; 512], b: [bool; 512]) -> bool {
     let mut k: usize = 0;
     while k < 512 {
@@ -192,52 +153,10 @@ fn same_left(a: [bool; 512], b: [bool; 512]) -> bool {
     true
 }
 
-// Particles, boxes and the mint count.
-fn same_contents(a: Side, b: Side) -> bool {
-    let p = a.particles;
-    let q = b.particles;
-    let x = a.boxes;
-    let y = b.boxes;
-    if a.minted != b.minted {
-        return false;
-    }
-    if same_particles(p, q) {
-        return same_boxes(x, y);
-    }
-    false
-}
-
-// Lobby and shelf.
-fn same_messages(a: Side, b: Side) -> bool {
-    let l = a.lobby;
-    let m = b.lobby;
-    let h = a.shelf;
-    let g = b.shelf;
-    if same_lobby(l, m) {
-        return same_shelf(h, g);
-    }
-    false
-}
-
-// Taken marks and marks of names that have left.
-fn same_marks(a: Side, b: Side) -> bool {
-    let t = a.taken;
-    let u = b.taken;
+fn same_side(a: Side, b: Side) -> bool {
     let l = a.left;
     let m = b.left;
-    if same_taken(t, u) {
-        return same_left(l, m);
-    }
-    false
-}
-
-fn same_side(a: Side, b: Side) -> bool {
-    if same_contents(a, b) {
-        if same_messages(a, b) {
-            return same_marks(a, b);
-        }
-    }
-    false
+    a.minted == b.minted && same_left(l, m) && same_rows(a, b)
 }
 
 pub fn same_state(a: State, b: State) -> bool {
@@ -245,8 +164,5 @@ pub fn same_state(a: State, b: State) -> bool {
     let p = b.one;
     let t = a.two;
     let u = b.two;
-    if same_side(o, p) {
-        return same_side(t, u);
-    }
-    false
+    same_side(o, p) && same_side(t, u)
 }
