@@ -1,6 +1,6 @@
 // What a step of a state answers.
 use super::handler::stepped;
-use super::same::same_state;
+use changes::same_state;
 use changes::word;
 use changes::write;
 use interpreter::Stepped;

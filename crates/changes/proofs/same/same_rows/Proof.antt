@@ -1,8 +1,8 @@
--- `states::same::same_rows` meets its contract: the loop goes over places below 32.
+-- `changes::same::same_rows` meets its contract: the loop goes over places below 32.
 use Prim.Native.Nat.{_-_, _≤_}
 use borrow.Author.Needs.{needs}
-use Rattle.states.proofs.same.same_rows.Statement.{statement}
-use Rattle.states.proofs.same.same_rows.Tie as tie
+use Rattle.changes.proofs.same.same_rows.Statement.{statement}
+use Rattle.changes.proofs.same.same_rows.Tie as tie
 
 abbrev Inv-loop : tie.InvT-loop
 Inv-loop a b k₀ k = k ≤ 32
