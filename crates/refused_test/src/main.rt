@@ -4,11 +4,11 @@
 // the name 20, with the table on side 1, then on side 2, and `kept` where the state that came back is the one that was passed. The
 // last lines have one answer: wrappers, and a state of the other wrapper or of other tables.
 ghost use Prim.Native.Nat.{_≤_};
+use changes::write;
 use interpreter::load;
 use interpreter::step;
 use sides::State;
 use states::answer;
-use states::write;
 
 // How a line begins.
 fn begin(good: bool, name: &[u8]) {

@@ -1,8 +1,8 @@
 // What a step of a state answers.
 use super::handler::stepped;
-use super::same::same_state;
-use super::writing::word;
-use super::writing::write;
+use changes::same_state;
+use changes::word;
+use changes::write;
 use interpreter::Stepped;
 use sides::State;
 use steps::Said;

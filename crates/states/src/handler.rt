@@ -1,6 +1,6 @@
 // The handler's table, and the states to break, by load and steps.
-ghost use Prim.Native.Nat.{_≤_};
-use super::writing::size;
+ghost use Prim.Native.Nat.{_<_, _≤_};
+use changes::size;
 use interpreter::LoadAnswer;
 use interpreter::Stepped;
 use interpreter::load;
@@ -84,16 +84,29 @@ const POOL: [u32; 20] = [
     4999999,
 ];
 
-// The nodes, one after the other.
+// Word k of the nodes, one after the other.
+fn node_word(k: usize) -> u32
+    requires { ⌜ k < 225 ⌝ }
+{
+    let row = NODES[k / 5];
+    row[k % 5]
+}
+
 fn table() -> Words {
     let mut nodes: [u32; 225] = [0; 225];
     let mut k: usize = 0;
     while k < 225 {
-        let row = NODES[k / 5];
-        nodes[k] = row[k % 5];
+        nodes[k] = node_word(k);
         k += 1;
     }
     Words { nodes }
+}
+
+// So many, or none.
+fn count_if(lent: bool, n: usize) -> usize
+    ensures { λ r. ⌜ r ≤ n ⌝ }
+{
+    if lent { n } else { 0 }
 }
 
 // The handler under the pipeline on both sides, or under the filter on side 1.
@@ -103,10 +116,9 @@ fn loaded(wrapper: u32) -> LoadAnswer {
     let pool = POOL;
     let both = &nodes[..];
     let words = &pool[..];
-    if wrapper == 2 {
-        return load(2, both, words, both, words);
-    }
-    load(wrapper, both, words, &words[..0], &words[..0])
+    let n = count_if(wrapper == 2, both.len());
+    let m = count_if(wrapper == 2, words.len());
+    load(wrapper, both, words, &both[0..n], &words[0..m])
 }
 
 // A step of such a state.
@@ -124,15 +136,14 @@ pub fn stepped(
     let pool = POOL;
     let both = &nodes[..];
     let words = &pool[..];
-    if wrapper == 2 {
-        return step(2, both, words, both, words, s, kind, side, i, j, given);
-    }
+    let n = count_if(wrapper == 2, both.len());
+    let m = count_if(wrapper == 2, words.len());
     step(
         wrapper,
         both,
         words,
-        &words[..0],
-        &words[..0],
+        &both[0..n],
+        &words[0..m],
         s,
         kind,
         side,
@@ -171,17 +182,17 @@ const STEPS: [[u32; 5]; 25] = [
     [3, 1, 1, 0, 0],
 ];
 
-// The state after a step of the list; the name is for `enter`, kind 1.
-fn next(wrapper: u32, s: State, row: [u32; 5]) -> State {
+// The state after step k of the list; the name is for `enter`, kind 1.
+fn next(wrapper: u32, s: State, k: usize) -> State
+    requires { ⌜ k < 25 ⌝ }
+{
+    let row = STEPS[k];
+    let n = count_if(row[0] == 1, 1);
     let i = size(row[2]);
     let j = size(row[3]);
     let names: [u32; 1] = [row[4]];
     let given = &names[..];
-    if row[0] == 1 {
-        let r = stepped(wrapper, s, 1, row[1], i, j, given);
-        return r.state;
-    }
-    let r = stepped(wrapper, s, row[0], row[1], i, j, &given[..0]);
+    let r = stepped(wrapper, s, row[0], row[1], i, j, &given[0..n]);
     r.state
 }
 
@@ -193,8 +204,7 @@ fn after(wrapper: u32, from: usize, to: usize) -> State
     let mut s = a.state;
     let mut k = from;
     while k < to {
-        let row = STEPS[k];
-        s = next(wrapper, s, row);
+        s = next(wrapper, s, k);
         k += 1;
     }
     s

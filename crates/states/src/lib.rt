@@ -1,24 +1,9 @@
-// States to break: two by load and steps, one thing on a side of them put anew, whether two are equal, and lines of output.
+// States to break, by load and steps, and what a step of a state answers.
 mod asking; // what a step of a state answers
 mod handler; // the table, and states by load and steps
-mod labels; // what a line says is put anew
-mod lists; // lists that are well formed but for their count or their last row
-mod puts; // a state with one thing put anew
-mod same; // whether two states are equal
-mod writing; // numbers and texts
 
 pub use asking::answer;
 pub use asking::ask;
 pub use asking::head;
 pub use handler::filtered;
 pub use handler::piped;
-pub use labels::label;
-pub use lists::input_of;
-pub use puts::put;
-pub use puts::put_input;
-pub use puts::put_value;
-pub use same::same_state;
-pub use writing::number;
-pub use writing::size;
-pub use writing::word;
-pub use writing::write;

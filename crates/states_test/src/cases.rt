@@ -1,15 +1,15 @@
 // States with one thing put anew, as a list of rows, each a line.
 ghost use Prim.Native.Nat.{_≤_};
+use changes::label;
+use changes::number;
+use changes::put;
+use changes::write;
 use sides::State;
 use states::ask;
 use states::head;
-use states::label;
-use states::number;
-use states::put;
-use states::write;
 
 // Where: 0 on every side, 1 where the side may have a shelf, 2 where it may not. Whether it is allowed. What is put, by its number in
-// the crate `states`; how much or which.
+// the crate `changes`; how much or which.
 const ROWS: [[usize; 4]; 47] = [
     [0, 1, 19, 1], // 0: an output in a box: there are boxes 0 and 1
     [0, 0, 19, 2],

@@ -1,9 +1,9 @@
 // That the comparison of two states sees each field: pairs of states that differ in one.
+use changes::put;
+use changes::same_state;
+use changes::word;
+use changes::write;
 use sides::State;
-use states::put;
-use states::same_state;
-use states::word;
-use states::write;
 
 // A line: what differs on which side, and whether that is seen. Each of the two states has one thing put anew.
 fn compare(name: &[u8], s: State, side: u32, what: usize, n: usize, other: usize, m: usize) {

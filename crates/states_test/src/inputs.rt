@@ -1,11 +1,11 @@
 // Waiting inputs, as a list of rows, each a line.
+use changes::input_of;
+use changes::number;
+use changes::put_input;
+use changes::write;
 use sides::State;
 use states::ask;
 use states::head;
-use states::input_of;
-use states::number;
-use states::put_input;
-use states::write;
 use values::Value;
 
 // Whether it is allowed; the box; the node; the number of values; the word that each is.

@@ -36,12 +36,12 @@ mod names; // names and values
 use cases::cases;
 use cases::counts;
 use cases::taken_case;
+use changes::put;
+use changes::write;
 use names::names;
 use names::value;
 use names::values;
 use sides::State;
-use states::put;
-use states::write;
 
 // Every clause of a side.
 fn side_clauses(wrapper: u32, side: u32, s: State) {

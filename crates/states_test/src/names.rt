@@ -2,15 +2,15 @@
 ghost use Prim.Native.Nat.{_<_, _≤_};
 use super::cases::case;
 use super::cases::has_shelf;
+use changes::label;
+use changes::number;
+use changes::put_value;
+use changes::size;
+use changes::word;
+use changes::write;
 use sides::State;
 use states::ask;
 use states::head;
-use states::label;
-use states::number;
-use states::put_value;
-use states::size;
-use states::word;
-use states::write;
 use values::Value;
 
 // Whether a side has a place: no shelf but where it may have one.

@@ -1,4 +1,4 @@
--- `states::handler::after` meets its contract: the loop reads rows below the end of the part, at most 25.
+-- `states::handler::after` meets its contract: the loop goes over steps below the end of the part, at most 25.
 use Prim.Native.Nat.{_-_, _≤_}
 use borrow.Author.Needs.{needs}
 use Rattle.states.proofs.handler.after.Statement.{statement}
@@ -15,12 +15,6 @@ loaded-requires c κs = search needs
 
 loop-holds : tie.Need-loop-holds Inv-loop μ-loop
 loop-holds c = search needs
-
-mul-row : tie.Need-mul-row Inv-loop μ-loop
-mul-row c = search needs
-
-array-copy-out-row : tie.Need-array-copy-out-row Inv-loop μ-loop
-array-copy-out-row c = search needs
 
 next-requires : tie.Need-next-requires Inv-loop μ-loop
 next-requires c κs = search needs
@@ -45,8 +39,6 @@ after-spec =
     μ-loop
     loaded-requires
     loop-holds
-    mul-row
-    array-copy-out-row
     next-requires
     add-k
     loop-less

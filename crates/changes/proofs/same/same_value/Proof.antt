@@ -1,8 +1,8 @@
--- `states::same::same_value` meets its contract: the loop reads places below 16.
+-- `changes::same::same_value` meets its contract: the loop reads places below 16.
 use Prim.Native.Nat.{_-_, _≤_}
 use borrow.Author.Needs.{needs}
-use Rattle.states.proofs.same.same_value.Statement.{statement}
-use Rattle.states.proofs.same.same_value.Tie as tie
+use Rattle.changes.proofs.same.same_value.Statement.{statement}
+use Rattle.changes.proofs.same.same_value.Tie as tie
 
 abbrev Inv-loop : tie.InvT-loop
 Inv-loop a b k₀ k = k ≤ 16

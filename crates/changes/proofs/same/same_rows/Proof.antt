@@ -1,8 +1,8 @@
--- `states::same::same_taken` meets its contract: the loop reads places below 32.
+-- `changes::same::same_rows` meets its contract: the loop goes over places below 32.
 use Prim.Native.Nat.{_-_, _≤_}
 use borrow.Author.Needs.{needs}
-use Rattle.states.proofs.same.same_taken.Statement.{statement}
-use Rattle.states.proofs.same.same_taken.Tie as tie
+use Rattle.changes.proofs.same.same_rows.Statement.{statement}
+use Rattle.changes.proofs.same.same_rows.Tie as tie
 
 abbrev Inv-loop : tie.InvT-loop
 Inv-loop a b k₀ k = k ≤ 32
@@ -13,14 +13,8 @@ abbrev μ-loop : tie.MeasureT-loop
 loop-holds : tie.Need-loop-holds Inv-loop μ-loop
 loop-holds c = search needs
 
-array-read-if1 : tie.Need-array-read-if1 Inv-loop μ-loop
-array-read-if1 c = search needs
-
-array-read-if1-2 : tie.Need-array-read-if1-2 Inv-loop μ-loop
-array-read-if1-2 c = search needs
-
-returns : tie.Need-returns Inv-loop μ-loop
-returns c = search needs
+same-row-requires : tie.Need-same-row-requires Inv-loop μ-loop
+same-row-requires c κs = search needs
 
 add-k : tie.Need-add-k Inv-loop μ-loop
 add-k c = search needs
@@ -31,20 +25,22 @@ loop-less c = search needs
 loop-again : tie.Need-loop-again Inv-loop μ-loop
 loop-again c = search needs
 
+returns : tie.Need-returns Inv-loop μ-loop
+returns c = search needs
+
 returns-2 : tie.Need-returns-2 Inv-loop μ-loop
 returns-2 c = search needs
 
-pub same-taken-spec : {M : Type 1} → statement M
-same-taken-spec =
+pub same-rows-spec : {M : Type 1} → statement M
+same-rows-spec =
     tie.close
     (tie.spec
     Inv-loop
     μ-loop
     loop-holds
-    array-read-if1
-    array-read-if1-2
-    returns
+    same-row-requires
     add-k
     loop-less
     loop-again
+    returns
     returns-2)

@@ -131,7 +131,7 @@ fn two_counts() {
     piped_list(b"counts", &nodes, &pool, &nodes, &pool, &list, at);
 }
 
-pub fn trials() {
+pub fn runs() {
     lengths();
     used_as_box();
     used_as_tag();

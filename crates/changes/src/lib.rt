@@ -1,0 +1,17 @@
+// Changes to a state: one thing on a side put anew, whether two states are equal, and lines of output.
+mod labels; // what a line says is put anew
+mod lists; // lists that are well formed but for their count or their last row
+mod puts; // a state with one thing put anew
+mod same; // whether two states are equal
+mod writing; // numbers and texts
+
+pub use labels::label;
+pub use lists::input_of;
+pub use puts::put;
+pub use puts::put_input;
+pub use puts::put_value;
+pub use same::same_state;
+pub use writing::number;
+pub use writing::size;
+pub use writing::word;
+pub use writing::write;
