@@ -9,7 +9,7 @@ use native.Mathlib.Omega.{arith}
 use native.Mathlib.Numerals.{add-one}
 use borrow.Author.Tests.{eq-eqb, ne-eqb, eqb-true}
 use lib.Dec.{eqb}
-use lib.ListN.{length, take, getD, set, replicate, length-take}
+use lib.ListN.{length, take, getD, set, replicate}
 use Rattle.model.specs.Basics.{_&_, Res, refuse, done}
 use Rattle.model.specs.Side.{Core}
 use Rattle.model.specs.Side.{Side as MSide, State as MState}
@@ -20,6 +20,7 @@ use Rattle.model.specs.Answer.{Said as MSaid, label, number, saidBy, sideBy, va
 use Rattle.model.proofs.Tests.{fst, snd, both}
 use Rattle.values.specs.declared.Value.{Value}
 use Rattle.values.specs.Env.{viewValue}
+use Rattle.values.proofs.Lists.{take-count}
 use Rattle.tables.specs.Checks.{Passes}
 use Rattle.sides.specs.declared.Side.{Side}
 use Rattle.sides.specs.declared.State.{State}
@@ -50,13 +51,11 @@ copied ws l k e h p =
     let q : 16 - k ≡ suc (16 - (k + 1)) = omega arith in
     ap (λ (x : List ℕ). set x k (getD ws k 0)) (p ∙ ap (λ (n : ℕ). take k ws ++ replicate n 0) q) ∙ copy-more ws k (16 - (k + 1)) (omega arith) ∙ ap (λ (n : ℕ). take n ws ++ replicate (16 - (k + 1)) 0) (sym (add-one k))
 
-pub padded-is : (v r : Value) (k : ℕ) → length (v .words) ≡ 16 → v .len ≤ 16 → k ≡ v .len → r .words ≡ take k (v .words) ++ replicate (16 - k) 0 → r .len ≡ v .len → Padded (viewValue v) r
-padded-is v r k e h z w l =
-    let n : length (viewValue v) ≡ v .len = omega (arith, length-take (v .len) (v .words)) in
-    record {
-      len = l ∙ sym n;
-      words = w ∙ ap (λ (x : ℕ). take x (v .words) ++ replicate (16 - x) 0) z ∙ ap (λ (x : ℕ). viewValue v ++ replicate (16 - x) 0) (sym n);
-    }
+pub padded-is : (v r : Value) (k : ℕ) → k ≡ length (viewValue v) → r .words ≡ take k (v .words) ++ replicate (16 - k) 0 → r .len ≡ k → Padded (viewValue v) r
+padded-is v r k e w l = record {
+  len = l ∙ e;
+  words = w ∙ ap (λ (x : ℕ). take x (v .words) ++ replicate (16 - x) 0) e ∙ ap (λ (x : List ℕ). x ++ replicate (16 - length (viewValue v)) 0) (take-count (v .len) (v .words));
+}
 
 -- AN ANSWER AS IT IS GIVEN
 same-given : {a b : MSaid} {m n : ℕ} {i j : ℕ} {l r : List ℕ} → a ≡ b → m ≡ n → i ≡ j → l ≡ r → _≡_ {A = Given} (record { said = a; side = m; len = i; words = l }) (record { said = b; side = n; len = j; words = r })
@@ -79,11 +78,6 @@ given-by : (k : ℕ) (y : Said) (l : List ℕ) (a : Answer) → saidOf y ≡ sai
 given-by k y l a p q v = same-given p q (ap length v) (ap (λ (x : List ℕ). x ++ replicate (16 - length x) 0) v)
 
 module _ (o : Side) (d : SideStep) where
-  -- a value is short, whatever the step does
-  pub step-short : (m : Res Moved) → StepIs m o d → d .value .len ≤ 16
-  step-short (refuse n) h = h .is .short-value
-  step-short (done v) h = h .is .short-value
-
   pub step-given : (k : ℕ) (m : Res Moved) → StepIs m o d → givenFor (d .said) k (viewValue (d .value)) ≡ given (answerOf k m)
   step-given k (refuse n) h = given-by k (d .said) _ (refusal n k) (ap saidOf (h .is .says)) refl (h .is .value)
   step-given k (done v) h = given-by k (d .said) _ (labelled (v .label) k (v .val)) (said-of (d .said) (v .label) (h .is .says)) refl (h .is .value)

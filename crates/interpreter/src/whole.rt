@@ -2,7 +2,7 @@
 ghost use mathlib.Core.Path.{_≡_};
 ghost use mathlib.Core.Bool.{true, _&&_};
 ghost use mathlib.Core.List.{_++_};
-ghost use Prim.Native.Nat.{_-_, _≤_};
+ghost use Prim.Native.Nat.{_-_};
 ghost use lib.Dec.{eqb};
 ghost use lib.ListN.{length, replicate};
 ghost use Rattle.model.specs.Basics.{_&_};
@@ -27,10 +27,9 @@ use wellformed::whole::well_formed;
 
 // A value with zeros past its length.
 pub fn padded(v: Value) -> Value
-    requires { ⌜ v .len ≤ 16 ⌝ }
     ensures { λ r. ⌜ Padded (viewValue v) r ⌝ }
 {
-    let n = v.len;
+    let n = v.count();
     let mut words: [u32; 16] = [0; 16];
     let mut k: usize = 0;
     while k < n {
@@ -42,7 +41,6 @@ pub fn padded(v: Value) -> Value
 
 // An answer with its side and its value, beside a state.
 fn answered(said: Said, side: u32, v: Value, state: State) -> Stepped
-    requires { ⌜ v .len ≤ 16 ⌝ }
     ensures { λ r. ⌜ Answered said side (viewValue v) state r ⌝ }
 {
     let value = padded(v);
@@ -56,7 +54,6 @@ fn answered(said: Said, side: u32, v: Value, state: State) -> Stepped
 
 // A side put back into the state, with its answer: side 1, else side 2.
 fn put_back(s: State, k: u32, d: SideStep) -> Stepped
-    requires { ⌜ d .value .len ≤ 16 ⌝ }
     ensures { λ r. ⌜ Answered (d .said) k (viewValue (d .value)) (putSide s k (d .side)) r ⌝ }
 {
     let said = d.said;

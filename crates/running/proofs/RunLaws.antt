@@ -92,6 +92,10 @@ words-made y a b s n m ws l z p q e h =
     ∙ ap (λ (x : List ℕ). x ++ (s ∷ n ∷ ws)) (sym (two-said y))
     ∙ ap (λ (x : ℕ). wordsIn y s x ws) z
 
+-- a value has at most 16 words, since with the zeros behind it there are 16
+pub value-short : (v ws : List ℕ) → ws ≡ v ++ replicate (16 - length v) 0 → length ws ≡ 16 → length v ≤ 16
+value-short v ws e h = omega (arith, ap length e, length-append v (replicate (16 - length v) 0))
+
 -- an answer with zeros past its words
 pub answer-words : (y : Said) (s : ℕ) (l ws of : List ℕ) (n : ℕ) → n ≡ length l → ws ≡ l ++ replicate (16 - length l) 0 → of ≡ wordsIn y s n ws → of ≡ givenWords (givenFor y s l)
 answer-words y s l ws of n p q h = h ∙ ap (λ (m : ℕ). wordsIn y s m ws) p ∙ ap (wordsIn y s (length l)) q

@@ -79,7 +79,7 @@ fn put(out: &mut [u32], i: usize, w: Words)
 
 // Writes the answer with index k.
 pub(crate) fn put_answer(out: &mut [u32], k: usize, said: Said, side: u32, v: Value)
-    requires { ⌜ (20 * k + 20 ≤ length (now out)) × (v .len ≤ 16) ⌝ }
+    requires { ⌜ 20 * k + 20 ≤ length (now out) ⌝ }
     ensures { λ _. ⌜ (length (givenWords (givenFor said side (viewValue v))) ≡ 20) × (now (out .exit) ≡ paste (now (out .entry)) (20 * k) (givenWords (givenFor said side (viewValue v))) 20) ⌝ }
 {
     put(out, k, words_of(said, side, padded(v)));

@@ -1,11 +1,11 @@
 use mathlib.Core.Path.{_≡_, sym, ap, _∙_}
 use mathlib.Core.List.{List}
 use Prim.Native.Nat.{ℕ, _*_, _≤_}
-use lib.ListN.{length, length-take}
+use lib.ListN.{length}
 use lib.Seq.{paste}
-use native.Mathlib.Omega.{arith}
 use Rattle.values.specs.Env.{viewValue}
-use Rattle.running.proofs.RunLaws.{answer-words}
+use Rattle.running.proofs.RunLaws.{value-short, answer-words}
+use native.Mathlib.Omega.{arith}
 use borrow.Author.Needs.{needs}
 use Rattle.running.proofs.answer_words.put_answer.Statement.{statement}
 use Rattle.running.proofs.answer_words.put_answer.Tie as tie
@@ -23,7 +23,13 @@ same-length : tie.Need-same-length
 same-length c = search needs
 
 returns : tie.Need-returns
-returns c = let e = answer-words (c .before .before .before .before .before .before .before .args .said) (c .before .before .before .before .before .before .before .args .side) (viewValue (c .before .before .before .before .before .before .before .args .v)) (c .before .before .before .before .padded .result .words) (c .before .before .before .words-of .result .of) (c .before .before .before .before .padded .result .len) (c .before .before .before .before .padded .ensures .len) (c .before .before .before .before .padded .ensures .words) (c .before .before .before .words-of .ensures .2 (omega (arith, c .before .before .before .before .padded .ensures .len, length-take (c .before .before .before .before .before .before .before .args .v .len) (c .before .before .before .before .before .before .before .args .v .words), c .before .before .before .before .before .before .before .pre .1))) in (ap length (sym e) ∙ c .before .before .before .words-of .ensures .1, c .before .before .put .ensures ∙ ap (λ (ws : List ℕ). paste (c .before .before .before .before .before .before .before .args .out .now) (20 * c .before .before .before .before .before .before .before .args .k) ws 20) e)
+returns c =
+    let a = c .before .before .before .before .before .before .before .args in
+    let v = c .before .before .before .before .padded in
+    let w = c .before .before .before .words-of in
+    let few = value-short (viewValue (a .v)) (v .result .words) (v .ensures .words) (w .ensures .0) in
+    let e = answer-words (a .said) (a .side) (viewValue (a .v)) (v .result .words) (w .result .of) (v .result .len) (v .ensures .len) (v .ensures .words) (w .ensures .2 (omega (arith, v .ensures .len, few))) in
+    (ap length (sym e) ∙ w .ensures .1, c .before .before .put .ensures ∙ ap (λ (ws : List ℕ). paste (a .out .now) (20 * a .k) ws 20) e)
 
 pub put-answer-spec : {M : Type 1} → statement M
 put-answer-spec =
