@@ -2,13 +2,16 @@
 //
 // A line has `broken`, or `allowed` for tables beside broken ones; what the tables are; after the colon the answer to `enter` with
 // the name 20, with the table on side 1, then on side 2, and `kept` where the state that came back is the one that was passed. The
-// last lines have one answer: wrappers, and a state of the other wrapper or of other tables.
+// lines after them have one answer: wrappers, and a state of the other wrapper or of other tables. The lines `compared` show that
+// the comparison tells two states apart that differ in one field.
 ghost use Prim.Native.Nat.{_≤_};
 use changes::write;
 use interpreter::load;
 use interpreter::step;
 use sides::State;
 use states::answer;
+
+mod compared; // that the comparison sees each field
 
 // How a line begins.
 fn begin(good: bool, name: &[u8]) {
@@ -202,4 +205,7 @@ fn main() {
     nodes();
     chains();
     wrappers();
+    let s = states::piped();
+    compared::fields(s, 1);
+    compared::fields(s, 2);
 }

@@ -2,7 +2,8 @@
 //
 // A line has `broken`, or `allowed` for a state beside a broken one; the wrapper; the side that is changed; what is put there;
 // after the colon the answer of each side to `enter` with the name 20, and `kept` where the state that came back is the one that
-// was passed, field by field. The lines `compared` show that the comparison tells two states apart that differ in one field.
+// was passed, field by field. That the comparison tells two states apart that differ in one field is shown by the program
+// `refused_test`.
 //
 // The clauses, in the order of the definitions, and what the lines that break them say. Side 1 of the pipeline has minted one name,
 // side 2 two; the filter's side 1 two.
@@ -29,7 +30,6 @@
 //   isNoSide    filter 2: particles, boxes, messages, shelf, minted, left, taken
 //   ready       by the program `refused_test`
 mod cases; // one thing put anew
-mod compared; // that the comparison sees each field
 mod inputs; // waiting inputs
 mod names; // names and values
 
@@ -116,6 +116,4 @@ fn main() {
     pipeline(2, s);
     taken_marks(s);
     filter(f);
-    compared::fields(s, 1);
-    compared::fields(s, 2);
 }
