@@ -15,10 +15,10 @@
 //   heldWord    64 and those four as an output's, an input's, a message's and a shelf's value; in tuples
 //   wfValue     at those four: length 0; the wildcard; 4000016; 3999999; words left over; parts missing; length 17
 //   wfTag       to child and from child, as in held
-//   wfParticle  output and input in box 2, of two; input at node 45, of 45, and at nil 21, parallel 17, box 4, new 11, output 44;
-//               with one value at 15 for none, none or two at 6 for one, seven at 18 for eight; the eighth value 64; the empty
-//               tuple, 4000000, where it is used as channel or tag (26, 27), or in the body as box name, tag or channel (28, 29,
-//               25, 6); particle 31 of 32
+//   wfParticle  output in box 2, of two; the eighth value 64; particle 31 of 32; by the program `inputs_test` input in box 2; at
+//               node 45, of 45, and at nil 21, parallel 17, box 4, new 11, output 44; with one value at 15 for none, none or two at
+//               6 for one, seven at 18 for eight; the empty tuple, 4000000, where it is used as channel or tag (26, 27), or in the
+//               body as box name, tag or channel (28, 29, 25, 6)
 //   wfBoxes     box 1 parent 1; box 15 of 16; box name, as in held
 //   wfContents  no particles, boxes 0
 //   wfMessage   down on 1 and a minted name; arrived on 2 on side 1 of the pipeline; leaving on 2 and a minted name;
@@ -30,7 +30,6 @@
 //   isNoSide    filter 2: particles, boxes, messages, shelf, minted, left, taken
 //   ready       by the program `refused_test`
 mod cases; // one thing put anew
-mod inputs; // waiting inputs
 mod names; // names and values
 
 use cases::cases;
@@ -50,9 +49,7 @@ fn side_clauses(wrapper: u32, side: u32, s: State) {
     names(false, wrapper, side, s, 15, 19, &[64]);
     values(false, wrapper, side, s, 0, 8);
     values(true, wrapper, side, s, 8, 12);
-    cases(wrapper, side, s, 0, 2);
-    inputs::inputs(wrapper, side, s);
-    cases(wrapper, side, s, 2, 32);
+    cases(wrapper, side, s, 0, 32);
 }
 
 // The largest serials and the next, with 256 names minted on each side.

@@ -1,4 +1,5 @@
-// Waiting inputs, as a list of rows, each a line.
+// Waiting inputs that no load and no step gives, as a list of rows, each a line as those of the program `states_test`: of the clauses of
+// well-formedness, those of `wfParticle` that an input may break. A step answers 10 and keeps the state.
 use changes::input_of;
 use changes::number;
 use changes::put_input;
@@ -62,11 +63,19 @@ fn input_case(wrapper: u32, side: u32, s: State, row: [usize; 5]) {
     ask(wrapper, put_input(s, side, p));
 }
 
-pub fn inputs(wrapper: u32, side: u32, s: State) {
+// Each row, on a side.
+fn inputs(wrapper: u32, side: u32, s: State) {
     let mut k: usize = 0;
     while k < 27 {
         let row = INPUTS[k];
         input_case(wrapper, side, s, row);
         k += 1;
     }
+}
+
+fn main() {
+    let s = states::piped();
+    inputs(2, 1, s);
+    inputs(2, 2, s);
+    inputs(1, 1, states::filtered());
 }
