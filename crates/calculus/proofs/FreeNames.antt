@@ -208,9 +208,6 @@ TagIn A tau = Unit {0}
 TagIn A (send x o v) = AllT o (In A)
 TagIn A (recv x o v) = AllT o (In A)
 
-abbrev Without : ℕ → (ℕ → Type 0) → ℕ → Type 0
-Without x A y = A y
-
 drop-i : (A : List ℕ) (x : ℕ) (i : ITag ℕ) → Out∉ (inames i) x → AllI i (In (x ∷ A)) → AllI i (In A)
 drop-i A x within e h = tt
 drop-i A x parent e h = tt

@@ -11,7 +11,7 @@ use sides::Tag;
 use values::Value;
 
 // 32 outputs in box 0, of which the last is in box `last`, with their number.
-pub fn particles_of(n: usize, last: usize) -> Particles {
+pub(crate) fn particles_of(n: usize, last: usize) -> Particles {
     let v = Value::name(20);
     let p = Particle::output(0, 10, Tag::Within, v);
     let mut ps = Particles {
@@ -23,7 +23,7 @@ pub fn particles_of(n: usize, last: usize) -> Particles {
 }
 
 // 16 boxes in box 0, of which the last has another parent, with their number.
-pub fn boxes_of(n: usize, last: usize) -> Boxes {
+pub(crate) fn boxes_of(n: usize, last: usize) -> Boxes {
     let mut b = Boxes {
         rows: [BoxRow {
             name: 30,
@@ -39,7 +39,7 @@ pub fn boxes_of(n: usize, last: usize) -> Boxes {
 }
 
 // 16 messages down on `in`, of which the last is on another channel, with their number.
-pub fn lobby_of(n: usize, last: u32) -> Lobby {
+pub(crate) fn lobby_of(n: usize, last: u32) -> Lobby {
     let v = Value::name(20);
     let m = Message::new(Status::Down, 0, v);
     let mut l = Lobby {
@@ -51,7 +51,7 @@ pub fn lobby_of(n: usize, last: u32) -> Lobby {
 }
 
 // 32 values on the shelf, of which the last is another, with their number.
-pub fn shelf_of(n: usize, last: u32) -> Shelf {
+pub(crate) fn shelf_of(n: usize, last: u32) -> Shelf {
     let v = Value::name(20);
     let mut h = Shelf {
         rows: [v; 32],
@@ -62,14 +62,14 @@ pub fn shelf_of(n: usize, last: u32) -> Shelf {
 }
 
 // 16 words that are a value, with the length n.
-pub fn words_of(n: usize) -> Value {
+pub(crate) fn words_of(n: usize) -> Value {
     let mut words: [u32; 16] = [20; 16];
     words[0] = 4000015;
     Value { words, len: n }
 }
 
 // 1 word, and another past the length in the last place.
-pub fn name_past(last: u32) -> Value {
+pub(crate) fn name_past(last: u32) -> Value {
     let v = Value::name(20);
     let mut words = v.words;
     words[15] = last;
@@ -83,7 +83,7 @@ pub fn input_of(at: usize, node: usize, n: usize, v: Value) -> Particle {
 }
 
 // An input that waits at node 18 under eight names, with the last value another.
-pub fn eighth_of(w: u32) -> Particle {
+pub(crate) fn eighth_of(w: u32) -> Particle {
     let v = Value::name(20);
     let mut vals = [v; 8];
     vals[7] = Value::name(w);
@@ -91,17 +91,17 @@ pub fn eighth_of(w: u32) -> Particle {
 }
 
 // An output in a box.
-pub fn output_in(at: usize) -> Particle {
+pub(crate) fn output_in(at: usize) -> Particle {
     Particle::output(at, 10, Tag::Within, Value::name(20))
 }
 
 // An output in box 0.
-pub fn output_of(channel: u32, tag: Tag) -> Particle {
+pub(crate) fn output_of(channel: u32, tag: Tag) -> Particle {
     Particle::output(0, channel, tag, Value::name(20))
 }
 
 // A particle with other fields than an output's or an input's broken: an output, or an input at node 15.
-pub fn particle_with_other_fields(is_output: bool) -> Particle {
+pub(crate) fn particle_with_other_fields(is_output: bool) -> Particle {
     let v = Value::name(64);
     if is_output {
         let mut p = input_of(0, 99, 99, v);
@@ -117,13 +117,13 @@ pub fn particle_with_other_fields(is_output: bool) -> Particle {
 }
 
 // An output, or what is an input but for that.
-pub fn output_if(is_output: bool) -> Particle {
+pub(crate) fn output_if(is_output: bool) -> Particle {
     let mut p = output_in(0);
     p.is_output = is_output;
     p
 }
 
 // A message with the name 20.
-pub fn message_of(status: Status, channel: u32) -> Message {
+pub(crate) fn message_of(status: Status, channel: u32) -> Message {
     Message::new(status, channel, Value::name(20))
 }

@@ -1,5 +1,5 @@
 // A side's own step, by its kind: it sees its side, the tables of that side, and of the rest which minted names have left.
-// Its one caller, crate interpreter, has checked the tables and the state before.
+// Its callers, the crates interpreter and running, have checked the tables and the state before.
 ghost use mathlib.Core.Path.{_≡_};
 ghost use Prim.Native.Nat.{ℕ};
 ghost use lib.Dec.{eqb};
@@ -8,7 +8,6 @@ ghost use Rattle.model.specs.Basics.{_&_, Res, refuse};
 ghost use Rattle.model.specs.Load.{Setting};
 ghost use Rattle.model.specs.WellFormed.{shelves};
 ghost use Rattle.model.specs.Step.{Moved, settled, local, local2};
-ghost use Rattle.tables.specs.Nodes.{table};
 ghost use Rattle.sides.specs.Views.{viewCore, viewShelf, fitsShelf};
 ghost use Rattle.steps.specs.Asked.{knownBy};
 ghost use Rattle.steps.specs.StepIs.{Sane, StepIs};

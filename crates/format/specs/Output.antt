@@ -6,7 +6,7 @@ use lib.Dec.{ltb}
 use Rattle.model.specs.Load.{Refused, refused, ok, load}
 use Rattle.model.specs.Step.{silent, enters, leaves, Answer, labelled, refusal}
 use Rattle.format.specs.Words.{answers}
-use Rattle.format.specs.Lines.{tab, newline, Input, Reading, fault, whole, reading}
+use Rattle.format.specs.Lines.{tab, newline, Input, fault, whole, reading}
 
 -- the decimal digits of a number under 10 ^ k, with no zeros in front
 unfoldable pub decimalDigits : (k : ℕ) → ℕ → List ℕ

@@ -4,7 +4,7 @@ use mathlib.Core.Bool.{Bool, true, false, _&&_, cond, false≢true}
 use mathlib.Core.List.{List, [], _∷_, _++_}
 use mathlib.Core.Logic.{inl, inr}
 use mathlib.Core.Option.{Option, none, some}
-use Prim.Native.Nat.{ℕ, zero, suc, _+_, _-_, _<_, _≤_}
+use Prim.Native.Nat.{ℕ, zero, suc, _+_, _-_, _<_}
 use native.Mathlib.Omega.{arith}
 use native.Mathlib.Numerals.{add-one}
 use borrow.Author.Tests.{eq-eqb, ne-eqb, eqb-true}
@@ -14,23 +14,22 @@ use Rattle.model.specs.Basics.{_&_, Res, refuse, done}
 use Rattle.model.specs.Side.{Core}
 use Rattle.model.specs.Side.{Side as MSide, State as MState}
 use Rattle.model.specs.Load.{Composition, isPipeline, setting1, setting2, Loaded, refused, ok, isOk, load}
-use Rattle.model.specs.WellFormed.{counts, wfSide, wfState, isNoSide, ready}
-use Rattle.model.specs.Step.{Label, silent, enters, leaves, Step, Moved, settled, local, local2, known, marks, markAll, Answer, labelled, refusal, answerOf, sideAfter, Result, step, answerTo, afterStep}
-use Rattle.model.specs.Answer.{Said as MSaid, label, number, saidBy, sideBy, valueBy, Given, given}
+use Rattle.model.specs.WellFormed.{counts, wfSide, wfState, ready}
+use Rattle.model.specs.Step.{Label, silent, enters, leaves, Step, Moved, settled, local, local2, known, Answer, labelled, refusal, answerOf, sideAfter, Result, step, answerTo, afterStep}
+use Rattle.model.specs.Answer.{Said as MSaid, label, saidBy, sideBy, valueBy, Given, given}
 use Rattle.model.proofs.Tests.{fst, snd, both}
 use Rattle.values.specs.declared.Value.{Value}
 use Rattle.values.specs.Env.{viewValue}
 use Rattle.values.proofs.Lists.{take-count}
-use Rattle.tables.specs.Checks.{Passes}
 use Rattle.sides.specs.declared.Side.{Side}
 use Rattle.sides.specs.declared.State.{State}
-use Rattle.sides.specs.Views.{viewSide, viewCore, viewShelf, viewState, stateOf, fitsShelf, fitsSide, fitsArrays}
+use Rattle.sides.specs.Views.{viewSide, viewState, stateOf, fitsShelf, fitsSide, fitsArrays}
 use Rattle.sides.specs.Puts.{putSide}
 use Rattle.sides.proofs.Sides.{fits-one, fits-two, fits-put-side, side-shelf, state-some, state-none}
 use Rattle.steps.specs.declared.Said.{Said}
 use Rattle.steps.specs.declared.Said.the-variants as said
 use Rattle.steps.specs.declared.SideStep.{SideStep}
-use Rattle.steps.specs.StepIs.{labelOf, Stays, Becomes, Outcome, StepIs}
+use Rattle.steps.specs.StepIs.{labelOf, Outcome, StepIs}
 use Rattle.steps.proofs.Settling.{no-left, no-right}
 use Rattle.interpreter.specs.declared.Outcome.the-variants as outcome
 use Rattle.interpreter.specs.declared.Stepped.{Stepped}

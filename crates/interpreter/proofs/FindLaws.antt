@@ -1,6 +1,6 @@
 -- What `stranded` answers.
 use mathlib.Core.Path.{_≡_, refl, sym, ap, subst, _∙_}
-use mathlib.Core.Bool.{Bool, true, false, not, cond, false≢true}
+use mathlib.Core.Bool.{Bool, true, false, not, false≢true}
 use mathlib.Core.List.{List, [], _∷_, map}
 use mathlib.Core.Option.{Option, none, some}
 use Prim.Native.Nat.{ℕ, zero, suc, _+_, _≤_, _<_}
@@ -10,7 +10,7 @@ use lib.Dec.{eqb}
 use lib.ListN.{length, take, getD, getElem?}
 use Rattle.model.specs.Basics.{_&_, every}
 use Rattle.model.specs.Side.{Message as MMessage, State as MState}
-use Rattle.model.specs.Load.{Composition, isPipeline}
+use Rattle.model.specs.Load.{Composition}
 use Rattle.model.specs.WellFormed.{ready}
 use Rattle.model.specs.Step.{isArrived}
 use Rattle.model.specs.Stranded.{isStranded, lobbyAsked, rightStranded}

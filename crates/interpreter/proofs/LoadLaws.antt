@@ -1,6 +1,6 @@
 -- What load says, path by path.
-use mathlib.Core.Path.{_≡_, refl, sym, ap, ap₂, subst, _∙_}
-use mathlib.Core.Bool.{Bool, true, false, not, cond}
+use mathlib.Core.Path.{_≡_, refl, sym, ap, ap₂, _∙_}
+use mathlib.Core.Bool.{Bool, true, false, cond}
 use mathlib.Core.List.{List, []}
 use mathlib.Core.Logic.{_⊎_, inl, inr, ⊎-elim}
 use mathlib.Core.Option.{some}
@@ -9,21 +9,19 @@ use native.Mathlib.Omega.{arith}
 use borrow.Author.Tests.{eq-eqb, ne-eqb, eqb-true, eqb-false, leb-true, not-true}
 use lib.Dec.{eqb, leb}
 use lib.ListN.{length}
-use Rattle.model.specs.Basics.{_&_, Res, refuse, done, isDone, every}
+use Rattle.model.specs.Basics.{_&_, Res, refuse, done, isDone}
 use Rattle.model.specs.Values.{Env, noNames}
-use Rattle.model.specs.Table.{Table, count, term, scope}
+use Rattle.model.specs.Table.{Table, count, term}
 use Rattle.model.specs.Checks.{Fault, fault}
 use Rattle.model.specs.Side.{Contents, Message, withinLimits, emptyContents, startSide, noSide}
 use Rattle.model.specs.Side.{Side as MSide, State as MState}
-use Rattle.model.specs.Unfolding.{particlesIn, boxesIn, newNamesIn}
-use Rattle.model.specs.Load.{Composition, isPipeline, Setting, start, Loaded, refused, ok, isOk, loadSide, load}
+use Rattle.model.specs.Load.{Composition, Setting, start, Loaded, refused, ok, loadSide, load}
 use Rattle.model.specs.WellFormed.{Counts, wfSide}
 use Rattle.model.specs.Step.{short}
 use Rattle.model.proofs.Tests.{fst, snd, both}
 use Rattle.model.proofs.Counts.{Added, unfolds-adds}
-use Rattle.model.proofs.Growing.{CoreOk, core-ok}
+use Rattle.model.proofs.Growing.{core-ok}
 use Rattle.model.proofs.Invariant.{core-short}
-use Rattle.model.proofs.Environments.{Sized}
 use Rattle.model.proofs.Starts.{start-side}
 use Rattle.tables.specs.declared.checks.Verdict.{Verdict}
 use Rattle.tables.specs.declared.checks.Verdict.the-variants as verdict
@@ -40,7 +38,7 @@ use Rattle.sides.specs.declared.Side.{Side}
 use Rattle.sides.specs.declared.State.{State}
 use Rattle.sides.specs.Holding.{ParticlesIs, BoxesIs}
 use Rattle.sides.specs.Puts.{putParticles, putBoxes, putMinted}
-use Rattle.sides.specs.Views.{viewSide, viewState, stateOf, viewParticles, viewBoxes, fitsSide, fitsArrays, fitsParticles, fitsBoxes}
+use Rattle.sides.specs.Views.{viewSide, stateOf, fitsSide}
 use Rattle.sides.proofs.Sides.{side-fits, side-lobby, side-shelf, state-some}
 use Rattle.unfolding.specs.Long.{longIn}
 use Rattle.unfolding.specs.Settling.{CanUnfold, UnfoldedIs, contents}
@@ -49,7 +47,7 @@ use Rattle.unfolding.proofs.LongLaws.{short-unfolds}
 use Rattle.interpreter.specs.declared.Outcome.{Outcome}
 use Rattle.interpreter.specs.declared.Outcome.the-variants.{Ok, Refused}
 use Rattle.interpreter.specs.declared.LoadAnswer.{LoadAnswer}
-use Rattle.interpreter.specs.Loading.{composition, sideFault, atSide, outcomeOf, stateLoaded, LoadIs, Startable}
+use Rattle.interpreter.specs.Loading.{sideFault, atSide, outcomeOf, stateLoaded, LoadIs, Startable}
 
 -- A SIDE'S FAULT
 pub root-in : (t : Table) → Passes t → 0 < count t

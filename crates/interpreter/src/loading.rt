@@ -2,7 +2,6 @@
 ghost use mathlib.Core.Path.{_≡_};
 ghost use mathlib.Core.Bool.{true};
 ghost use Prim.Native.Nat.{ℕ};
-ghost use lib.Dec.{leb};
 ghost use Rattle.model.specs.Basics.{_&_};
 ghost use Rattle.model.specs.Side.{startSide};
 ghost use Rattle.model.specs.Load.{start, load};
@@ -22,19 +21,6 @@ use tables::checks::check;
 use unfolding::contents::unfold_into;
 use values::Env;
 
-// Whether a side may start with so many particles, boxes and minted names.
-fn within(particles: usize, boxes: usize, names: usize) -> bool
-    ensures { λ r. ⌜ r ≡ leb particles 32 & (leb boxes 16 & leb names 256) ⌝ }
-{
-    if Side::particles_within(particles) {
-        if Side::boxes_within(boxes) {
-            return Side::minted_within(names);
-        }
-        return false;
-    }
-    false
-}
-
 // A side's fault: 1 to 6, then 7 with node 0.
 fn side_verdict(nodes: &[u32], pool: &[u32]) -> Verdict
     ensures { λ r. ⌜ ((i : ℕ) → r ≡ verdictOf (sideFault i (table (now (nodes .entry)) (now (pool .entry))))) ⌝ }
@@ -44,7 +30,7 @@ fn side_verdict(nodes: &[u32], pool: &[u32]) -> Verdict
         return v;
     };
     let u = unfolded_at(nodes, 0);
-    if within(u.particles, u.boxes + 1, u.names) {
+    if Side::contents_within(u.particles, u.boxes + 1, u.names) {
         return Verdict::Passed;
     }
     Verdict::Refused(7, 0)

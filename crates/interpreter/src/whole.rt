@@ -1,15 +1,13 @@
 // A step of the whole state: the side that is asked makes it, and is put back.
 ghost use mathlib.Core.Path.{_≡_};
 ghost use mathlib.Core.Bool.{true, _&&_};
-ghost use mathlib.Core.List.{_++_};
 ghost use Prim.Native.Nat.{_-_};
 ghost use lib.Dec.{eqb};
-ghost use lib.ListN.{length, replicate};
 ghost use Rattle.model.specs.Basics.{_&_};
 ghost use Rattle.model.specs.WellFormed.{ready};
 ghost use Rattle.model.specs.Step.{step};
 ghost use Rattle.values.specs.Env.{viewValue};
-ghost use Rattle.sides.specs.Views.{viewState, stateOf, fitsArrays};
+ghost use Rattle.sides.specs.Views.{viewState, fitsArrays};
 ghost use Rattle.sides.specs.Puts.{putSide};
 ghost use Rattle.interpreter.specs.Loading.{composition};
 ghost use Rattle.dispatch.specs.Stepping.{asked};

@@ -4,13 +4,12 @@ use mathlib.Core.Bool.{Bool, true, false, cond}
 use mathlib.Core.List.{List}
 use Prim.Native.Nat.{ℕ, _+_, _-_, _<_, _≤_}
 use native.Mathlib.Omega.{arith}
-use borrow.Author.Tests.{le-leb, lt-leb, lt-ltb, le-ltb}
+use borrow.Author.Tests.{lt-ltb, le-ltb}
 use lib.Dec.{leb}
-use Rattle.model.specs.Basics.{remove}
+use Rattle.model.specs.Basics.{_&_, remove}
 use Rattle.model.specs.Values.{Env}
 use Rattle.model.specs.Table.{Table, count, term}
 use Rattle.model.specs.Side.{Particle as MParticle}
-use Rattle.model.specs.Unfolding.{particlesIn, boxesIn}
 use Rattle.model.specs.Step.{without}
 use Rattle.tables.specs.Checks.{Passes}
 use Rattle.scopes.specs.declared.unfolded.Unfolded as counted
@@ -21,7 +20,6 @@ use Rattle.sides.specs.Views.{viewParticles, fitsParticles}
 use Rattle.sides.specs.Holding.{ParticlesIs}
 use Rattle.sides.specs.Puts.{putParticles, putBoxes, putMinted}
 use Rattle.sides.proofs.Sides.{side-boxes, side-lobby, side-shelf, side-fits}
-use Rattle.sides.proofs.Lists.{stops, goes-on}
 use Rattle.unfolding.specs.declared.contents.Unfolded.{Unfolded}
 use Rattle.unfolding.specs.Settling.{UnfoldedIs}
 use Rattle.meeting.specs.Meeting.{RoomIs, BodyUnfolded}
@@ -54,19 +52,8 @@ module _ (v : List MParticle) (n : ℕ) (ok : Bool) (again : Bool) (i j : ℕ) (
 
 -- 17 by the counts
 module _ (t : Table) (n ps bs minted : ℕ) (u : counted.Unfolded) (h : Passes t → n < count t → UnfoldsTo (term t n) u) where
-  pub no-particles : 32 < ps + u .particles → RoomIs t n ps bs minted false
-  no-particles g = record { is = λ p l. stops _ _ (lt-leb (ps + particlesIn (term t n)) 32 (omega (arith, h p l .particles))) }
-
-  pub no-boxes : ps + u .particles ≤ 32 → 16 < bs + u .boxes → RoomIs t n ps bs minted false
-  no-boxes f g = record {
-    is = λ p l. goes-on _ _ _ (le-leb (ps + particlesIn (term t n)) 32 (omega (arith, h p l .particles))) (stops _ _ (lt-leb (bs + boxesIn (term t n)) 16 (omega (arith, h p l .boxes))));
-  }
-
-  pub all-counts : ps + u .particles ≤ 32 → bs + u .boxes ≤ 16 → RoomIs t n ps bs minted (leb (minted + u .names) 256)
-  all-counts f g = record {
-    is = λ p l. goes-on _ _ _ (le-leb (ps + particlesIn (term t n)) 32 (omega (arith, h p l .particles))) (goes-on _ _ _ (le-leb (bs + boxesIn (term t n)) 16 (omega (arith, h p l .boxes)))
-        (ap (λ (k : ℕ). leb (minted + k) 256) (h p l .names)));
-  }
+  pub room : (r : Bool) → r ≡ leb (ps + u .particles) 32 & (leb (bs + u .boxes) 16 & leb (minted + u .names) 256) → RoomIs t n ps bs minted r
+  room r e = record { is = λ p l. rw (← h p l .particles, ← h p l .boxes, ← h p l .names) e }
 
 -- the side after
 pub unfolded-side : (t : Table) (i n : ℕ) (ρ : Env) (b : ℕ) (rest : Particles) (o : Side) (u : Unfolded) (s1 s2 r : Side) → UnfoldedIs t i n ρ b rest (o .boxes) (o .minted) u →

@@ -35,13 +35,7 @@ pub fn has_room(nodes: &[u32], n: usize, particles: usize, boxes: usize, minted:
     ensures { λ r. ⌜ ((pool : List ℕ) → RoomIs (table (now (nodes .entry)) pool) n particles boxes minted r) ⌝ }
 {
     let u = unfolded_at(nodes, n);
-    if particles + u.particles <= Side::PARTICLES {
-        if boxes + u.boxes <= Side::BOXES {
-            return minted + u.names <= Side::MINTED;
-        }
-        return false;
-    }
-    false
+    Side::contents_within(particles + u.particles, boxes + u.boxes, minted + u.names)
 }
 
 // The side where the body at node n has unfolded in box b, beside the particles that are left.

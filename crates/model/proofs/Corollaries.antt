@@ -21,9 +21,9 @@ use Rattle.model.specs.WellFormed.{held, heldWord, wfValue, wfTag, wfPar
 use Rattle.model.specs.Step.{Step, Answer, enter, goDown, upFrom, upParticle, up, descendParticle, descend, meetTerm, meetParticles, meet, pass, leave, takes, inner, local, local2, settled, mark1, step}
 use Rattle.model.specs.Process.{confOf, knownOf, codeOf, valOf, reads, patOf, readsP}
 use Rattle.model.specs.Agreement.{Says, says-tau, says-in, says-out, SoundAt, Sound, LoadAgrees, plainly, handler}
-use Rattle.model.specs.Runs.{Reached}
+use Rattle.model.specs.Runs.{Reached, afterAll}
 use Rattle.model.specs.Trials.{copier, entering, ask, inward, outward, tau as silently, runFrom}
-use Rattle.model.specs.Corollaries.{Path, stop, go, afterAll, SaysAll, says-none, says-more, RunsAreTransitions, copies, labelsA, ListingA}
+use Rattle.model.specs.Corollaries.{Path, stop, go, SaysAll, says-none, says-more, RunsAreTransitions, copies, labelsA, ListingA}
 use Rattle.calculus.proofs.Marks.{step-remark, wmark}
 use Rattle.model.proofs.Reached.{reached}
 use Rattle.model.proofs.Sound.{sound}

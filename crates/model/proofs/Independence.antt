@@ -16,7 +16,7 @@ use Rattle.model.specs.Side.{State, Side, Core, startSide}
 use Rattle.model.specs.Load.{Composition, Setting, setting1, setting2, isPipeline, load, ok, start}
 use Rattle.model.specs.WellFormed.{wfState, wfSide, ready}
 use Rattle.model.specs.Step.{Step, Label, silent, enters, leaves, Moved, labelled, step, settled, local, local2, enter, marks, marked, markAll, mark1, markOf, answerOf, sideAfter, known}
-use Rattle.model.specs.Runs.{isSide1, side1Steps, Seen, sees, leftBy1, leftEarlier, premise, Independence}
+use Rattle.model.specs.Runs.{isSide1, side1Steps, Seen, sees, afterAll, leftBy1, leftEarlier, premise, Independence}
 use Rattle.model.proofs.Tests.{or-cases, has-append, fst, snd, both, alt}
 use Rattle.model.proofs.Invariant.{keeps}
 use Rattle.model.proofs.Starts.{loadSide-ok, starts}
@@ -197,13 +197,31 @@ project b (x ∷ xs) seen s e h a =
         let cov : Covers (seen ++ leftBy1 (step b s x .answer)) (step b s x .after .one .left) = rw (so .1, so .0) (covers-nil seen (s .one .left) h) in
         rw (o, ih cov (snd _ _ a), so .0)
 
+-- side 1's state after a run is the last that it saw, or the one that it began with
+lastSeen : Side → List Seen → Side
+lastSeen s [] = s
+lastSeen s (x ∷ xs) = lastSeen (x .after) xs
+
+end-seen : (b : Composition) (xs : List Step) (s : State) → afterAll b s xs .one ≡ lastSeen (s .one) (sees b s xs)
+unfolding afterAll sees lastSeen
+end-seen b [] s = refl
+end-seen b (x ∷ xs) s = go (isSide1 x) refl (end-seen b xs (step b s x .after))
+  where
+    go : (t : Bool) → isSide1 x ≡ t → afterAll b (step b s x .after) xs .one ≡ lastSeen (step b s x .after .one) (sees b (step b s x .after) xs) →
+        afterAll b s (x ∷ xs) .one ≡ lastSeen (s .one) (sees b s (x ∷ xs))
+    go true o ih = rw o ih
+    go false o ih = rw o (ih ∙ ap (λ (u : Side). lastSeen u (sees b (step b s x .after) xs)) (step-other b s x o .0))
+
+cong-last : {s s′ : Side} {l l′ : List Seen} → s ≡ s′ → l ≡ l′ → lastSeen s l ≡ lastSeen s′ l′
+cong-last p q = cc
+
 -- DEMAND 3
 pub independence : Independence
 unfolding Independence Covers
 independence b b′ w w′ t s s′ l l′ xs xs′ same a a′ =
-    let one : s .one ≡ s′ .one = load-one b s w l ∙ ap (λ (u : Table). startSide (start 1 u)) t ∙ sym (load-one b′ s′ w′ l′) in (
-      one,
-      project b xs [] s (starts b s l) (λ v p m. absurd (false≢true p)) a
-          ∙ cong (same-config b b′ w w′ t) one same
-          ∙ sym (project b′ xs′ [] s′ (starts b′ s′ l′) (λ v p m. absurd (false≢true p)) a′),
-    )
+    let one : s .one ≡ s′ .one = load-one b s w l ∙ ap (λ (u : Table). startSide (start 1 u)) t ∙ sym (load-one b′ s′ w′ l′) in
+    let seen : sees b s xs ≡ sees b′ s′ xs′ =
+    project b xs [] s (starts b s l) (λ v p m. absurd (false≢true p)) a
+    ∙ cong (same-config b b′ w w′ t) one same
+    ∙ sym (project b′ xs′ [] s′ (starts b′ s′ l′) (λ v p m. absurd (false≢true p)) a′) in
+    (one, seen, end-seen b xs s ∙ cong-last one seen ∙ sym (end-seen b′ xs′ s′))

@@ -15,6 +15,7 @@ use Rattle.model.specs.Side.{State}
 use Rattle.model.specs.Load.{Composition, load, ok}
 use Rattle.model.specs.WellFormed.{ready}
 use Rattle.model.specs.Step.{Step, step}
+use Rattle.model.specs.Runs.{afterAll}
 use Rattle.model.specs.Process.{inwards, outwards, Mark, confOf, knownOf}
 use Rattle.model.specs.Agreement.{Says, plainly}
 use Rattle.model.specs.Trials.{copier}
@@ -45,11 +46,6 @@ PurePublished = (b : Composition) (s : State) (l : Label) (Q : Proc (Unit {0}) [
 pub data Path (b : Composition) : State → List Label → State → Type 0 where
   stop : {s : State} → Path b s [] s
   go : {s s' s'' : State} {l : Label} {ls : List Label} → Published (knownOf s) (plainly (process (confOf b s))) l (plainly (process (confOf b s'))) → Path b s' ls s'' → Path b s (l ∷ ls) s''
-
--- the state after some steps
-unfoldable pub afterAll : Composition → State → List Step → State
-afterAll b s [] = s
-afterAll b s (k ∷ ks) = afterAll b (step b s k .after) ks
 
 -- each of some steps, from s on, is answered with the label of a list
 pub data SaysAll (b : Composition) : State → List Step → List Label → Type 0 where

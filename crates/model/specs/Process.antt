@@ -4,7 +4,7 @@ use mathlib.Core.Bool.{Bool, true, false, not, cond}
 use mathlib.Core.List.{List, [], _∷_, _++_}
 use Prim.Native.Nat.{ℕ, zero, suc, _+_, _*_}
 use lib.Dec.{ltb, eqb}
-use lib.ListN.{length, getD}
+use lib.ListN.{getD}
 use Rattle.calculus.specs.Syntax.{Val, Vals, nm, tup, vnil, vcons, ITag, Tag, plain, receivedParent, receivedChild, Mode, once, replicated, Proc}
 use Rattle.calculus.specs.Syntax.{within as iwithin, parent as iparent, child as ichild, out as pout}
 use Rattle.calculus.specs.Named.{NPat, NPats, any, named, parts, pno, pand, Code, cnil, cpar, cbox, cnew, cout, cinp, proc}
@@ -12,7 +12,7 @@ use Rattle.calculus.specs.Wrappers.{inName, outName, midName, envIn, envOut, fo
 use Rattle.calculus.specs.Tree.{Place, Item, Conf}
 use Rattle.model.specs.Values.{isPublic, isTuple, arity, Env, value}
 use Rattle.model.specs.Table.{Table, Term, nil, par, box, new, out, inp, term}
-use Rattle.model.specs.Side.{Particle, output, input, Box, Message, down, arrived, leaving, Contents, Core, Side, State}
+use Rattle.model.specs.Side.{Particle, output, input, Box, Message, down, arrived, leaving, Core, State}
 use Rattle.model.specs.Side.{Status}
 use Rattle.model.specs.Side.{Tag as STag, within, toParent, fromParent, toChild, fromChild}
 use Rattle.model.specs.Load.{Composition, isPipeline}

@@ -32,6 +32,11 @@ sees b s (x ∷ xs) =
     let rest = sees b (r .after) xs in
     cond (isSide1 x) (record { answer = r .answer; after = r .after .one } ∷ rest) rest
 
+-- the state after the steps of a list
+unfoldable pub afterAll : Composition → State → List Step → State
+afterAll b s [] = s
+afterAll b s (x ∷ xs) = afterAll b (step b s x .after) xs
+
 -- the value of an out label of side 1
 abbrev pub leftBy1 : Answer → List ℕ
 leftBy1 (labelled silent n v) = []
@@ -58,11 +63,12 @@ Reached = (b : Composition) → ((s : State) → load b ≡ ok s → ready b s �
     × ((s : State) (x : Step) → ready b s ≡ true → ready b (step b s x .after) ≡ true)
 
 -- DEMAND 3. Two pipeline loads that succeed, with the same first table; any two lists of steps with the same side-1 steps
--- in the same order: side 1's state after the load, its answers and its state after each of its steps are equal
+-- in the same order: side 1's state after the load, its answers and its state after each of its steps are equal, and so is its
+-- state after the whole lists, and thereby at any time: a list may end anywhere
 unfoldable pub Independence : Type 0
 Independence =
     (b b′ : Composition) → b .wrapper ≡ 2 → b′ .wrapper ≡ 2 → b .table1 ≡ b′ .table1 →
     (s s′ : State) → load b ≡ ok s → load b′ ≡ ok s′ →
     (xs xs′ : List Step) → side1Steps xs ≡ side1Steps xs′ →
     premise b [] s xs ≡ true → premise b′ [] s′ xs′ ≡ true →
-    (s .one ≡ s′ .one) × (sees b s xs ≡ sees b′ s′ xs′)
+    (s .one ≡ s′ .one) × (sees b s xs ≡ sees b′ s′ xs′) × (afterAll b s xs .one ≡ afterAll b′ s′ xs′ .one)

@@ -3,7 +3,7 @@ use mathlib.Core.Path.{_≡_, refl, sym, ap, subst, _∙_}
 use mathlib.Core.Bool.{Bool, true, false, _&&_}
 use mathlib.Core.List.{List, [], _∷_, _++_, append-nil, append-assoc}
 use mathlib.Core.Option.{Option, none, some}
-use Prim.Native.Nat.{ℕ, zero, suc, _+_, _-_, _*_, _/_, _<_, _≤_}
+use Prim.Native.Nat.{ℕ, _+_, _-_, _*_, _/_, _<_, _≤_}
 use native.Mathlib.Omega.{arith}
 use native.Mathlib.Numerals.{add-one}
 use borrow.Author.Tests.{lt-ltb, le-ltb}
@@ -14,11 +14,11 @@ use Rattle.model.specs.Basics.{choose}
 use Rattle.model.specs.Side.{State as MState}
 use Rattle.model.specs.Load.{Composition, isPipeline, Refused, Loaded, refused, ok, load}
 use Rattle.model.specs.WellFormed.{ready}
-use Rattle.model.specs.Step.{Step, Result, step}
+use Rattle.model.specs.Step.{Step, step}
 use Rattle.model.proofs.Invariant.{keeps}
 use Rattle.model.proofs.Starts.{starts}
 use Rattle.model.specs.Answer.{Given, given}
-use Rattle.format.specs.Words.{before, stepsOf, stepAt, saidWords, givenWords, answerWords, allAnswerWords, answers, brokenOff, tooShort, unloaded, answered, runFrom, runSteps, runOf}
+use Rattle.format.specs.Words.{before, stepsOf, stepAt, saidWords, givenWords, answerWords, allAnswerWords, answers, tooShort, runFrom, runSteps, runOf}
 use Rattle.format.specs.Words.{Ran as FRan}
 use Rattle.format.proofs.AnswerWords.{answers-many}
 use Rattle.format.proofs.StepWords.{steps-next, steps-short, steps-cut, steps-end, Next, next-step}

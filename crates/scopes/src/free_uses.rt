@@ -1,6 +1,6 @@
 // Refusal 15: whether a name bound to a tuple is free as a channel, tag or box name, however deep.
 ghost use mathlib.Core.Path.{_≡_};
-ghost use mathlib.Core.Bool.{Bool, false, not};
+ghost use mathlib.Core.Bool.{false, not};
 ghost use Prim.Native.Nat.{ℕ, _-_, _<_};
 ghost use lib.ListN.{getD};
 ghost use Rattle.model.specs.Basics.{_&_};

@@ -16,7 +16,7 @@ use Rattle.values.specs.declared.Value.{Value}
 use Rattle.values.specs.Env.{viewValue}
 use Rattle.sides.specs.Views.{viewMessage, viewLobby, viewParticle, viewParticles, viewBox, viewBoxes, viewShelf, viewState, fitsValue, fitsMessage, fitsLobby, fitsParticle, fitsParticles, fitsBoxes, fitsShelf, fitsSide, fitsArrays, stateOf}
 use Rattle.sides.specs.Holding.{LobbyIs, ParticlesIs, ShelfIs, Bare}
-use Rattle.sides.specs.Puts.{sideOf, putSide}
+use Rattle.sides.specs.Puts.{putSide}
 use Rattle.sides.specs.declared.Message.{Message}
 use Rattle.sides.specs.declared.Lobby.{Lobby}
 use Rattle.sides.specs.declared.Particle.{Particle}
@@ -141,13 +141,6 @@ fits-one s p = fst _ _ p
 
 pub fits-two : (s : State) → fitsArrays s ≡ true → fitsSide (s .two) ≡ true
 fits-two s p = snd _ _ p
-
-pub fits-side-of : (s : State) (k : ℕ) → fitsArrays s ≡ true → fitsSide (sideOf s k) ≡ true
-fits-side-of s k p = go (eqb k 1)
-  where
-    go : (b : Bool) → fitsSide (cond b (s .one) (s .two)) ≡ true
-    go true = fst _ _ p
-    go false = snd _ _ p
 
 pub fits-put-side : (s : State) (k : ℕ) (o : Side) → fitsArrays s ≡ true → fitsSide o ≡ true → fitsArrays (putSide s k o) ≡ true
 fits-put-side s k o p q = go (eqb k 1)

@@ -3,14 +3,12 @@ ghost use mathlib.Core.Path.{_≡_};
 ghost use mathlib.Core.Bool.{true};
 ghost use mathlib.Core.List.{[], _∷_, _++_};
 ghost use Prim.Native.Nat.{_+_, _-_, _<_, _≤_};
-ghost use lib.Dec.{ltb};
-ghost use lib.ListN.{length, set};
+ghost use lib.ListN.{set};
 ghost use Rattle.model.specs.Basics.{_&_, remove};
 ghost use Rattle.sides.specs.Views.{viewMessage, viewLobby, fitsMessage, fitsLobby};
 ghost use Rattle.sides.specs.Holding.{LobbyIs};
 use crate::Lobby;
 use crate::Message;
-use crate::Side;
 use crate::Status;
 use values::Value;
 
@@ -40,13 +38,6 @@ impl Lobby {
             }; 16],
             len: 0,
         }
-    }
-
-    // Whether one more message has a place.
-    pub fn has_room(self) -> bool
-        ensures { λ r. ⌜ r ≡ ltb (length (viewLobby self)) 16 ⌝ }
-    {
-        self.len < Side::LOBBY
     }
 
     // One more, last. The caller has seen that there is room.

@@ -2,6 +2,7 @@
 ghost use mathlib.Core.Path.{_≡_};
 ghost use mathlib.Core.Bool.{true};
 ghost use lib.Dec.{leb};
+ghost use Rattle.model.specs.Basics.{_&_};
 ghost use Rattle.model.specs.Side.{emptyContents, startSide, noSide};
 ghost use Rattle.sides.specs.Views.{viewSide, fitsSide};
 ghost use Rattle.sides.specs.Holding.{Bare};
@@ -43,6 +44,19 @@ impl Side {
         ensures { λ r. ⌜ r ≡ leb n 256 ⌝ }
     {
         n <= Side::MINTED
+    }
+
+    // Whether a side may have so many particles, boxes and minted names.
+    pub fn contents_within(particles: usize, boxes: usize, minted: usize) -> bool
+        ensures { λ r. ⌜ r ≡ leb particles 32 & (leb boxes 16 & leb minted 256) ⌝ }
+    {
+        if Side::particles_within(particles) {
+            if Side::boxes_within(boxes) {
+                return Side::minted_within(minted);
+            }
+            return false;
+        }
+        false
     }
 
     // Whether a side may have n lobby messages.

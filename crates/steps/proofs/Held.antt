@@ -1,11 +1,12 @@
 -- What the steps use of a side that they may act on; what makes a function's answer that of the model.
 use mathlib.Core.Path.{_≡_, refl, sym, ap, subst, _∙_}
-use mathlib.Core.Bool.{Bool, true, false}
+use mathlib.Core.Bool.{Bool, true, false, not}
 use mathlib.Core.List.{List, [], _∷_, map}
 use mathlib.Core.Option.{some}
-use Prim.Native.Nat.{ℕ, zero, suc, _<_, _≤_}
+use Prim.Native.Nat.{ℕ, zero, suc, _+_, _<_, _≤_}
 use native.Mathlib.Omega.{arith}
-use borrow.Author.Tests.{ltb-true}
+use borrow.Author.Tests.{ltb-true, leb-true, leb-false, not-true, not-false}
+use lib.Dec.{leb}
 use lib.ListN.{length, take, getD, getElem?, length-take}
 use Rattle.model.specs.Basics.{Res, refuse, done, every}
 use Rattle.model.specs.Side.{output, input, Core}
@@ -54,6 +55,13 @@ pub record Full (o : Side) : Type 0 where
   pub particles : length (o .particles .rows) ≡ 32
   pub boxes : length (o .boxes .rows) ≡ 16
   pub shelf : length (o .shelf .rows) ≡ 32
+
+-- a limit test of one more: where it fails, and where it passes
+pub none-more : (n k : ℕ) (r : Bool) → r ≡ leb (n + 1) k → not r ≡ true → k ≤ n
+none-more n k r e t = let z = leb-false (n + 1) k (sym e ∙ not-true r t) in omega (arith, z)
+
+pub one-more : (n k : ℕ) (r : Bool) → r ≡ leb (n + 1) k → not r ≡ false → n < k
+one-more n k r e t = let z = leb-true (n + 1) k (sym e ∙ not-false r t) in omega (arith, z)
 
 -- an element within a list, whatever would stand past its end
 pub getD-any : {A : Type 0} (l : List A) (i : ℕ) (d e : A) → i < length l → getD l i d ≡ getD l i e

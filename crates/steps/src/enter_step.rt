@@ -57,7 +57,7 @@ fn enter_offer(o: Side, left1: [bool; 512], left2: [bool; 512], words: &[u32]) -
     }
     let l = o.lobby;
     let n = l.len;
-    if Side::LOBBY <= n {
+    if !Side::lobby_within(n + 1) {
         return Offer::Refused(17);
     }
     Offer::At(n)

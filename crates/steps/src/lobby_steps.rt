@@ -59,7 +59,7 @@ fn down_offer(o: Side, i: usize) -> Offer
         return Offer::Refused(13);
     }
     let ps = o.particles;
-    if Side::PARTICLES <= ps.len {
+    if !Side::particles_within(ps.len + 1) {
         return Offer::Refused(17);
     }
     Offer::At(i)

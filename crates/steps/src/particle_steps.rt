@@ -49,7 +49,7 @@ fn to_shelf(o: Side, i: usize, v: Value) -> SideStep
     ensures { λ r. ⌜ ((c : Setting) → shelves c ≡ true → StepIs (settled (upFrom c (viewCore o) i 0 2 (viewValue v))) o r) ⌝ }
 {
     let h = o.shelf;
-    if Side::SHELF <= h.len {
+    if !Side::shelf_within(h.len + 1) {
         return SideStep::plain(Said::Refused(17), o);
     }
     let ps = o.particles;
@@ -65,7 +65,7 @@ fn to_lobby(o: Side, i: usize, ch: u32, v: Value) -> SideStep
     ensures { λ r. ⌜ ((c : Setting) → shelves c & eqb ch 2 ≡ false → StepIs (settled (upFrom c (viewCore o) i 0 ch (viewValue v))) o r) ⌝ }
 {
     let l = o.lobby;
-    if Side::LOBBY <= l.len {
+    if !Side::lobby_within(l.len + 1) {
         return SideStep::plain(Said::Refused(17), o);
     }
     let ps = o.particles;

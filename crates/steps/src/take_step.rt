@@ -26,7 +26,7 @@ fn take_offer(o: Side, shelf: Shelf, i: usize) -> Offer
         return Offer::Refused(13);
     }
     let l = o.lobby;
-    if Side::LOBBY <= l.len {
+    if !Side::lobby_within(l.len + 1) {
         return Offer::Refused(17);
     }
     Offer::At(i)

@@ -4,7 +4,7 @@ use mathlib.Core.List.{List}
 use Prim.Native.Nat.{ℕ, zero, suc, _+_, _-_, _*_, _<_, _≤_}
 use native.Mathlib.Omega.{arith}
 use lib.ListN.{getD}
-use Rattle.model.specs.Table.{Table, count, kind, field, Term, nil, build, term}
+use Rattle.model.specs.Table.{Table, count, kind, field, Term, build, term}
 use Rattle.model.proofs.Terms.{Child, left, right, in-box, in-new, in-body, term-at}
 use Rattle.tables.specs.declared.nodes.Node.{Node}
 use Rattle.tables.specs.Nodes.{table, NodeIs}

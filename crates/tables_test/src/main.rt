@@ -6,7 +6,6 @@
 // Output: the name, then `refused`, number and node; or `passed`, how many particles, boxes and new names node 0 unfolds to, how
 // many names are in force at the last node, and `used` where name 20, bound to the empty tuple, is free as a channel, tag or box
 // name in the table (refusal 15), `free` where not.
-ghost use mathlib.Core.Path.{_≡_};
 use scopes::free_uses::defined_at;
 use scopes::names::names_in_force;
 use scopes::unfolded::unfolded_at;

@@ -1,21 +1,19 @@
 -- From lines to a run, and from a run to lines.
 use mathlib.Core.Path.{_≡_, refl, sym, ap, subst, _∙_}
-use mathlib.Core.Bool.{Bool, true, false}
-use mathlib.Core.List.{List, [], _∷_, _++_}
+use mathlib.Core.Bool.{Bool}
+use mathlib.Core.List.{List, _∷_, _++_}
 use mathlib.Core.Logic.{_⊎_, inl, inr}
-use mathlib.Core.Option.{Option, none, some}
+use mathlib.Core.Option.{some}
 use Prim.Native.Nat.{ℕ, _+_, _*_, _<_, _≤_}
 use native.Mathlib.Omega.{arith}
 use borrow.Author.Tests.{lt-ltb, le-ltb}
-use lib.Dec.{ltb}
 use lib.ListN.{length, take, drop, length-take}
 use lib.Seq.{length-take-le, take-length, take-at}
 use Rattle.model.specs.Basics.{choose}
-use Rattle.model.specs.Table.{Table}
 use Rattle.model.specs.Side.{State}
 use Rattle.model.specs.Load.{Composition, Refused, Loaded, refused, ok, load}
-use Rattle.model.specs.Step.{Step, Answer, step}
-use Rattle.format.specs.Words.{stepsOf, allStepWords, allAnswerWords, answers, brokenOff, tooShort, unloaded, answered, runFrom, runSteps, runOf, onto}
+use Rattle.model.specs.Step.{Step, Answer}
+use Rattle.format.specs.Words.{allAnswerWords, answers, tooShort, runFrom, runSteps, runOf, onto}
 use Rattle.format.specs.Words.{Ran as FRan}
 use Rattle.format.specs.Lines.{newline, Input, fault, whole}
 use Rattle.format.specs.Lines as format
@@ -29,9 +27,8 @@ use Rattle.reading.specs.declared.Reading.the-variants as answer
 use Rattle.running.specs.declared.Ran.{Ran}
 use Rattle.running.specs.declared.Ran.the-variants as ran
 use Rattle.interpreter.specs.Loading.{composition}
-use Rattle.running.specs.Running.{RunIs, ranOf, answersIn}
+use Rattle.running.specs.Running.{RunIs}
 use Rattle.text.specs.Text.{Given, OnPage, writtenOf, bufferAfter, TextIs}
-use Rattle.text.specs.declared.Written.{Written}
 use Rattle.text.specs.declared.Written.the-variants.{Bytes, TooShort}
 
 -- A RUN OF WHAT THE LINES GIVE

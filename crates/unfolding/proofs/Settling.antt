@@ -9,9 +9,9 @@ use borrow.Author.Tests.{leb-true, le-leb, ltb-true}
 use lib.ListN.{length, take, getD, set, length-append, length-map}
 use lib.Seq.{take-suc, length-take-le}
 use Rattle.model.specs.Basics.{every, orElse}
-use Rattle.model.specs.Values.{Env, word, value, extend, substitute, at, isPublic}
+use Rattle.model.specs.Values.{Env, word, extend, substitute, at, isPublic}
 use Rattle.model.specs.Table.{Table, count, kind, field, Term, build, term}
-use Rattle.model.specs.Side.{Tag, within, Particle, output, input}
+use Rattle.model.specs.Side.{Tag, Particle, output, input}
 use Rattle.model.specs.Unfolding.{tagOf}
 use Rattle.model.specs.Step.{short}
 use Rattle.model.proofs.Tests.{fst, snd}

@@ -5,7 +5,7 @@ use Prim.Native.Nat.{ℕ, zero, suc, _+_, _<_, _≤_}
 use native.Mathlib.Omega.{arith}
 use borrow.Author.Tests.{leb-true}
 use lib.ListN.{length, length-append}
-use Rattle.model.specs.Table.{Table, count, kind, field, scope, bound, Term, new, build, term}
+use Rattle.model.specs.Table.{Table, count, kind, field, scope, bound, Term, build, term}
 use Rattle.model.specs.Checks.{check4}
 use Rattle.model.proofs.Tests.{fst}
 use Rattle.model.proofs.Terms.{Child, left, right, in-box, in-new, term-at}

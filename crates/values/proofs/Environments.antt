@@ -10,7 +10,7 @@ use lib.Dec.{eqb, ltb}
 use lib.ListN.{length, getD, take, drop, set, length-append, length-take, length-map, take-append-drop}
 use lib.Seq.{take-suc, take-suc-set, take-all, length-take-le, getD-take, getD-set-same, getD-set-other}
 use Rattle.model.specs.Basics.{_&_, choose}
-use Rattle.model.specs.Values.{Env, lookup, value, word, isPublic, substitute, extend, isNameIn, binders}
+use Rattle.model.specs.Values.{Env, lookup, value, word, substitute, extend, isNameIn, binders}
 use Rattle.model.proofs.Environments.{look-append}
 use Rattle.values.specs.declared.Value.{Value}
 use Rattle.values.specs.declared.Env as dec

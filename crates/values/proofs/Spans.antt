@@ -10,7 +10,7 @@ use borrow.Author.Tests.{le-leb, lt-leb, eq-eqb, ne-eqb, eqb-true, eqb-false, lt
 use lib.Dec.{ltb, eqb}
 use lib.ListN.{length, getD, take, drop, length-drop, drop-of-length-le, length-take}
 use lib.Seq.{drop-drop, drop-length, take-all, take-take, length-take-le}
-use Rattle.model.specs.Basics.{_&_, _or_, Res, refuse, done, bind, orElse}
+use Rattle.model.specs.Basics.{_&_, Res, refuse, done, bind, orElse}
 use Rattle.model.specs.Values.{items, isName, isTuple, arity, restOf, firstOf, at, isValue, shaped}
 use Rattle.model.proofs.Items.{items-zero, items-leaf, items-tuple, items-bad, items-add}
 use Rattle.values.proofs.Lists.{at-i}

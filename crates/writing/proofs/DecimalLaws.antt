@@ -7,7 +7,7 @@ use native.Mathlib.Nat.{pow-le-pow-right, pow-suc, one-le-pow, mod-eq-of-lt}
 use native.Mathlib.Decide.{decLe}
 use borrow.Author.Tests.{lt-ltb, le-ltb}
 use Rattle.io.specs.Digits.{digits, glyph, Fewest}
-use Rattle.format.specs.Output.{decimalDigits, decimal}
+use Rattle.format.specs.Output.{decimalDigits}
 
 -- the glyph of a decimal digit
 decimal-glyph : (d : ℕ) → d < 10 → glyph d ≡ 48 + d

@@ -1,14 +1,9 @@
-use mathlib.Core.Path.{_≡_, refl, sym, ap, _∙_}
-use Rattle.sides.specs.Views.{viewCore, viewShelf}
+use Rattle.sides.specs.Views.{viewCore}
 use Rattle.steps.specs.Asked.{knownBy}
-use Rattle.dispatch.specs.Stepping.{settingOf}
 use Rattle.dispatch.proofs.StepLaws.{step-by, enter-on, enter-i, enter-j}
-use native.Mathlib.Omega.{arith}
 use borrow.Author.Needs.{needs}
 use Rattle.dispatch.proofs.entering.Statement.{statement}
 use Rattle.dispatch.proofs.entering.Tie as tie
-use Rattle.dispatch.proofs.entering.Reads as reads
-use Rattle.dispatch.proofs.entering.Lts as lts
 use Rattle.dispatch.proofs.refusal.Reads as refusal-reads
 use Rattle.steps.proofs.enter.Reads as enter-reads
 

@@ -1,14 +1,10 @@
-use mathlib.Core.Path.{_≡_, refl, sym, ap, _∙_}
-use Rattle.sides.specs.Views.{viewCore, viewShelf}
+use Rattle.sides.specs.Views.{viewCore}
 use Rattle.steps.specs.Asked.{knownBy}
 use Rattle.dispatch.specs.Stepping.{settingOf}
 use Rattle.dispatch.proofs.StepLaws.{own-sane, step-by, own-enter, own-two, own-words}
-use native.Mathlib.Omega.{arith}
 use borrow.Author.Needs.{needs}
 use Rattle.dispatch.proofs.own_step.Statement.{statement}
 use Rattle.dispatch.proofs.own_step.Tie as tie
-use Rattle.dispatch.proofs.own_step.Reads as reads
-use Rattle.dispatch.proofs.own_step.Lts as lts
 use Rattle.dispatch.proofs.entering.Reads as entering-reads
 use Rattle.dispatch.proofs.refusal.Reads as refusal-reads
 use Rattle.dispatch.proofs.two_places.Reads as two-places-reads

@@ -1,11 +1,8 @@
-use mathlib.Core.Path.{_≡_, refl, sym, ap, _∙_}
+use mathlib.Core.Path.{refl}
 use Rattle.steps.proofs.Held.{refused-is}
-use native.Mathlib.Omega.{arith}
 use borrow.Author.Needs.{needs}
 use Rattle.dispatch.proofs.refusal.Statement.{statement}
 use Rattle.dispatch.proofs.refusal.Tie as tie
-use Rattle.dispatch.proofs.refusal.Reads as reads
-use Rattle.dispatch.proofs.refusal.Lts as lts
 use Rattle.values.proofs.Value.none.Reads as none-reads
 
 -- src/dispatch.rt:33:9

@@ -1,14 +1,9 @@
-use mathlib.Core.Path.{_≡_, refl, sym, ap, _∙_}
 use Rattle.sides.specs.Views.{viewCore, viewShelf}
 use Rattle.steps.specs.Asked.{knownBy}
 use Rattle.dispatch.specs.Stepping.{settingOf}
 use Rattle.dispatch.proofs.StepLaws.{own-sane, step-by, second-take, second-own}
-use native.Mathlib.Omega.{arith}
-use borrow.Author.Needs.{needs}
 use Rattle.dispatch.proofs.second_step.Statement.{statement}
 use Rattle.dispatch.proofs.second_step.Tie as tie
-use Rattle.dispatch.proofs.second_step.Reads as reads
-use Rattle.dispatch.proofs.second_step.Lts as lts
 use Rattle.dispatch.proofs.own_step.Reads as own-step-reads
 use Rattle.dispatch.proofs.taking.Reads as taking-reads
 

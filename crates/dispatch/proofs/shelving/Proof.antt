@@ -1,12 +1,7 @@
-use mathlib.Core.Path.{_≡_, refl, sym, ap, _∙_}
 use Rattle.steps.proofs.Settling.{no-left}
 use Rattle.dispatch.proofs.StepLaws.{and-on}
-use borrow.Author.Needs.{needs}
-use native.Mathlib.Omega.{arith}
 use Rattle.dispatch.proofs.shelving.Statement.{statement}
 use Rattle.dispatch.proofs.shelving.Tie as tie
-use Rattle.dispatch.proofs.shelving.Reads as reads
-use Rattle.dispatch.proofs.shelving.Lts as lts
 
 -- src/dispatch.rt:42:1
 returns : tie.Need-returns

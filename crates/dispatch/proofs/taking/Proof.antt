@@ -1,14 +1,8 @@
-use mathlib.Core.Path.{_≡_, refl, sym, ap, _∙_}
 use Rattle.sides.specs.Views.{viewCore, viewShelf}
-use Rattle.steps.specs.Asked.{knownBy}
-use Rattle.dispatch.specs.Stepping.{settingOf}
 use Rattle.dispatch.proofs.StepLaws.{step-by, take-on, take-j, take-words}
-use native.Mathlib.Omega.{arith}
 use borrow.Author.Needs.{needs}
 use Rattle.dispatch.proofs.taking.Statement.{statement}
 use Rattle.dispatch.proofs.taking.Tie as tie
-use Rattle.dispatch.proofs.taking.Reads as reads
-use Rattle.dispatch.proofs.taking.Lts as lts
 use Rattle.dispatch.proofs.refusal.Reads as refusal-reads
 use Rattle.steps.proofs.take.Reads as take-reads
 

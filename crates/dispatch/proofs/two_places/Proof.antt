@@ -1,14 +1,10 @@
-use mathlib.Core.Path.{_≡_, refl, sym, ap, _∙_}
-use Rattle.sides.specs.Views.{viewCore, viewShelf}
-use Rattle.steps.specs.Asked.{knownBy}
+use mathlib.Core.Path.{refl}
+use Rattle.sides.specs.Views.{viewCore}
 use Rattle.dispatch.specs.Stepping.{settingOf}
 use Rattle.dispatch.proofs.StepLaws.{own-sane, step-by, two-descend, two-meet, two-one, two-bad}
-use native.Mathlib.Omega.{arith}
 use borrow.Author.Needs.{needs}
 use Rattle.dispatch.proofs.two_places.Statement.{statement}
 use Rattle.dispatch.proofs.two_places.Tie as tie
-use Rattle.dispatch.proofs.two_places.Reads as reads
-use Rattle.dispatch.proofs.two_places.Lts as lts
 use Rattle.dispatch.proofs.one_place.Reads as one-place-reads
 use Rattle.dispatch.proofs.refusal.Reads as refusal-reads
 use Rattle.dispatch.proofs.shelving.Reads as shelving-reads

@@ -1,13 +1,11 @@
-use mathlib.Core.Path.{_≡_, refl, sym, ap, _∙_}
+use mathlib.Core.Path.{_≡_, sym, ap, _∙_}
 use mathlib.Core.Option.{some}
-use Prim.Native.Nat.{_-_, _+_, _*_, _≤_, _<_}
-use lib.ListN.{length}
+use Prim.Native.Nat.{_-_}
 use Rattle.format.specs.Words.{stepsOf}
 use Rattle.interpreter.specs.Loading.{composition}
 use Rattle.running.specs.Running.{countOf, countedOf}
 use Rattle.running.proofs.RunLaws.{has-steps, has-room, run-broken, run-short, run-refused, run-done, begun}
 use borrow.Author.Needs.{needs}
-use native.Mathlib.Omega.{arith}
 use Rattle.running.proofs.run.Statement.{statement}
 use Rattle.running.proofs.run.Tie as tie
 

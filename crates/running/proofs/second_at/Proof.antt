@@ -5,8 +5,6 @@ use Rattle.steps.specs.Asked.{knownBy}
 use Rattle.steps.specs.StepIs.{StepIs}
 use Rattle.dispatch.specs.Stepping.{settingOf}
 use Rattle.running.proofs.RunLaws.{asked-at}
-use native.Mathlib.Omega.{arith}
-use borrow.Author.Needs.{needs}
 use Rattle.running.proofs.second_at.Statement.{statement}
 use Rattle.running.proofs.second_at.Tie as tie
 

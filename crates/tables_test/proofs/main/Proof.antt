@@ -3,7 +3,6 @@ use Prim.Native.Nat.{_≤_, _-_}
 use lib.ListN.{length}
 use mathlib.Core.Path.{_≡_}
 use borrow.Author.Needs.{needs}
-use native.Mathlib.Omega.{arith}
 use Rattle.tables_test.proofs.main.Statement.{statement}
 use Rattle.tables_test.proofs.main.Tie as tie
 use Rattle.io.proofs.large_buffer.Reads as large-buffer-reads

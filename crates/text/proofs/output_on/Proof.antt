@@ -1,11 +1,8 @@
-use mathlib.Core.Path.{_≡_, refl, sym, ap, _∙_}
-use Rattle.text.proofs.TextLaws.{fault-output, WholeIs, whole-read, given-whole, whole-output, filled-within, filled-count}
-use native.Mathlib.Omega.{arith}
+use mathlib.Core.Path.{_∙_}
+use Rattle.text.proofs.TextLaws.{fault-output, whole-read, given-whole, whole-output, filled-within, filled-count}
 use borrow.Author.Needs.{needs}
 use Rattle.text.proofs.output_on.Statement.{statement}
 use Rattle.text.proofs.output_on.Tie as tie
-use Rattle.text.proofs.output_on.Reads as reads
-use Rattle.text.proofs.output_on.Lts as lts
 use Rattle.reading.proofs.read.Reads as read-reads
 use Rattle.text.proofs.run_output.Reads as run-output-reads
 use Rattle.writing.proofs.fault.Reads as fault-reads

@@ -1,14 +1,10 @@
-use mathlib.Core.Path.{_≡_, refl, sym, ap, _∙_}
 use mathlib.Core.Logic.{inl, inr}
-use Prim.Native.Nat.{ℕ, _≤_}
+use Prim.Native.Nat.{ℕ}
 use lib.ListN.{length-replicate}
 use Rattle.text.proofs.TextLaws.{run-given, output-done, output-unloaded, output-always}
-use native.Mathlib.Omega.{arith}
 use borrow.Author.Needs.{needs}
 use Rattle.text.proofs.run_output.Statement.{statement}
 use Rattle.text.proofs.run_output.Tie as tie
-use Rattle.text.proofs.run_output.Reads as reads
-use Rattle.text.proofs.run_output.Lts as lts
 use Rattle.running.proofs.run.Reads as run-reads
 use Rattle.writing.proofs.answered.Reads as answered-reads
 use Rattle.writing.proofs.fault.Reads as fault-reads

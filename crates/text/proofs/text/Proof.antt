@@ -1,13 +1,8 @@
-use mathlib.Core.Path.{_≡_, refl, sym, ap, _∙_}
-use Prim.Native.Nat.{_≤_}
-use lib.ListN.{length}
 use Rattle.text.proofs.TextLaws.{page-within, page-count, text-short, text-written}
 use native.Mathlib.Omega.{arith}
 use borrow.Author.Needs.{needs}
 use Rattle.text.proofs.text.Statement.{statement}
 use Rattle.text.proofs.text.Tie as tie
-use Rattle.text.proofs.text.Reads as reads
-use Rattle.text.proofs.text.Lts as lts
 use Rattle.bytes.proofs.copy.Reads as copy-reads
 use Rattle.text.proofs.output_on.Reads as output-on-reads
 

@@ -8,8 +8,6 @@ use Rattle.values.proofs.Names.{has-here, has-more, has-none}
 use borrow.Author.Needs.{needs}
 use Rattle.values.proofs.has_word.Statement.{statement}
 use Rattle.values.proofs.has_word.Tie as tie
-use Rattle.values.proofs.has_word.Reads as reads
-use Rattle.values.proofs.has_word.Lts as lts
 
 abbrev Inv-loop : tie.InvT-loop
 Inv-loop s w i₀ i = (i ≤ length s) × (has w (take i s) ≡ false)

@@ -1,12 +1,9 @@
-use mathlib.Core.Path.{_≡_, refl, sym, ap, _∙_}
+use mathlib.Core.Path.{sym, ap}
 use Rattle.tables.specs.declared.checks.Verdict.{Verdict}
 use Rattle.interpreter.specs.Loading.{atSide}
-use native.Mathlib.Omega.{arith}
 use borrow.Author.Needs.{needs}
 use Rattle.interpreter.proofs.loading.at_side.Statement.{statement}
 use Rattle.interpreter.proofs.loading.at_side.Tie as tie
-use Rattle.interpreter.proofs.loading.at_side.Reads as reads
-use Rattle.interpreter.proofs.loading.at_side.Lts as lts
 
 -- src/loading.rt:58:28
 enum-told : tie.Need-enum-told

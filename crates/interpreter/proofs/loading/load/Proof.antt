@@ -1,15 +1,12 @@
-use mathlib.Core.Path.{_≡_, refl, sym, ap, _∙_}
+use mathlib.Core.Path.{sym, ap, _∙_}
 use Rattle.interpreter.specs.Loading.{composition}
 use Rattle.model.specs.Load.{load}
 use Rattle.interpreter.specs.Loading.{stateLoaded}
 use Rattle.interpreter.specs.declared.Outcome.the-variants.{Ok}
 use Rattle.interpreter.proofs.LoadLaws.{taken, two-sides, refused-sides}
-use native.Mathlib.Omega.{arith}
 use borrow.Author.Needs.{needs}
 use Rattle.interpreter.proofs.loading.load.Statement.{statement}
 use Rattle.interpreter.proofs.loading.load.Tie as tie
-use Rattle.interpreter.proofs.loading.load.Reads as reads
-use Rattle.interpreter.proofs.loading.load.Lts as lts
 use Rattle.interpreter.proofs.loading.load_verdict.Reads as load-verdict-reads
 use Rattle.interpreter.proofs.loading.loaded.Reads as loaded-reads
 use Rattle.interpreter.proofs.loading.start_of.Reads as start-of-reads

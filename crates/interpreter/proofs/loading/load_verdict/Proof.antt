@@ -1,12 +1,8 @@
-use mathlib.Core.Path.{_≡_, refl, sym, ap, _∙_}
 use Rattle.interpreter.specs.Loading.{composition}
 use Rattle.interpreter.proofs.LoadLaws.{filter-bad, filter-ok, filter-pool, filter-nodes, pipeline-bad, pipeline-two, load-neither}
-use native.Mathlib.Omega.{arith}
 use borrow.Author.Needs.{needs}
 use Rattle.interpreter.proofs.loading.load_verdict.Statement.{statement}
 use Rattle.interpreter.proofs.loading.load_verdict.Tie as tie
-use Rattle.interpreter.proofs.loading.load_verdict.Reads as reads
-use Rattle.interpreter.proofs.loading.load_verdict.Lts as lts
 use Rattle.interpreter.proofs.loading.at_side.Reads as at-side-reads
 use Rattle.interpreter.proofs.loading.side_verdict.Reads as side-verdict-reads
 

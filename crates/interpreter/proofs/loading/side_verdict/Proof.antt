@@ -1,50 +1,40 @@
-use mathlib.Core.Path.{_≡_, refl, sym, ap, _∙_}
+use mathlib.Core.Path.{sym, _∙_}
 use Rattle.tables.specs.Nodes.{table}
 use Rattle.interpreter.proofs.LoadLaws.{root-in, side-bad, side-passes, side-good, side-seven, start-within}
 use native.Mathlib.Omega.{arith}
 use borrow.Author.Needs.{needs}
 use Rattle.interpreter.proofs.loading.side_verdict.Statement.{statement}
 use Rattle.interpreter.proofs.loading.side_verdict.Tie as tie
-use Rattle.interpreter.proofs.loading.side_verdict.Reads as reads
-use Rattle.interpreter.proofs.loading.side_verdict.Lts as lts
-use Rattle.interpreter.proofs.loading.within.Reads as within-reads
+use Rattle.sides.proofs.Side.contents_within.Reads as contents-within-reads
 use Rattle.scopes.proofs.unfolded.unfolded_at.Reads as unfolded-at-reads
 use Rattle.tables.proofs.checks.check.Reads as check-reads
 
--- src/loading.rt:42:9
 check-requires : tie.Need-check-requires
 check-requires c κs = search needs
 
 enum-told : tie.Need-enum-told
 enum-told c = search needs
 
--- src/loading.rt:44:9
 enum-told-2 : tie.Need-enum-told-2
 enum-told-2 c = search needs
 
--- src/loading.rt:44:9
 returns : tie.Need-returns
 returns c = let x = c .before .before .before .before .before in let t = table (x .args .nodes .now) (x .args .pool .now) in λ i. side-bad i t (c .before .before .check .result) _ _ (c .before .before .check .ensures) (c .enum-told2 .given .1)
 
--- src/loading.rt:46:9
 unfolded-at-requires : tie.Need-unfolded-at-requires
 unfolded-at-requires c κs = search needs
 
--- src/loading.rt:47:28
-add-within : tie.Need-add-within
-add-within c = omega (arith, c .before .unfolded-at .ensures .0 .boxes)
+add-contents-within : tie.Need-add-contents-within
+add-contents-within c = omega (arith, c .before .unfolded-at .ensures .0 .boxes)
 
--- src/loading.rt:47:8
-within-requires : tie.Need-within-requires
-within-requires c κs = search needs
+contents-within-requires : tie.Need-contents-within-requires
+contents-within-requires c κs = search needs
 
--- src/loading.rt:48:9
 returns-2 : tie.Need-returns-2
-returns-2 c = let x = c .before .before .before .before .before .before .before .before .before in let t = table (x .args .nodes .now) (x .args .pool .now) in let p = side-passes t (c .before .before .before .before .before .before .check .result) (c .before .before .before .before .before .before .check .ensures) (c .before .before .before .before .enum-told .given .1) in λ i. side-good i t p (start-within i t (c .before .before .before .unfolded-at .result) (c .before .before .before .unfolded-at .ensures .1 (x .args .pool .now) p (root-in t p)) ∙ sym (c .before .within .ensures) ∙ c .if1 .taken)
+returns-2 c = let x = c .before .before .before .before .before .before .before .before .before in let t = table (x .args .nodes .now) (x .args .pool .now) in let p = side-passes t (c .before .before .before .before .before .before .check .result) (c .before .before .before .before .before .before .check .ensures) (c .before .before .before .before .enum-told .given .1) in λ i. side-good i t p (start-within i t (c .before .before .before .unfolded-at .result) (c .before .before .before .unfolded-at .ensures .1 (x .args .pool .now) p (root-in t p)) ∙ sym (c .before .contents-within .ensures) ∙ c .if1 .taken)
 
--- src/loading.rt:39:1
 returns-3 : tie.Need-returns-3
-returns-3 c = let x = c .before .before .before .before .before .before .before .before .before in let t = table (x .args .nodes .now) (x .args .pool .now) in let p = side-passes t (c .before .before .before .before .before .before .check .result) (c .before .before .before .before .before .before .check .ensures) (c .before .before .before .before .enum-told .given .1) in λ i. side-seven i t p (start-within i t (c .before .before .before .unfolded-at .result) (c .before .before .before .unfolded-at .ensures .1 (x .args .pool .now) p (root-in t p)) ∙ sym (c .before .within .ensures) ∙ c .if1 .left)
+returns-3 c = let x = c .before .before .before .before .before .before .before .before .before in let t = table (x .args .nodes .now) (x .args .pool .now) in let p = side-passes t (c .before .before .before .before .before .before .check .result) (c .before .before .before .before .before .before .check .ensures) (c .before .before .before .before .enum-told .given .1) in λ i. side-seven i t p (start-within i t (c .before .before .before .unfolded-at .result) (c .before .before .before .unfolded-at .ensures .1 (x .args .pool .now) p (root-in t p)) ∙ sym (c .before .contents-within .ensures) ∙ c .if1 .left)
 
 pub side-verdict-spec : {M : Type 1} → statement M
 side-verdict-spec =
@@ -55,7 +45,7 @@ side-verdict-spec =
     enum-told-2
     returns
     unfolded-at-requires
-    add-within
-    within-requires
+    add-contents-within
+    contents-within-requires
     returns-2
     returns-3)

@@ -1,11 +1,7 @@
-use mathlib.Core.Path.{_≡_, refl, sym, ap, _∙_}
 use Rattle.interpreter.proofs.LoadLaws.{can-start, start-is}
-use native.Mathlib.Omega.{arith}
 use borrow.Author.Needs.{needs}
 use Rattle.interpreter.proofs.loading.start_of.Statement.{statement}
 use Rattle.interpreter.proofs.loading.start_of.Tie as tie
-use Rattle.interpreter.proofs.loading.start_of.Reads as reads
-use Rattle.interpreter.proofs.loading.start_of.Lts as lts
 use Rattle.sides.proofs.Boxes.alone.Reads as alone-reads
 use Rattle.sides.proofs.Particles.empty.Reads as empty-reads
 use Rattle.sides.proofs.Side.start.Reads as start-reads

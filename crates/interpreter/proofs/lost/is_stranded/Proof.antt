@@ -1,14 +1,11 @@
-use mathlib.Core.Path.{_≡_, refl, sym, ap, _∙_}
+use mathlib.Core.Path.{refl, ap}
 use Rattle.model.specs.Step.{isArrived}
 use Rattle.sides.specs.declared.Status.{Status}
 use Rattle.sides.specs.Views.{viewStatus, viewMessage}
 use Rattle.interpreter.proofs.FindLaws.{not-arrived, arrived-is}
-use native.Mathlib.Omega.{arith}
 use borrow.Author.Needs.{needs}
 use Rattle.interpreter.proofs.lost.is_stranded.Statement.{statement}
 use Rattle.interpreter.proofs.lost.is_stranded.Tie as tie
-use Rattle.interpreter.proofs.lost.is_stranded.Reads as reads
-use Rattle.interpreter.proofs.lost.is_stranded.Lts as lts
 
 -- src/lost.rt:21:25
 enum-told : tie.Need-enum-told

@@ -1,9 +1,8 @@
-use mathlib.Core.Path.{_≡_, refl, sym, ap, _∙_}
+use mathlib.Core.Path.{sym, _∙_}
 use Rattle.interpreter.specs.Loading.{composition}
 use Rattle.model.proofs.Tests.{fst, snd}
 use Rattle.interpreter.proofs.FindLaws.{right-by, right-none, asked-one, asked-two, asked-filter, asked-other, asked-unready, lobby-one, lobby-two}
 use borrow.Author.Needs.{needs}
-use native.Mathlib.Omega.{arith}
 use Rattle.interpreter.proofs.lost.stranded.Statement.{statement}
 use Rattle.interpreter.proofs.lost.stranded.Tie as tie
 

@@ -1,4 +1,4 @@
-use mathlib.Core.Path.{_≡_, refl, sym, ap, _∙_}
+use mathlib.Core.Path.{_≡_, refl}
 use Prim.Native.Nat.{_-_, _≤_}
 use mathlib.Core.Bool.{true}
 use lib.ListN.{length, take}
@@ -9,8 +9,6 @@ use borrow.Author.Needs.{needs}
 use native.Mathlib.Omega.{arith}
 use Rattle.interpreter.proofs.lost.stranded_in.Statement.{statement}
 use Rattle.interpreter.proofs.lost.stranded_in.Tie as tie
-use Rattle.interpreter.proofs.lost.stranded_in.Reads as reads
-use Rattle.interpreter.proofs.lost.stranded_in.Lts as lts
 use Rattle.interpreter.proofs.lost.is_stranded.Reads as is-stranded-reads
 
 abbrev Inv-loop : tie.InvT-loop

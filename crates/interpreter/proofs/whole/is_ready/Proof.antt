@@ -1,13 +1,10 @@
-use mathlib.Core.Path.{_≡_, refl, sym, ap, _∙_}
+use mathlib.Core.Path.{sym, _∙_}
 use Rattle.interpreter.specs.Loading.{composition}
 use Rattle.interpreter.proofs.LoadLaws.{taken}
 use Rattle.interpreter.proofs.AnswerLaws.{unready-is, ready-is}
-use native.Mathlib.Omega.{arith}
 use borrow.Author.Needs.{needs}
 use Rattle.interpreter.proofs.whole.is_ready.Statement.{statement}
 use Rattle.interpreter.proofs.whole.is_ready.Tie as tie
-use Rattle.interpreter.proofs.whole.is_ready.Reads as reads
-use Rattle.interpreter.proofs.whole.is_ready.Lts as lts
 use Rattle.interpreter.proofs.loading.load_verdict.Reads as load-verdict-reads
 use Rattle.wellformed.proofs.whole.well_formed.Reads as well-formed-reads
 

@@ -1,8 +1,4 @@
-use mathlib.Core.Path.{sym}
-use mathlib.Core.Bool.{_&&_}
 use borrow.Author.Tests.{eq-eqb, ne-eqb}
-use borrow.Author.Needs.{needs}
-use native.Mathlib.Omega.{arith}
 use Rattle.interpreter.proofs.whole.is_second.Statement.{statement}
 use Rattle.interpreter.proofs.whole.is_second.Tie as tie
 

@@ -1,8 +1,7 @@
-use mathlib.Core.Path.{_≡_, sym, subst}
+use mathlib.Core.Path.{subst}
 use Rattle.sides.specs.declared.State.{State}
 use Rattle.values.specs.Env.{viewValue}
 use Rattle.interpreter.specs.Answers.{Answered}
-use native.Mathlib.Omega.{arith}
 use borrow.Author.Needs.{needs}
 use Rattle.interpreter.proofs.whole.put_back.Statement.{statement}
 use Rattle.interpreter.proofs.whole.put_back.Tie as tie

@@ -1,5 +1,4 @@
 use Rattle.interpreter.proofs.AnswerLaws.{refused-ten}
-use native.Mathlib.Omega.{arith}
 use borrow.Author.Needs.{needs}
 use Rattle.interpreter.proofs.whole.refused.Statement.{statement}
 use Rattle.interpreter.proofs.whole.refused.Tie as tie

@@ -1,10 +1,9 @@
-use mathlib.Core.Path.{_≡_, refl, sym, ap, _∙_}
+use mathlib.Core.Path.{sym, _∙_}
 use Rattle.interpreter.specs.Loading.{composition}
 use Rattle.dispatch.specs.Stepping.{asked}
 use Rattle.model.proofs.Tests.{fst, snd}
 use Rattle.interpreter.proofs.AnswerLaws.{step-ready, step-refused}
 use borrow.Author.Needs.{needs}
-use native.Mathlib.Omega.{arith}
 use Rattle.interpreter.proofs.whole.step.Statement.{statement}
 use Rattle.interpreter.proofs.whole.step.Tie as tie
 

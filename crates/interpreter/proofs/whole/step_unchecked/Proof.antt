@@ -4,7 +4,6 @@ use Rattle.model.specs.Step.{Step}
 use Rattle.interpreter.specs.Loading.{composition}
 use Rattle.dispatch.specs.Stepping.{asked}
 use Rattle.interpreter.proofs.AnswerLaws.{own-one, own-second, shelf-one, step-first, step-second, step-none}
-use native.Mathlib.Omega.{arith}
 use borrow.Author.Needs.{needs}
 use Rattle.interpreter.proofs.whole.step_unchecked.Statement.{statement}
 use Rattle.interpreter.proofs.whole.step_unchecked.Tie as tie

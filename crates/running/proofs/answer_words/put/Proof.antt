@@ -1,4 +1,4 @@
-use mathlib.Core.Path.{_≡_, refl, sym, ap, _∙_}
+use mathlib.Core.Path.{_≡_, refl}
 use Prim.Native.Nat.{_-_, _+_, _*_, _≤_}
 use lib.ListN.{length}
 use lib.Seq.{paste, paste-zero}

@@ -1,5 +1,5 @@
-use mathlib.Core.Path.{_≡_, refl, sym, ap, _∙_}
-use Prim.Native.Nat.{_-_, _+_, _≤_}
+use mathlib.Core.Path.{_≡_, refl}
+use Prim.Native.Nat.{_-_, _≤_}
 use lib.ListN.{length, set, replicate}
 use lib.Seq.{paste, paste-zero}
 use Rattle.running.proofs.RunLaws.{copy-next, copy-all, words-made}

@@ -1,6 +1,5 @@
 use Rattle.values.specs.Env.{viewEnv}
 use Rattle.values.proofs.Environments.{size-name, size-word}
-use native.Mathlib.Omega.{arith}
 use borrow.Author.Needs.{needs}
 use Rattle.values.proofs.Env.size_for.Statement.{statement}
 use Rattle.values.proofs.Env.size_for.Tie as tie
