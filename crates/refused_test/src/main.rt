@@ -2,16 +2,13 @@
 //
 // A line has `broken`, or `allowed` for tables beside broken ones; what the tables are; after the colon the answer to `enter` with
 // the name 20, with the table on side 1, then on side 2, and `kept` where the state that came back is the one that was passed. The
-// lines after them have one answer: wrappers, and a state of the other wrapper or of other tables. The lines `compared` show that
-// the comparison tells two states apart that differ in one field.
+// lines after them have one answer: wrappers, and a state of the other wrapper or of other tables.
 ghost use Prim.Native.Nat.{_≤_};
 use changes::write;
 use interpreter::load;
 use interpreter::step;
 use sides::State;
 use states::answer;
-
-mod compared; // that the comparison sees each field
 
 // How a line begins.
 fn begin(good: bool, name: &[u8]) {
@@ -205,7 +202,4 @@ fn main() {
     nodes();
     chains();
     wrappers();
-    let s = states::piped();
-    compared::fields(s, 1);
-    compared::fields(s, 2);
 }

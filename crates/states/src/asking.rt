@@ -1,5 +1,8 @@
 // What a step of a state answers.
 use super::handler::stepped;
+use changes::label;
+use changes::number;
+use changes::put;
 use changes::same_state;
 use changes::word;
 use changes::write;
@@ -57,4 +60,19 @@ pub fn ask(wrapper: u32, s: State) {
         answer(s, stepped(wrapper, s, 1, 2, 0, 0, &given));
     }
     write(b"\n");
+}
+
+// A line: one thing put anew on a side. It has no number after it where it is fields that are not read, 33 and 34.
+pub fn case(good: bool, wrapper: u32, side: u32, s: State, what: usize, n: usize) {
+    head(good, wrapper, side);
+    label(what);
+    if what < 33 {
+        number(n);
+    }
+    ask(wrapper, put(s, side, what, n));
+}
+
+// Whether a side may have a shelf: side 1 under the pipeline.
+pub fn has_shelf(wrapper: u32, side: u32) -> bool {
+    if wrapper == 2 { side == 1 } else { false }
 }

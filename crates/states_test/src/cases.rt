@@ -6,6 +6,8 @@ use changes::put;
 use changes::write;
 use sides::State;
 use states::ask;
+use states::case;
+use states::has_shelf;
 use states::head;
 
 // Where: 0 on every side, 1 where the side may have a shelf, 2 where it may not. Whether it is allowed. What is put, by its number in
@@ -60,63 +62,12 @@ const ROWS: [[usize; 4]; 47] = [
     [0, 0, 31, 0],
 ];
 
-// Whether a side may have a shelf: side 1 under the pipeline.
-pub fn has_shelf(wrapper: u32, side: u32) -> bool {
-    if wrapper == 2 { side == 1 } else { false }
-}
-
 // Whether a row is for a side.
 fn is_for(at: usize, wrapper: u32, side: u32) -> bool {
     match at {
         0 => true,
         1 => has_shelf(wrapper, side),
         _ => !has_shelf(wrapper, side),
-    }
-}
-
-// A line; what is put has no number after it where it is fields that are not read, 33 and 34.
-pub fn case(good: bool, wrapper: u32, side: u32, s: State, what: usize, n: usize) {
-    head(good, wrapper, side);
-    label(what);
-    if what < 33 {
-        number(n);
-    }
-    ask(wrapper, put(s, side, what, n));
-}
-
-// The most that there may be of what is counted.
-fn limit(what: usize) -> usize
-    ensures { λ r. ⌜ r ≤ 256 ⌝ }
-{
-    match what {
-        0 => 32,
-        2 => 8,
-        7 => 32,
-        9 => 256,
-        _ => 16,
-    }
-}
-
-// Whether a side has what is counted.
-fn is_counted(what: usize, wrapper: u32, side: u32) -> bool {
-    match what {
-        7 => has_shelf(wrapper, side),
-        8 => has_shelf(wrapper, side),
-        _ => true,
-    }
-}
-
-// Each count at its limit, past it, and the largest number; the shelf's where the side may have one.
-pub fn counts(wrapper: u32, side: u32, s: State) {
-    let mut k: usize = 0;
-    while k < 10 {
-        if is_counted(k, wrapper, side) {
-            let n = limit(k);
-            case(true, wrapper, side, s, k, n);
-            case(false, wrapper, side, s, k, n + 1);
-            case(false, wrapper, side, s, k, 18446744073709551615);
-        }
-        k += 1;
     }
 }
 

@@ -1,5 +1,4 @@
-// Waiting inputs that no load and no step gives, as a list of rows, each a line as those of the program `states_test`: of the clauses of
-// well-formedness, those of `wfParticle` that an input may break. A step answers 10 and keeps the state.
+// Waiting inputs, as a list of rows, each a line.
 use changes::input_of;
 use changes::number;
 use changes::put_input;
@@ -63,19 +62,12 @@ fn input_case(wrapper: u32, side: u32, s: State, row: [usize; 5]) {
     ask(wrapper, put_input(s, side, p));
 }
 
-// Each row, on a side.
-fn inputs(wrapper: u32, side: u32, s: State) {
+// The lines of the list.
+pub fn inputs(wrapper: u32, side: u32, s: State) {
     let mut k: usize = 0;
     while k < 27 {
         let row = INPUTS[k];
         input_case(wrapper, side, s, row);
         k += 1;
     }
-}
-
-fn main() {
-    let s = states::piped();
-    inputs(2, 1, s);
-    inputs(2, 2, s);
-    inputs(1, 1, states::filtered());
 }

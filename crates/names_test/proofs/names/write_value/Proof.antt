@@ -1,8 +1,8 @@
--- `states_test::names::write_value` meets its contract: the loop reads words below 16.
+-- `names_test::names::write_value` meets its contract: the loop reads words below 16.
 use Prim.Native.Nat.{_-_, _≤_}
 use borrow.Author.Needs.{needs}
-use Rattle.states_test.proofs.names.write_value.Statement.{statement}
-use Rattle.states_test.proofs.names.write_value.Tie as tie
+use Rattle.names_test.proofs.names.write_value.Statement.{statement}
+use Rattle.names_test.proofs.names.write_value.Tie as tie
 
 abbrev Inv-loop : tie.InvT-loop
 Inv-loop v n last k₀ t7 k = (k ≤ n) × (n ≤ 16)

@@ -1,7 +1,5 @@
 // Names and values, at every place that holds one.
 ghost use Prim.Native.Nat.{_<_, _≤_};
-use super::cases::case;
-use super::cases::has_shelf;
 use changes::label;
 use changes::number;
 use changes::put_value;
@@ -10,6 +8,8 @@ use changes::word;
 use changes::write;
 use sides::State;
 use states::ask;
+use states::case;
+use states::has_shelf;
 use states::head;
 use values::Value;
 

@@ -1,8 +1,8 @@
--- `states_test::names::names` meets its contract: the loop goes over places below the end of the part, at most 19.
+-- `names_test::names::names` meets its contract: the loop goes over places below the end of the part, at most 19.
 use Prim.Native.Nat.{_-_, _≤_}
 use borrow.Author.Needs.{needs}
-use Rattle.states_test.proofs.names.names.Statement.{statement}
-use Rattle.states_test.proofs.names.names.Tie as tie
+use Rattle.names_test.proofs.names.names.Statement.{statement}
+use Rattle.names_test.proofs.names.names.Tie as tie
 
 abbrev Inv-loop : tie.InvT-loop
 Inv-loop good wrapper side s from to words k₀ k = to ≤ 19

@@ -1,8 +1,8 @@
--- `states_test::cases::counts` meets its contract: the loop goes over what is counted, below 10.
+-- `names_test::counts::counts` meets its contract: the loop goes over what is counted, below 10.
 use Prim.Native.Nat.{_-_, _≤_}
 use borrow.Author.Needs.{needs}
-use Rattle.states_test.proofs.cases.counts.Statement.{statement}
-use Rattle.states_test.proofs.cases.counts.Tie as tie
+use Rattle.names_test.proofs.counts.counts.Statement.{statement}
+use Rattle.names_test.proofs.counts.counts.Tie as tie
 
 abbrev Inv-loop : tie.InvT-loop
 Inv-loop wrapper side s k₀ k = k ≤ 10

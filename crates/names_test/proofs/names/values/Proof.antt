@@ -1,8 +1,8 @@
--- `states_test::names::values` meets its contract: the loop goes over values of the list below the end of the part, at most 17.
+-- `names_test::names::values` meets its contract: the loop goes over values of the list below the end of the part, at most 17.
 use Prim.Native.Nat.{_-_, _≤_}
 use borrow.Author.Needs.{needs}
-use Rattle.states_test.proofs.names.values.Statement.{statement}
-use Rattle.states_test.proofs.names.values.Tie as tie
+use Rattle.names_test.proofs.names.values.Statement.{statement}
+use Rattle.names_test.proofs.names.values.Tie as tie
 
 abbrev Inv-loop : tie.InvT-loop
 Inv-loop good wrapper side s from to k₀ k = to ≤ 17

@@ -1,4 +1,5 @@
-// That the comparison of two states sees each field: pairs of states that differ in one.
+// That the comparison of two states, by which the programs on broken states say that a state was kept, sees each field: pairs of
+// states that differ in one.
 use changes::put;
 use changes::same_state;
 use changes::word;
@@ -57,8 +58,14 @@ fn lists(s: State, side: u32) {
 }
 
 // Each field of a side.
-pub fn fields(s: State, side: u32) {
+fn fields(s: State, side: u32) {
     particle_fields(s, side);
     message_fields(s, side);
     lists(s, side);
+}
+
+fn main() {
+    let s = states::piped();
+    fields(s, 1);
+    fields(s, 2);
 }

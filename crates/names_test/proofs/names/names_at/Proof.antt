@@ -1,9 +1,9 @@
--- `states_test::names::names_at` meets its contract: the loop reads words below their number, at most eight.
+-- `names_test::names::names_at` meets its contract: the loop reads words below their number, at most eight.
 use Prim.Native.Nat.{_-_, _≤_}
 use borrow.Author.Needs.{needs}
 use lib.ListN.{length}
-use Rattle.states_test.proofs.names.names_at.Statement.{statement}
-use Rattle.states_test.proofs.names.names_at.Tie as tie
+use Rattle.names_test.proofs.names.names_at.Statement.{statement}
+use Rattle.names_test.proofs.names.names_at.Tie as tie
 
 abbrev Inv-loop : tie.InvT-loop
 Inv-loop good wrapper side s place words k₀ k = (k ≤ length words) × (length words ≤ 8)

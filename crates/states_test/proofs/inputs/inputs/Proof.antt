@@ -1,8 +1,8 @@
--- `inputs_test::inputs` meets its contract: the loop reads rows below 27.
+-- `states_test::inputs::inputs` meets its contract: the loop reads rows below 27.
 use Prim.Native.Nat.{_-_, _≤_}
 use borrow.Author.Needs.{needs}
-use Rattle.inputs_test.proofs.inputs.Statement.{statement}
-use Rattle.inputs_test.proofs.inputs.Tie as tie
+use Rattle.states_test.proofs.inputs.inputs.Statement.{statement}
+use Rattle.states_test.proofs.inputs.inputs.Tie as tie
 
 abbrev Inv-loop : tie.InvT-loop
 Inv-loop wrapper side s k₀ k = k ≤ 27

@@ -1,0 +1,41 @@
+// Each count of a side.
+ghost use Prim.Native.Nat.{_≤_};
+use sides::State;
+use states::case;
+use states::has_shelf;
+
+// The most that there may be of what is counted.
+fn limit(what: usize) -> usize
+    ensures { λ r. ⌜ r ≤ 256 ⌝ }
+{
+    match what {
+        0 => 32,
+        2 => 8,
+        7 => 32,
+        9 => 256,
+        _ => 16,
+    }
+}
+
+// Whether a side has what is counted.
+fn is_counted(what: usize, wrapper: u32, side: u32) -> bool {
+    match what {
+        7 => has_shelf(wrapper, side),
+        8 => has_shelf(wrapper, side),
+        _ => true,
+    }
+}
+
+// Each count at its limit, past it, and the largest number; the shelf's where the side may have one.
+pub fn counts(wrapper: u32, side: u32, s: State) {
+    let mut k: usize = 0;
+    while k < 10 {
+        if is_counted(k, wrapper, side) {
+            let n = limit(k);
+            case(true, wrapper, side, s, k, n);
+            case(false, wrapper, side, s, k, n + 1);
+            case(false, wrapper, side, s, k, 18446744073709551615);
+        }
+        k += 1;
+    }
+}

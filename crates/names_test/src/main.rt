@@ -1,0 +1,68 @@
+// States that no load and no step gives: a count past its limit, and what is no name or no value, at every place that holds one. A
+// step answers 10 and keeps the state. The lines are as those of the program `states_test`.
+//
+// The clauses, in the order of the definitions, and what the lines that break them say. Side 1 of the pipeline has minted one name,
+// side 2 two; the filter's side 1 two.
+//
+//   fitsArrays  particles 33; output's words 17; input's values 9; input's words 17; boxes 17; messages 17; message's words 17;
+//               shelf 33; shelf's words 17; each also with the largest number
+//   held        64, 4000000 and 4999999, no names, as channel, to child, from child, box name, message's channel; 65537 and 131074,
+//               not minted (the filter's: 65538 and 131072); 65792 and 131328, past the largest serial
+//   heldWord    64 and those four as an output's, an input's, a message's and a shelf's value; in tuples
+//   wfValue     at those four: length 0; the wildcard; 4000016; 3999999; words left over; parts missing; length 17
+//   wfTag       to child and from child, as in held
+//   limits      minted 257; the others are those of fitsArrays
+mod counts; // each count
+mod names; // names and values
+
+use changes::put;
+use changes::write;
+use counts::counts;
+use names::names;
+use names::value;
+use names::values;
+use sides::State;
+
+// What no state may hold, whatever was minted.
+fn any_side(wrapper: u32, side: u32, s: State) {
+    counts(wrapper, side, s);
+    names(false, wrapper, side, s, 10, 15, &[64, 4000000, 4999999]);
+    names(false, wrapper, side, s, 15, 19, &[64]);
+    values(false, wrapper, side, s, 0, 8);
+    values(true, wrapper, side, s, 8, 12);
+}
+
+// The largest serials and the next, with 256 names minted on each side.
+fn largest_serials(side: u32, s: State) {
+    let t = put(put(s, 1, 9, 256), 2, 9, 256);
+    write(b"with 256 names minted on each side\n");
+    names(true, 2, side, t, 10, 19, &[65791, 131327]);
+    names(false, 2, side, t, 10, 19, &[65792, 131328]);
+    write(b"with the names that were minted\n");
+}
+
+// A side under the pipeline. By the counts of the state: one name of side 1, two of side 2.
+fn pipeline(side: u32, s: State) {
+    any_side(2, side, s);
+    names(true, 2, side, s, 10, 19, &[63, 65536, 131073]);
+    names(false, 2, side, s, 10, 19, &[65537, 131074]);
+    values(false, 2, side, s, 12, 15);
+    value(false, 2, side, s, 16);
+    largest_serials(side, s);
+}
+
+// The filter: two names of side 1, none of side 2.
+fn filter(s: State) {
+    any_side(1, 1, s);
+    names(true, 1, 1, s, 10, 19, &[63, 65537]);
+    names(false, 1, 1, s, 10, 19, &[65538, 65792, 131072, 131328]);
+    values(false, 1, 1, s, 12, 14);
+    values(false, 1, 1, s, 15, 17);
+}
+
+fn main() {
+    let s = states::piped();
+    pipeline(1, s);
+    pipeline(2, s);
+    filter(states::filtered());
+}
