@@ -6,7 +6,7 @@ use lib.ListN.{length}
 use Rattle.model.specs.Side.{State}
 use Rattle.model.specs.Load.{Composition}
 use Rattle.model.specs.Step.{Step, step}
-use Rattle.format.specs.Words.{answers}
+use Rattle.model.specs.Runs.{answers}
 
 -- each step has its answer
 pub answers-many : (b : Composition) (s : State) (xs : List Step) → length (answers b s xs) ≡ length xs

@@ -5,7 +5,7 @@ use Prim.Native.Nat.{ℕ, zero, suc, _+_, _/_, _%_}
 use lib.Dec.{ltb}
 use Rattle.model.specs.Load.{Refused, refused, ok, load}
 use Rattle.model.specs.Step.{silent, enters, leaves, Answer, labelled, refusal}
-use Rattle.format.specs.Words.{answers}
+use Rattle.model.specs.Runs.{answers}
 use Rattle.format.specs.Lines.{tab, newline, Input, fault, whole, reading}
 
 -- the decimal digits of a number under 10 ^ k, with no zeros in front

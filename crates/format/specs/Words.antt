@@ -5,10 +5,10 @@ use Prim.Native.Nat.{ℕ, zero, suc, _+_, _*_}
 use lib.Dec.{ltb}
 use lib.ListN.{length, getD, take, drop}
 use Rattle.model.specs.Basics.{choose}
-use Rattle.model.specs.Side.{State}
 use Rattle.model.specs.Load.{Composition, Refused, Loaded, refused, ok, load}
-use Rattle.model.specs.Step.{silent, enters, leaves, Step, Answer, step}
+use Rattle.model.specs.Step.{silent, enters, leaves, Step, Answer}
 use Rattle.model.specs.Answer.{Said, label, number, Given, given}
+use Rattle.model.specs.Runs.{answers}
 
 -- a step before the steps of the rest; none where there are none
 unfoldable pub before : Step → Option (List Step) → Option (List Step)
@@ -59,11 +59,6 @@ answerWords a = givenWords (given a)
 abbrev pub allAnswerWords : List Answer → List ℕ
 allAnswerWords [] = []
 allAnswerWords (a ∷ xs) = answerWords a ++ allAnswerWords xs
-
--- the answers of a run from s. Each step gets what the step before returned or left; a refusal does not end the run
-unfoldable pub answers : Composition → State → List Step → List Answer
-answers b s [] = []
-answers b s (x ∷ xs) = let r = step b s x in r .answer ∷ answers b (r .after) xs
 
 -- what a run comes to: its steps break off, the words lent for the answers are too few, load refuses, or the answers
 pub data Ran : Type 0 where

@@ -9,24 +9,24 @@ use native.Mathlib.Omega.{arith}
 use borrow.Author.Tests.{leb-true, leb-false, le-leb, lt-ltb, le-ltb, ltb-true, ltb-false}
 use lib.Dec.{leb, ltb, T}
 use lib.ListN.{length, length-append}
-use Rattle.calculus.specs.Syntax.{Val, Vals, nm, tup, vnil, vcons, AllV, AllVs}
-use Rattle.calculus.specs.Transitions.{names, namess, In}
+use Rattle.calculus.specs.Syntax.{Val, Vals, nm, tup, vnil, vcons, AllV, AllVs, parent, plain}
+use Rattle.calculus.specs.Transitions.{Label, tau, send, recv, names, namess, In}
 use Rattle.model.specs.Basics.{_&_, _or_, every}
 use Rattle.model.specs.Values.{items, isTuple, isName, isMinted, isValue, arity}
 use Rattle.model.specs.Side.{State}
 use Rattle.model.specs.Load.{Composition}
-use Rattle.model.specs.WellFormed.{wfState, held}
-use Rattle.model.specs.Step.{known}
-use Rattle.model.specs.Process.{vwords, vswords, vcount, upto, valOf, keep, knownOf, mintedOf}
-use Rattle.model.specs.Agreement.{foreign, someName, enterable, mintedNumber}
+use Rattle.model.specs.WellFormed.{Counts, wfState, wfValue, held}
+use Rattle.model.specs.Step.{Label as Said, silent, enters, leaves, labelled, known}
+use Rattle.model.specs.Process.{vwords, vswords, vcount, upto, valOf, keep, knownOf, mintedOf, inwards, outwards}
+use Rattle.model.specs.Agreement.{foreign, someName, enterable, mintedNumber, Says, says-tau, says-in, says-out}
 use Rattle.calculus.proofs.Renaming.{AllV-map}
 use Rattle.calculus.proofs.FreeNames.{mem-left, mem-right}
 use Rattle.model.proofs.Tests.{fst, snd, both, alt, alt-left, alt-right}
-use Rattle.model.proofs.Keeping.{shaped-words}
+use Rattle.model.proofs.Keeping.{Spoken, shaped-words}
 use Rattle.model.proofs.Invariant.{known-held}
 use Rattle.model.proofs.KnownNames.{keep-in, held-minted, in-upto}
-use Rattle.model.proofs.Items.{items-zero, items-leaf, items-tuple, items-shaped, tuple-not-name, every-front, every-back}
-use Rattle.model.proofs.ValueWords.{worded, val-back}
+use Rattle.model.proofs.Items.{items-zero, items-leaf, items-tuple, items-shaped, shaped-items, tuple-not-name, every-front, every-back}
+use Rattle.model.proofs.ValueWords.{worded, val-back, val-written, wfVal-all}
 use Rattle.model.proofs.Labels.{none-all, T-not}
 
 -- names that may enter
@@ -213,6 +213,25 @@ mutual
 
 pub usual-names : (v : Val ℕ) → AllV v (λ x. isName x ≡ true) → T (not (foreign v))
 usual-names v h = subst (λ (c : Bool). T (not c)) (sym (all-none (λ n. not (enterable n)) v (AllV-map v (λ x q. ap not (name-enterable x q)) h))) tt
+
+-- names that are held are names
+held-name : (k : Counts) (x : ℕ) → held k x ≡ true → isName x ≡ true
+unfolding held
+held-name k x e = ⊎-elim (λ p. alt-left _ _ p) (λ p. alt-right _ _ (fst _ _ p)) (alt _ _ e)
+
+-- a value whose names are held is the words of a value with no foreign name
+pub value-written : (k : Counts) (v : List ℕ) → wfValue k v ≡ true → v ≡ vwords (valOf v)
+unfolding wfValue isValue
+value-written k v e = sym (val-written v (shaped-items v (snd _ _ (fst _ _ e))))
+
+pub not-strange : (k : Counts) (v : List ℕ) → wfValue k v ≡ true → T (not (foreign (valOf v)))
+not-strange k v e = usual-names (valOf v) (wfVal-all (λ x. isName x ≡ true) k (held-name k) (alt-left _ _ refl) v e)
+
+-- such a value has a label, and so has a silent answer without a value
+pub spoken-says : (w n : ℕ) (k : Counts) (l : Said) (v : List ℕ) → Spoken k l v → (L : Label) × Says w (labelled l n v) L
+spoken-says w n k silent v h = subst (λ (u : List ℕ). (L : Label) × Says w (labelled silent n u) L) (sym h) (tau, says-tau)
+spoken-says w n k enters v h = (recv (inwards w n) (plain parent) (valOf v), says-in (value-written k v h) (not-strange k v h))
+spoken-says w n k leaves v h = (send (outwards w n) (plain parent) (valOf v), says-out (value-written k v h) (not-strange k v h))
 
 module _ (v : Val ℕ) (wr : T (not (someName isTuple (names v)))) (iv : isValue (vwords v) ≡ true) where
   words-ok : every worded (vwords v) ≡ true

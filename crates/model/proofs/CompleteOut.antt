@@ -1,12 +1,12 @@
 -- Demand 2, second half, for the labels that leave: each transition that sends to the environment has a step at its place, and that step answers its label and leads where it leads.
 use mathlib.Core.Path.{_≡_, refl, sym, ap, ap₂, _∙_, subst, subst₂}
-use mathlib.Core.Bool.{Bool, true, false, not, cond}
+use mathlib.Core.Bool.{Bool, true, false, cond}
 use mathlib.Core.List.{List, [], _∷_, _++_}
 use mathlib.Core.Logic.{_⊎_, inl, ⊎-elim}
 use mathlib.Core.Option.{none, some}
 use Prim.Native.Nat.{ℕ, suc, _+_, _<_}
 use native.Mathlib.Omega.{arith}
-use lib.Dec.{eqb, T}
+use lib.Dec.{eqb}
 use lib.ListN.{length, getElem?, getD, set}
 use Rattle.calculus.specs.Syntax.{Val, Tag, plain, receivedChild, Proc, AllT, tren, vren, ren, remark}
 use Rattle.calculus.specs.Syntax.{nil as pnil, out as pout, parent as iparent, child as ichild}
@@ -18,13 +18,13 @@ use Rattle.calculus.specs.Parallel.{parallel}
 use Rattle.calculus.specs.Tree.{Item, select}
 use Rattle.calculus.specs.Tree.{process}
 use Rattle.model.specs.Basics.{done, need, choose, remove}
-use Rattle.model.specs.Values.{isName, items, isValue, shaped}
+use Rattle.model.specs.Values.{items, isValue, shaped}
 use Rattle.model.specs.Side.{State, Message, Core, down, arrived, leaving, Status as SPlace}
 use Rattle.model.specs.Load.{Composition, Setting}
-use Rattle.model.specs.WellFormed.{counts, shelves, wfMessage, wfValue, held, Counts, ready}
+use Rattle.model.specs.WellFormed.{counts, shelves, wfMessage, wfValue, ready}
 use Rattle.model.specs.Step.{Step, leaves, labelled, Result, local, inner, leave, isLeaving, step, known, markAll}
 use Rattle.model.specs.Process.{Mark, lobby, shelf, ownName, outwards, valOf, confAs, confOf, newOf, knownOf, msgProc, msgItem, shelfItem, shelfItems}
-use Rattle.model.specs.Agreement.{foreign, renamed, plainly, At, asks-out, Says, says-out, Met, answerSide, enter, goDown, goUp, descend, meet, pass, take, leave as leaveAt}
+use Rattle.model.specs.Agreement.{renamed, plainly, At, asks-out, Says, says-out, Met, answerSide, enter, goDown, goUp, descend, meet, pass, take, leave as leaveAt}
 use Rattle.calculus.proofs.Renaming.{AllT-map, AllT-ren}
 use Rattle.calculus.proofs.FreeNames.{step-tag}
 use Rattle.calculus.proofs.Extrusion.{in-news}
@@ -33,12 +33,11 @@ use Rattle.calculus.proofs.Equivariance.{lren}
 use Rattle.calculus.proofs.Restriction.{RestrictInv, minus}
 use Rattle.calculus.proofs.TreeMoves.{Move, sends}
 use Rattle.calculus.proofs.Bags.{item, at, Bag, bag-eq, bag-trans, ritems, ritems-app}
-use Rattle.model.proofs.Tests.{fst, snd, alt, alt-left, alt-right, every-remove, length-remove}
+use Rattle.model.proofs.Tests.{fst, snd, every-remove, length-remove}
 use Rattle.model.proofs.Keeping.{shaped-words}
 use Rattle.model.proofs.Items.{shaped-items}
 use Rattle.model.proofs.Invariant.{settled-is, core-short, core-limits}
 use Rattle.model.proofs.KnownNames.{All}
-use Rattle.model.proofs.ValueWords.{val-written, wfVal-all}
 use Rattle.model.proofs.Splits.{get-pick}
 use Rattle.model.proofs.StateTree.{few-one}
 use Rattle.model.proofs.ItemMoves.{ids, forget, target, gone-bag}
@@ -48,18 +47,10 @@ use Rattle.model.proofs.SideViews.{View}
 use Rattle.model.proofs.SideSteps.{few-two}
 use Rattle.model.proofs.MeetTargets.{get-every}
 use Rattle.model.proofs.StateInversion.{transitions, target-of, rename-of, item-at, ItemAt, atoms-at, items-atoms, fn-sel}
-use Rattle.model.proofs.AskedValues.{usual-names}
+use Rattle.model.proofs.AskedValues.{value-written, not-strange}
 use Rattle.model.proofs.Completing.{Completed, Inv, inv-at, Answers, own-unknown, what-eq, tagIn, chanIn, valIn, markIn}
 use Rattle.model.proofs.WrapperLevel.{Sent, of-lobby, of-shelf, output-is}
 use Rattle.model.proofs.ItemPlaces.{one-changed}
-
--- names that are held are names
-held-name : (k : Counts) (x : ℕ) → held k x ≡ true → isName x ≡ true
-unfolding held
-held-name k x e = ⊎-elim (λ p. alt-left _ _ p) (λ p. alt-right _ _ (fst _ _ p)) (alt _ _ e)
-
-pub not-strange : (k : Counts) (v : List ℕ) → wfValue k v ≡ true → T (not (foreign (valOf v)))
-not-strange k v e = usual-names (valOf v) (wfVal-all (λ x. isName x ≡ true) k (held-name k) (alt-left _ _ refl) v e)
 
 -- the step at the place of a lobby message's output
 lobby-step : {k : Step} {w : Participants Mark} → At k w → (σ j : ℕ) → w ≡ one (lobby σ j) → k ≡ record { kind = 7; side = σ; i = j; j = 0; words = [] }
@@ -134,7 +125,7 @@ module _ (b : Composition) (s : State) (e : ready b s ≡ true) where
     unfolding s' k0
     left-met {l} {R} v el er J n bag = record {
       names = rename-of v;
-      label = subst₂ (λ (r : Result) (y : Label). Says (b .wrapper) (r .answer) y) (sym there) (sym (er ∙ el)) (says-out (sym (val-written (m .val) (shaped-items (m .val) v-shaped))) (not-strange (counts s) (m .val) v-ok));
+      label = subst₂ (λ (r : Result) (y : Label). Says (b .wrapper) (r .answer) y) (sym there) (sym (er ∙ el)) (says-out (value-written (counts s) (m .val) v-ok) (not-strange (counts s) (m .val) v-ok));
       side = ap (λ (r : Result). answerSide (r .answer)) there;
       target = subst (λ (t : State). plainly (ren {r = []} R (v .perm .to)) ≋ plainly (process (confOf b t))) (sym (ap (λ (r : Result). r .after) there)) leads;
     }

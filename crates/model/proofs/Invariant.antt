@@ -19,7 +19,7 @@ use Rattle.model.specs.WellFormed.{Counts, held, heldWord, wfValue, wfPa
 use Rattle.model.specs.Step.{short, Step, Label, silent, enters, leaves, Moved, local, local2, inner, marks, marked, markAll, mark1, markOf, known, step, settled, sideAfter}
 use Rattle.model.proofs.Tests.{or-cases, and-right, fst, snd, both, alt, alt-right, every-mono, need-done, choose-done, bind-done}
 use Rattle.model.proofs.Growing.{Le, CoreOk, core-ok, core-wf, core-mono, wfLeft-mono}
-use Rattle.model.proofs.Keeping.{Kept, done-inj, enter-keeps, down-keeps, up-keeps, descend-keeps, pass-keeps, leave-keeps, takes-keeps}
+use Rattle.model.proofs.Keeping.{Spoken, spoken-held, Kept, done-inj, enter-keeps, down-keeps, up-keeps, descend-keeps, pass-keeps, leave-keeps, takes-keeps}
 use Rattle.model.proofs.Items.{clash}
 use Rattle.model.proofs.Checked.{Checked, checked}
 use Rattle.model.proofs.MeetingKeeps.{Kept′, meet-keeps}
@@ -220,17 +220,23 @@ module _ (b : Composition) (s : State) (e : ready b s ≡ true) where
   unfolding ready
   wf = snd _ _ e
 
+  -- side 1's next core
+  pub one-keeps : (x : Step) (m : Moved) → settled (local (setting1 b) (known s) (s .one .core) x) ≡ done m → Kept′ (setting1 b) (counts s) (s .one .core) m
+  unfolding wfState wfSide
+  one-keeps x m p =
+      let st = settled-done _ m p in
+      local-keeps (setting1 b) (counts s) (s .one .core) (core-ok (setting1 b) (counts s) (s .one .core) (fst _ _ (fst _ _ wf))) (load-checked b loaded .0) (inl refl) (known s) (known-held b s wf) x m (st .is) (st .short-outputs) (st .few)
+
   after1 : (x : Step) (r : Res Moved) → settled (local (setting1 b) (known s) (s .one .core) x) ≡ r → ready b (record { one = sideAfter (s .one) r; two = s .two }) ≡ true
   unfolding ready wfState wfSide wfTaken
   after1 x (refuse n) p = e
   after1 x (done m) p =
       let one = fst _ _ wf in
-      let st = settled-done _ m p in
-      let kp = local-keeps (setting1 b) (counts s) (s .one .core) (core-ok (setting1 b) (counts s) (s .one .core) (fst _ _ one)) (load-checked b loaded .0) (inl refl) (known s) (known-held b s wf) x m (st .is) (st .short-outputs) (st .few) in
+      let kp = one-keeps x m p in
       let k′ : Counts = record { c1 = m .core .contents .minted; c2 = s .two .core .contents .minted } in
       let le : Le (counts s) k′ = record { le1 = kp .more; le2 = omega arith } in
       let tk = fst _ _ (snd _ _ wf) in
-      both _ _ loaded (both _ _ (side-after (setting1 b) (counts s) k′ le (s .one) m (kp .said) (kp .ok k′ le refl) (snd _ _ one))
+      both _ _ loaded (both _ _ (side-after (setting1 b) (counts s) k′ le (s .one) m (spoken-held (counts s) (m .label) (m .val) (kp .said)) (kp .ok k′ le refl) (snd _ _ one))
       (both _ _ (both _ _ (rw (kp .taken) (fst _ _ tk)) (clear-drop (s .two .core .taken) (length (s .one .core .shelf)) (length (m .core .shelf)) (kp .shelf) (snd _ _ tk)))
       (go k′ le (isPipeline b) (snd _ _ (snd _ _ wf)))))
     where
@@ -239,9 +245,9 @@ module _ (b : Composition) (s : State) (e : ready b s ≡ true) where
       go k′ le false q = q
 
   -- side 2's next core, by kind 8 or by one of its own steps
-  two-keeps : isPipeline b ≡ true → (x : Step) (m : Moved) → settled (local2 (setting2 b) (known s) (s .one .core .shelf) (s .two .core) x) ≡ done m →
+  pub two-keeps : isPipeline b ≡ true → (x : Step) (m : Moved) → settled (local2 (setting2 b) (known s) (s .one .core .shelf) (s .two .core) x) ≡ done m →
       (s .two .core .contents .minted ≤ m .core .contents .minted) × ((k′ : Counts) → Le (counts s) k′ → k′ .c2 ≡ m .core .contents .minted → CoreOk (setting2 b) k′ (m .core)) ×
-      (every (heldWord (counts s)) (m .val) ≡ true) × (clear (drop (length (s .one .core .shelf)) (m .core .taken)) ≡ true)
+      Spoken (counts s) (m .label) (m .val) × (clear (drop (length (s .one .core .shelf)) (m .core .taken)) ≡ true)
   unfolding local2 wfState wfSide wfTaken
   two-keeps pi x m p =
       let st = settled-done _ m p in
@@ -265,7 +271,7 @@ module _ (b : Composition) (s : State) (e : ready b s ≡ true) where
       let le : Le (counts s) k′ = record { le1 = omega arith; le2 = kp .0 } in
       let two = cond-true (isPipeline b) _ _ pi (snd _ _ (snd _ _ wf)) in
       both _ _ loaded (both _ _ (side-mono (setting1 b) (counts s) k′ le (s .one) (fst _ _ wf)) (both _ _ (both _ _ (fst _ _ (fst _ _ (snd _ _ wf))) (kp .3))
-      (true-cond (isPipeline b) _ _ pi (side-after (setting2 b) (counts s) k′ le (s .two) m (kp .2) (kp .1 k′ le refl) (snd _ _ two)))))
+      (true-cond (isPipeline b) _ _ pi (side-after (setting2 b) (counts s) k′ le (s .two) m (spoken-held (counts s) (m .label) (m .val) (kp .2)) (kp .1 k′ le refl) (snd _ _ two)))))
 
 pub keeps : (b : Composition) (s : State) (x : Step) → ready b s ≡ true → ready b (step b s x .after) ≡ true
 unfolding step

@@ -14,16 +14,28 @@ use Rattle.model.specs.Values.{items, isTuple, isName, isMinted, isValue
 use Rattle.model.specs.Side.{toParent, fromParent, fromChild, Particle, output, input, Box, down, arrived, Message, Contents, Core, withinLimits, limits}
 use Rattle.model.specs.Load.{Setting}
 use Rattle.model.specs.WellFormed.{shelves, Counts, held, heldWord, wfValue, wfTag, wfParticle, wfBoxes, wfMessage}
-use Rattle.model.specs.Step.{Moved, withContents, withLobby, withParticles, enter, goDown, upFrom, upParticle, up, descendParticle, descend, pass, leave, takes}
+use Rattle.model.specs.Step.{Label, silent, enters, leaves, Moved, withContents, withLobby, withParticles, enter, goDown, upFrom, upParticle, up, descendParticle, descend, pass, leave, takes}
 use Rattle.model.proofs.Tests.{fst, snd, both, alt, alt-left, alt-right, every-two, every-append, every-one, every-remove, every-set, length-remove, need-done, choose-done, pick-done}
 use Rattle.model.proofs.Growing.{ContentsOk, CoreOk}
+
+-- what a label may have for its value: none where it is silent, else a value whose names are held
+abbrev pub Spoken : Counts → Label → List ℕ → Type 0
+Spoken k silent v = v ≡ []
+Spoken k enters v = wfValue k v ≡ true
+Spoken k leaves v = wfValue k v ≡ true
+
+pub spoken-held : (k : Counts) (l : Label) (v : List ℕ) → Spoken k l v → every (heldWord k) v ≡ true
+unfolding wfValue
+spoken-held k silent v h = ap (every (heldWord k)) h
+spoken-held k enters v h = snd _ _ h
+spoken-held k leaves v h = snd _ _ h
 
 pub record Kept (c : Setting) (k : Counts) (s : Core) (m : Moved) : Type 0 where
   pub ok : CoreOk c k (m .core)
   pub minted : m .core .contents .minted ≡ s .contents .minted
   pub shelf : length (s .shelf) ≤ length (m .core .shelf)
   pub taken : m .core .taken ≡ s .taken
-  pub said : every (heldWord k) (m .val) ≡ true
+  pub said : Spoken k (m .label) (m .val)
 
 pub done-inj : {A : Type 0} {x y : A} → done x ≡ done y → x ≡ y
 done-inj e = cc
@@ -115,7 +127,7 @@ module _ (c : Setting) (k : Counts) (s : Core) (o : CoreOk c k s) where
         minted = refl;
         shelf = omega arith;
         taken = refl;
-        said = snd _ _ val;
+        said = val;
       })
 
   -- a lobby message less, or changed
@@ -173,7 +185,7 @@ module _ (c : Setting) (k : Counts) (s : Core) (o : CoreOk c k s) where
       let (x, f, g, l) = pick-done _ _ _ _ e in
       let a = need-done _ _ _ _ f in
       let ms = g (wfMessage (shelves c) k) (o .lobby) in
-      subst (λ (y : Moved). Kept c k s y) (done-inj (a .1)) (record { ok = lobby-less i; minted = refl; shelf = omega arith; taken = refl; said = snd _ _ (fst _ _ ms) })
+      subst (λ (y : Moved). Kept c k s y) (done-inj (a .1)) (record { ok = lobby-less i; minted = refl; shelf = omega arith; taken = refl; said = fst _ _ ms })
 
   pub down-keeps : (i : ℕ) (m : Moved) → goDown s i ≡ done m → limits (m .core) ≡ true → Kept c k s m
   unfolding goDown wfMessage wfParticle wfTag
@@ -296,10 +308,10 @@ module _ (c : Setting) (k : Counts) (s : Core) (o : CoreOk c k s) where
 
   -- side 2 takes a shelf value
   pub takes-keeps : (sh : List (List ℕ)) → every (wfValue k) sh ≡ true → (i : ℕ) (m : Moved) → takes sh s i ≡ done m → limits (m .core) ≡ true →
-      CoreOk c k (m .core) × (m .core .contents .minted ≡ s .contents .minted) × (m .core .taken ≡ set (s .taken) i true) × (i < length sh) × (every (heldWord k) (m .val) ≡ true)
+      CoreOk c k (m .core) × (m .core .contents .minted ≡ s .contents .minted) × (m .core .taken ≡ set (s .taken) i true) × (i < length sh) × Spoken k (m .label) (m .val)
   unfolding takes wfMessage held
   takes-keeps sh h i m e lim =
       let (v, f, g, l) = pick-done _ _ _ _ e in
       let b = need-done _ _ _ _ f in
-      subst (λ (y : Moved). CoreOk c k (y .core) × (y .core .contents .minted ≡ s .contents .minted) × (y .core .taken ≡ set (s .taken) i true) × (i < length sh) × (every (heldWord k) (y .val) ≡ true)) (done-inj (b .1))
+      subst (λ (y : Moved). CoreOk c k (y .core) × (y .core .contents .minted ≡ s .contents .minted) × (y .core .taken ≡ set (s .taken) i true) × (i < length sh) × Spoken k (y .label) (y .val)) (done-inj (b .1))
       (lobby-more (record { status = down; chan = 2; val = v }) (both _ _ (g (wfValue k) h) (both _ _ (alt-left _ _ refl) (alt-right _ _ refl))) (set (s .taken) i true) (rw length-set (o .taken)) (at-limits (b .1) lim), refl, refl, l, refl)

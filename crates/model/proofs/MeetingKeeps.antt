@@ -14,11 +14,11 @@ use Rattle.model.specs.Table.{Table, count, scope, term, Term, nil, par,
 use Rattle.model.specs.Side.{Tag, Particle, output, input, Contents, Core, limits}
 use Rattle.model.specs.Unfolding.{unfolds, defined}
 use Rattle.model.specs.Load.{Setting}
-use Rattle.model.specs.WellFormed.{Counts, held, heldWord, wfValue, wfParticle, envAt}
+use Rattle.model.specs.WellFormed.{Counts, held, wfValue, wfParticle, envAt}
 use Rattle.model.specs.Step.{short, Moved, without, withParticles, withContents, silently, meet, meetParticles, meetTerm}
 use Rattle.model.proofs.Tests.{fst, snd, both, alt-left, alt-right, every-append, every-mono, every-two, every-remove, need-done, bind-done, pick-done}
 use Rattle.model.proofs.Growing.{Le, CoreOk, wfPart-mono, wfVal-mono, wfBoxes-mono, core-mono}
-use Rattle.model.proofs.Keeping.{done-inj, roomy-of}
+use Rattle.model.proofs.Keeping.{Spoken, done-inj, roomy-of}
 use Rattle.model.proofs.Items.{clash, shaped-items, matches-wf}
 use Rattle.model.proofs.Checked.{Checked, Sits, s-inp, sits}
 use Rattle.model.proofs.UnfoldingKeeps.{loose, tight, loosen, ContentsFit, grows, unfolds-fit}
@@ -33,7 +33,7 @@ pub record Kept′ (c : Setting) (k : Counts) (s : Core) (m : Moved) : Type 0 wh
   pub ok : (k′ : Counts) → Le k k′ → mine c k′ ≡ m .core .contents .minted → CoreOk c k′ (m .core)
   pub shelf : length (s .shelf) ≤ length (m .core .shelf)
   pub taken : m .core .taken ≡ s .taken
-  pub said : every (heldWord k) (m .val) ≡ true
+  pub said : Spoken k (m .label) (m .val)
 
 pub every-without : (f : Particle → Bool) (again : Bool) (l : List Particle) (i j : ℕ) → every f l ≡ true → every f (without again l i j) ≡ true
 every-without f true l i j e = every-remove f l i e

@@ -12,18 +12,19 @@ use Rattle.calculus.specs.Transitions.{Label, tau, Participants, two}
 use Rattle.model.specs.Basics.{Res, refuse, done}
 use Rattle.model.specs.Side.{State, limits}
 use Rattle.model.specs.Load.{Composition, setting1, setting2, isPipeline}
-use Rattle.model.specs.WellFormed.{ready}
+use Rattle.model.specs.WellFormed.{counts, ready}
 use Rattle.model.specs.Step.{Step, Moved, labelled, Result, settled, local, local2, takes, known, step, answerOf, sideAfter, Label as SLabel}
 use Rattle.model.specs.Process.{Mark, shelf, taker, siteOf, confAs, confOf}
-use Rattle.model.specs.Agreement.{At, Asks, asks-tau, SoundAt, Sound, answerSide}
+use Rattle.model.specs.Agreement.{At, Asks, asks-tau, Says, IsLabelled, SoundAt, Sound, answerSide}
 use Rattle.calculus.proofs.Trees.{Reach}
 use Rattle.model.proofs.Tests.{fst, snd, and-left, and-right, need-done, choose-done}
-use Rattle.model.proofs.Invariant.{settled-done}
+use Rattle.model.proofs.Invariant.{settled-done, one-keeps, two-keeps}
 use Rattle.model.proofs.StateTree.{reach1, tree2}
 use Rattle.model.proofs.ItemMoves.{ids}
 use Rattle.model.proofs.StateMoves.{Goes}
 use Rattle.model.proofs.SideViews.{view1, view2}
 use Rattle.model.proofs.Labels.{SaysInv, says-inv, empty-words, at-take}
+use Rattle.model.proofs.AskedValues.{spoken-says}
 use Rattle.model.proofs.SideSteps.{Done, after, local-done}
 use Rattle.model.proofs.BoxOrder.{orient1, orient2}
 use Rattle.model.proofs.MeetMoves.{meeting}
@@ -81,6 +82,24 @@ module _ (b : Composition) (s : State) (e : ready b s ≡ true) where
       go false p true q = rw (e, p, q, step) (side2 (and-right (eqb (k .side) 2) (isPipeline b) q) k l (eqb-true (k .side) 2 (and-left (eqb (k .side) 2) (isPipeline b) q)) (settled (local2 (setting2 b) (known s) (s .one .core .shelf) (s .two .core) k)) refl (rw (e, p, q, step) at sy))
       go false p false q = absurd (rw (e, p, q, step) at sy)
 
+  -- an answer that is no refusal has a label
+  told1 : (k : Step) (r : Res Moved) → settled (local (setting1 b) (known s) (s .one .core) k) ≡ r → IsLabelled (answerOf 1 r) → (l : Label) × Says (b .wrapper) (answerOf 1 r) l
+  told1 k (refuse n) q y = absurd y
+  told1 k (done m) q y = spoken-says (b .wrapper) 1 (counts s) (m .label) (m .val) (one-keeps b s e k m q .said)
+
+  told2 : isPipeline b ≡ true → (k : Step) (r : Res Moved) → settled (local2 (setting2 b) (known s) (s .one .core .shelf) (s .two .core) k) ≡ r → IsLabelled (answerOf 2 r) → (l : Label) × Says (b .wrapper) (answerOf 2 r) l
+  told2 p k (refuse n) q y = absurd y
+  told2 p k (done m) q y = spoken-says (b .wrapper) 2 (counts s) (m .label) (m .val) (two-keeps b s e p k m q .2)
+
+  told : (k : Step) → IsLabelled (step b s k .answer) → (l : Label) × Says (b .wrapper) (step b s k .answer) l
+  unfolding step
+  told k y = go (eqb (k .side) 1) refl (eqb (k .side) 2 && isPipeline b) refl
+    where
+      go : (t : Bool) → eqb (k .side) 1 ≡ t → (u : Bool) → eqb (k .side) 2 && isPipeline b ≡ u → (l : Label) × Says (b .wrapper) (step b s k .answer) l
+      go true p u q = rw (e, p, step) (told1 k (settled (local (setting1 b) (known s) (s .one .core) k)) refl (rw (e, p, step) at y))
+      go false p true q = rw (e, p, q, step) (told2 (and-right (eqb (k .side) 2) (isPipeline b) q) k (settled (local2 (setting2 b) (known s) (s .one .core .shelf) (s .two .core) k)) refl (rw (e, p, q, step) at y))
+      go false p false q = absurd (rw (e, p, q, step) at y)
+
 pub sound : Sound
 unfolding Sound SoundAt
-sound b s k l e sy = let r = sound-res b s e k l (says-inv sy) in (r .0, r .1, r .2, r .3, r .4 .R, r .4 .step, r .4 .to)
+sound b s k e = (told b s e k, λ l sy. (let r = sound-res b s e k l (says-inv sy) in (r .0, r .1, r .2, r .3, r .4 .R, r .4 .step, r .4 .to)))

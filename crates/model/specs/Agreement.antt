@@ -84,12 +84,21 @@ LoadAgrees = (b : Composition) (s : State) → load b ≡ ok s →
     × (b .wrapper ≡ 2 → plainly (process (confOf b s)) ≋ W2 tt (handler (b .table1)) (handler (b .table2)))
 
 -- SOUND: a label is given only where the calculus has that transition at that place, and the next state is where it leads
+
+-- an answer that is no refusal
+abbrev pub IsLabelled : Answer → Type 0
+IsLabelled (labelled l n v) = Unit {0}
+IsLabelled (refusal k n) = ⊥
+
 unfoldable pub SoundAt : Composition → State → Step → Label → Type 0
 SoundAt b s k l = (w : Participants Mark) × At k w × Asks k l × (answerSide (step b s k .answer) ≡ k .side)
     × (R : Proc Mark []) × Trans (knownOf s) (process (confOf b s)) l w R × (plainly R ≋ plainly (process (confOf b (step b s k .after))))
 
+-- every answer that is no refusal has a label of the calculus; and each such label is of a transition
 unfoldable pub Sound : Type 0
-Sound = (b : Composition) (s : State) (k : Step) (l : Label) → ready b s ≡ true → Says (b .wrapper) (step b s k .answer) l → SoundAt b s k l
+Sound = (b : Composition) (s : State) (k : Step) → ready b s ≡ true
+    → (IsLabelled (step b s k .answer) → (l : Label) × Says (b .wrapper) (step b s k .answer) l)
+    × ((l : Label) → Says (b .wrapper) (step b s k .answer) l → SoundAt b s k l)
 
 -- WHAT EXCUSES THE REFUSAL OF A LEGAL TRANSITION, by document 01's numbers and not by what `step` answers
 

@@ -1,8 +1,9 @@
 -- What follows from the agreement: the states of the bench are pure, a run is a sequence of published transitions, and listing A is one.
+-- What follows from independence: a run's answers to side 1.
 use mathlib.Core.Path.{_≡_}
 use mathlib.Core.Logic.{_⊎_, inl, inr}
 use mathlib.Core.List.{List, [], _∷_}
-use mathlib.Core.Bool.{true}
+use mathlib.Core.Bool.{true, cond}
 use Prim.Native.Nat.{ℕ}
 use Rattle.calculus.specs.Syntax.{Val, nm, tup, vnil, vcons, var, parent, plain, replicated, Proc, out, inp}
 use Rattle.calculus.specs.Congruence.{_≋_}
@@ -14,8 +15,8 @@ use Rattle.calculus.specs.Tree.{process}
 use Rattle.model.specs.Side.{State}
 use Rattle.model.specs.Load.{Composition, load, ok}
 use Rattle.model.specs.WellFormed.{ready}
-use Rattle.model.specs.Step.{Step, step}
-use Rattle.model.specs.Runs.{afterAll}
+use Rattle.model.specs.Step.{Step, Answer, refusal, step}
+use Rattle.model.specs.Runs.{isSide1, side1Steps, answers, afterAll, premise}
 use Rattle.model.specs.Process.{inwards, outwards, Mark, confOf, knownOf}
 use Rattle.model.specs.Agreement.{Says, plainly}
 use Rattle.model.specs.Trials.{copier}
@@ -47,14 +48,31 @@ pub data Path (b : Composition) : State → List Label → State → Type 0 wher
   stop : {s : State} → Path b s [] s
   go : {s s' s'' : State} {l : Label} {ls : List Label} → Published (knownOf s) (plainly (process (confOf b s))) l (plainly (process (confOf b s'))) → Path b s' ls s'' → Path b s (l ∷ ls) s''
 
--- each of some steps, from s on, is answered with the label of a list
+-- the labels that some steps, from s on, are answered with; a refusal has none
 pub data SaysAll (b : Composition) : State → List Step → List Label → Type 0 where
   says-none : {s : State} → SaysAll b s [] []
   says-more : {s : State} {k : Step} {ks : List Step} {l : Label} {ls : List Label} → Says (b .wrapper) (step b s k .answer) l → SaysAll b (step b s k .after) ks ls → SaysAll b s (k ∷ ks) (l ∷ ls)
+  says-refused : {s : State} {k : Step} {ks : List Step} {n side : ℕ} {ls : List Label} → step b s k .answer ≡ refusal n side → SaysAll b (step b s k .after) ks ls → SaysAll b s (k ∷ ks) ls
 
--- a run is a sequence of published transitions
+-- every run, refused steps among it, has its labels; and they are a sequence of published transitions to the state after it
 unfoldable pub RunsAreTransitions : Type 0
-RunsAreTransitions = (b : Composition) (s : State) (ks : List Step) (ls : List Label) → ready b s ≡ true → SaysAll b s ks ls → Path b s ls (afterAll b s ks)
+RunsAreTransitions = (b : Composition) (s : State) (ks : List Step) → ready b s ≡ true
+    → ((ls : List Label) × SaysAll b s ks ls) × ((ls : List Label) → SaysAll b s ks ls → Path b s ls (afterAll b s ks))
+
+-- of a run's answers those to the steps with side 1
+abbrev pub answersTo1 : List Step → List Answer → List Answer
+answersTo1 [] l = []
+answersTo1 (x ∷ xs) [] = []
+answersTo1 (x ∷ xs) (a ∷ l) = cond (isSide1 x) (a ∷ answersTo1 xs l) (answersTo1 xs l)
+
+-- in two runs as `Independence` has them, side 1's answers are equal among those that the runs give
+unfoldable pub AnswersIndependent : Type 0
+AnswersIndependent =
+    (b b′ : Composition) → b .wrapper ≡ 2 → b′ .wrapper ≡ 2 → b .table1 ≡ b′ .table1 →
+    (s s′ : State) → load b ≡ ok s → load b′ ≡ ok s′ →
+    (xs xs′ : List Step) → side1Steps xs ≡ side1Steps xs′ →
+    premise b [] s xs ≡ true → premise b′ [] s′ xs′ ≡ true →
+    answersTo1 xs (answers b s xs) ≡ answersTo1 xs′ (answers b′ s′ xs′)
 
 -- LISTING A
 

@@ -32,6 +32,11 @@ sees b s (x ∷ xs) =
     let rest = sees b (r .after) xs in
     cond (isSide1 x) (record { answer = r .answer; after = r .after .one } ∷ rest) rest
 
+-- the answers of a run from s
+unfoldable pub answers : Composition → State → List Step → List Answer
+answers b s [] = []
+answers b s (x ∷ xs) = let r = step b s x in r .answer ∷ answers b (r .after) xs
+
 -- the state after the steps of a list
 unfoldable pub afterAll : Composition → State → List Step → State
 afterAll b s [] = s

@@ -18,7 +18,8 @@ use Rattle.model.specs.Step.{Step, step}
 use Rattle.model.proofs.Invariant.{keeps}
 use Rattle.model.proofs.Starts.{starts}
 use Rattle.model.specs.Answer.{Given, given}
-use Rattle.format.specs.Words.{before, stepsOf, stepAt, saidWords, givenWords, answerWords, allAnswerWords, answers, tooShort, runFrom, runSteps, runOf}
+use Rattle.model.specs.Runs.{answers}
+use Rattle.format.specs.Words.{before, stepsOf, stepAt, saidWords, givenWords, answerWords, allAnswerWords, tooShort, runFrom, runSteps, runOf}
 use Rattle.format.specs.Words.{Ran as FRan}
 use Rattle.format.proofs.AnswerWords.{answers-many}
 use Rattle.format.proofs.StepWords.{steps-next, steps-short, steps-cut, steps-end, Next, next-step}

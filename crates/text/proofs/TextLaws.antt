@@ -13,7 +13,8 @@ use Rattle.model.specs.Basics.{choose}
 use Rattle.model.specs.Side.{State}
 use Rattle.model.specs.Load.{Composition, Refused, Loaded, refused, ok, load}
 use Rattle.model.specs.Step.{Step, Answer}
-use Rattle.format.specs.Words.{allAnswerWords, answers, tooShort, runFrom, runSteps, runOf, onto}
+use Rattle.model.specs.Runs.{answers}
+use Rattle.format.specs.Words.{allAnswerWords, tooShort, runFrom, runSteps, runOf, onto}
 use Rattle.format.specs.Words.{Ran as FRan}
 use Rattle.format.specs.Lines.{newline, Input, fault, whole}
 use Rattle.format.specs.Lines as format
