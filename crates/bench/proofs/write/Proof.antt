@@ -4,7 +4,6 @@ use lib.Seq.{length-take-le}
 use borrow.Author.Needs.{needs}
 use Rattle.bench.proofs.write.Statement.{statement}
 use Rattle.bench.proofs.write.Tie as tie
-use Rattle.io.proofs.write_all.Reads as write-all-reads
 
 enum-known-w : tie.Need-enum-known-w
 enum-known-w c = search needs

@@ -4,30 +4,22 @@ use Rattle.dispatch.proofs.StepLaws.{step-by, enter-on, enter-i, enter-
 use borrow.Author.Needs.{needs}
 use Rattle.dispatch.proofs.entering.Statement.{statement}
 use Rattle.dispatch.proofs.entering.Tie as tie
-use Rattle.dispatch.proofs.refusal.Reads as refusal-reads
-use Rattle.steps.proofs.enter.Reads as enter-reads
 
--- src/dispatch.rt:92:13
 enter-requires : tie.Need-enter-requires
 enter-requires c κs = search needs
 
--- src/dispatch.rt:92:13
 returns : tie.Need-returns
 returns c = let a = c .before .before .before .before .args in let C = viewCore (a .o) in let K = knownBy (a .left1) (a .left2) in λ s n. step-by _ _ _ _ (enter-on s K C n (a .i) (a .j) (a .words .now) (c .before .before .if1 .taken) (c .before .if2 .taken)) (c .enter .ensures)
 
--- src/dispatch.rt:94:9
 refusal-requires : tie.Need-refusal-requires
 refusal-requires c κs = search needs
 
--- src/dispatch.rt:94:9
 returns-2 : tie.Need-returns-2
 returns-2 c = let a = c .before .before .before .before .args in let C = viewCore (a .o) in let K = knownBy (a .left1) (a .left2) in λ s n. c .refusal .ensures _ (enter-j s K C n (a .i) (a .j) (a .words .now) (c .before .before .if1 .taken) (c .before .if2 .left))
 
--- src/dispatch.rt:96:5
 refusal-requires-2 : tie.Need-refusal-requires-2
 refusal-requires-2 c κs = search needs
 
--- src/dispatch.rt:86:1
 returns-3 : tie.Need-returns-3
 returns-3 c = let a = c .before .before .before .args in let C = viewCore (a .o) in let K = knownBy (a .left1) (a .left2) in λ s n. c .refusal2 .ensures _ (enter-i s K C n (a .i) (a .j) (a .words .now) (c .before .if1 .left))
 

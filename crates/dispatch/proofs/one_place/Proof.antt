@@ -3,49 +3,34 @@ use Rattle.dispatch.proofs.StepLaws.{step-by, one-down, one-up, one-pas
 use borrow.Author.Needs.{needs}
 use Rattle.dispatch.proofs.one_place.Statement.{statement}
 use Rattle.dispatch.proofs.one_place.Tie as tie
-use Rattle.dispatch.proofs.refusal.Reads as refusal-reads
-use Rattle.steps.proofs.down.Reads as down-reads
-use Rattle.steps.proofs.leave.Reads as leave-reads
-use Rattle.steps.proofs.pass.Reads as pass-reads
-use Rattle.steps.proofs.up.Reads as up-reads
 
--- src/dispatch.rt:54:9
 down-requires : tie.Need-down-requires
 down-requires c κs = search needs
 
--- src/dispatch.rt:54:9
 returns : tie.Need-returns
 returns c = let a = c .before .before .args in let C = viewCore (a .o) in λ s e. step-by _ _ _ _ (one-down s C (a .kind) (a .i) (c .before .if1 .taken)) (c .down .ensures)
 
--- src/dispatch.rt:57:9
 up-requires : tie.Need-up-requires
 up-requires c κs = search needs
 
--- src/dispatch.rt:57:9
 returns-2 : tie.Need-returns-2
 returns-2 c = let a = c .before .before .before .args in let C = viewCore (a .o) in λ s e. step-by _ _ _ _ (one-up s C (a .kind) (a .i) (c .before .if2 .taken)) (c .up .ensures s e)
 
--- src/dispatch.rt:60:9
 pass-requires : tie.Need-pass-requires
 pass-requires c κs = search needs
 
--- src/dispatch.rt:60:9
 returns-3 : tie.Need-returns-3
 returns-3 c = let a = c .before .before .before .before .args in let C = viewCore (a .o) in λ s e. step-by _ _ _ _ (one-pass s C (a .kind) (a .i) (c .before .if3 .taken)) (c .pass .ensures)
 
--- src/dispatch.rt:63:9
 leave-requires : tie.Need-leave-requires
 leave-requires c κs = search needs
 
--- src/dispatch.rt:63:9
 returns-4 : tie.Need-returns-4
 returns-4 c = let a = c .before .before .before .before .before .args in let C = viewCore (a .o) in λ s e. step-by _ _ _ _ (one-leave s C (a .kind) (a .i) (c .before .if4 .taken)) (c .leave .ensures)
 
--- src/dispatch.rt:65:5
 refusal-requires : tie.Need-refusal-requires
 refusal-requires c κs = search needs
 
--- src/dispatch.rt:49:1
 returns-5 : tie.Need-returns-5
 returns-5 c = let a = c .before .before .before .before .before .args in let C = viewCore (a .o) in λ s e. c .refusal .ensures _ (one-none s C (a .kind) (a .i) (c .before .before .before .before .if1 .left) (c .before .before .before .if2 .left) (c .before .before .if3 .left) (c .before .if4 .left))
 

@@ -3,13 +3,10 @@ use Rattle.steps.proofs.Held.{refused-is}
 use borrow.Author.Needs.{needs}
 use Rattle.dispatch.proofs.refusal.Statement.{statement}
 use Rattle.dispatch.proofs.refusal.Tie as tie
-use Rattle.values.proofs.Value.none.Reads as none-reads
 
--- src/dispatch.rt:33:9
 none-requires : tie.Need-none-requires
 none-requires c κs = search needs
 
--- src/dispatch.rt:30:1
 returns : tie.Need-returns
 returns c = λ m e. refused-is m (c .before .args .o) (c .before .args .n) _ e (record { says = refl; value = c .none .ensures; side = refl })
 

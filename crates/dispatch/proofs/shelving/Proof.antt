@@ -3,11 +3,9 @@ use Rattle.dispatch.proofs.StepLaws.{and-on}
 use Rattle.dispatch.proofs.shelving.Statement.{statement}
 use Rattle.dispatch.proofs.shelving.Tie as tie
 
--- src/dispatch.rt:42:1
 returns : tie.Need-returns
 returns c = and-on _ _ (c .if1 .taken)
 
--- src/dispatch.rt:42:1
 returns-2 : tie.Need-returns-2
 returns-2 c = no-left _ _ (c .if1 .left)
 

@@ -5,44 +5,31 @@ use Rattle.dispatch.proofs.StepLaws.{own-sane, step-by, two-descend, tw
 use borrow.Author.Needs.{needs}
 use Rattle.dispatch.proofs.two_places.Statement.{statement}
 use Rattle.dispatch.proofs.two_places.Tie as tie
-use Rattle.dispatch.proofs.one_place.Reads as one-place-reads
-use Rattle.dispatch.proofs.refusal.Reads as refusal-reads
-use Rattle.dispatch.proofs.shelving.Reads as shelving-reads
-use Rattle.steps.proofs.descend.Reads as descend-reads
 
--- src/dispatch.rt:74:9
 descend-requires : tie.Need-descend-requires
 descend-requires c κs = let a = c .before .before .before .args in let C = viewCore (a .o) in let S = settingOf (a .side) (a .pipeline) (a .nodes .now) (a .pool .now) in own-sane S (a .o) (c .before .before .before .pre)
 
--- src/dispatch.rt:74:9
 returns : tie.Need-returns
 returns c = let a = c .before .before .before .before .args in let C = viewCore (a .o) in let S = settingOf (a .side) (a .pipeline) (a .nodes .now) (a .pool .now) in step-by _ _ _ _ (two-descend S C (a .kind) (a .i) (a .j) (c .before .if1 .taken)) (c .descend .ensures)
 
--- src/dispatch.rt:77:9
 meet-requires : tie.Need-meet-requires
 meet-requires c κs = let a = c .before .before .before .before .args in let C = viewCore (a .o) in let S = settingOf (a .side) (a .pipeline) (a .nodes .now) (a .pool .now) in let p = c .before .before .before .before .pre in record { passes = p .passes; side = p .side; arrays = p .arrays; setting = S; counts = p .counts; table = refl; ok = p .formed }
 
--- src/dispatch.rt:77:9
 returns-2 : tie.Need-returns-2
 returns-2 c = let a = c .before .before .before .before .before .args in let C = viewCore (a .o) in let S = settingOf (a .side) (a .pipeline) (a .nodes .now) (a .pool .now) in step-by _ _ _ _ (two-meet S C (a .kind) (a .i) (a .j) (c .before .if2 .taken)) (c .meet .ensures S refl refl)
 
--- src/dispatch.rt:80:26
 shelving-requires : tie.Need-shelving-requires
 shelving-requires c κs = search needs
 
--- src/dispatch.rt:80:9
 one-place-requires : tie.Need-one-place-requires
 one-place-requires c κs = let a = c .before .before .before .before .before .before .args in let C = viewCore (a .o) in let S = settingOf (a .side) (a .pipeline) (a .nodes .now) (a .pool .now) in own-sane S (a .o) (c .before .before .before .before .before .before .pre)
 
--- src/dispatch.rt:80:9
 returns-3 : tie.Need-returns-3
 returns-3 c = let a = c .before .before .before .before .before .before .before .args in let C = viewCore (a .o) in let S = settingOf (a .side) (a .pipeline) (a .nodes .now) (a .pool .now) in step-by _ _ _ _ (two-one S C (a .kind) (a .i) (a .j) (c .before .before .before .before .if1 .left) (c .before .before .before .if2 .left) (c .before .before .if3 .taken)) (c .one-place .ensures S (c .before .shelving .ensures))
 
--- src/dispatch.rt:82:5
 refusal-requires : tie.Need-refusal-requires
 refusal-requires c κs = search needs
 
--- src/dispatch.rt:69:1
 returns-4 : tie.Need-returns-4
 returns-4 c = let a = c .before .before .before .before .before .before .args in let C = viewCore (a .o) in let S = settingOf (a .side) (a .pipeline) (a .nodes .now) (a .pool .now) in c .refusal .ensures _ (two-bad S C (a .kind) (a .i) (a .j) (c .before .before .before .if1 .left) (c .before .before .if2 .left) (c .before .if3 .left))
 

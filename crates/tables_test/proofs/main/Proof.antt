@@ -5,9 +5,6 @@ use mathlib.Core.Path.{_≡_}
 use borrow.Author.Needs.{needs}
 use Rattle.tables_test.proofs.main.Statement.{statement}
 use Rattle.tables_test.proofs.main.Tie as tie
-use Rattle.io.proofs.large_buffer.Reads as large-buffer-reads
-use Rattle.io.proofs.read_full.Reads as read-full-reads
-use Rattle.tables_test.proofs.step.Reads as step-reads
 
 abbrev Inv-loop : tie.InvT-loop
 Inv-loop input n nodes₀ pool₀ r₀ i₀ nodes pool r i = (i ≤ n) × (n ≤ length input) × (length nodes ≡ 1300) × (length pool ≡ 1100)

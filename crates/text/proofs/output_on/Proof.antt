@@ -3,75 +3,55 @@ use Rattle.text.proofs.TextLaws.{fault-output, whole-read, given-whole,
 use borrow.Author.Needs.{needs}
 use Rattle.text.proofs.output_on.Statement.{statement}
 use Rattle.text.proofs.output_on.Tie as tie
-use Rattle.reading.proofs.read.Reads as read-reads
-use Rattle.text.proofs.run_output.Reads as run-output-reads
-use Rattle.writing.proofs.fault.Reads as fault-reads
 
--- src/lib.rt:54:9
 read-requires : tie.Need-read-requires
 read-requires c κs = search needs
 
--- src/lib.rt:63:24
 enum-known-r : tie.Need-enum-known-r
 enum-known-r c = search needs
 
--- src/lib.rt:63:30
 fault-requires : tie.Need-fault-requires
 fault-requires c κs = search needs
 
--- src/lib.rt:64:24
 enum-known-r-2 : tie.Need-enum-known-r-2
 enum-known-r-2 c = search needs
 
--- src/lib.rt:72:17
 array-share-prefix-nodes1 : tie.Need-array-share-prefix-nodes1
 array-share-prefix-nodes1 c = let w = whole-read (c .before .r2 .given .0 .0) (c .before .before .before .read .ensures) (c .before .r2 .given .1) in filled-within (w .holds .nodes1)
 
--- src/lib.rt:72:17
 slice-aggregate-run-output : tie.Need-slice-aggregate-run-output
 slice-aggregate-run-output c = let w = whole-read (c .before .before .r2 .given .0 .0) (c .before .before .before .before .read .ensures) (c .before .before .r2 .given .1) in filled-count (w .holds .nodes1)
 
--- src/lib.rt:73:17
 array-share-prefix-pool1 : tie.Need-array-share-prefix-pool1
 array-share-prefix-pool1 c = let w = whole-read (c .before .before .r2 .given .0 .0) (c .before .before .before .before .read .ensures) (c .before .before .r2 .given .1) in filled-within (w .holds .pool1)
 
--- src/lib.rt:73:17
 slice-aggregate-run-output-2 : tie.Need-slice-aggregate-run-output-2
 slice-aggregate-run-output-2 c = let w = whole-read (c .before .before .before .r2 .given .0 .0) (c .before .before .before .before .before .read .ensures) (c .before .before .before .r2 .given .1) in filled-count (w .holds .pool1)
 
--- src/lib.rt:74:17
 array-share-prefix-nodes2 : tie.Need-array-share-prefix-nodes2
 array-share-prefix-nodes2 c = let w = whole-read (c .before .before .before .r2 .given .0 .0) (c .before .before .before .before .before .read .ensures) (c .before .before .before .r2 .given .1) in filled-within (w .holds .nodes2)
 
--- src/lib.rt:74:17
 slice-aggregate-run-output-3 : tie.Need-slice-aggregate-run-output-3
 slice-aggregate-run-output-3 c = let w = whole-read (c .before .before .before .before .r2 .given .0 .0) (c .before .before .before .before .before .before .read .ensures) (c .before .before .before .before .r2 .given .1) in filled-count (w .holds .nodes2)
 
--- src/lib.rt:75:17
 array-share-prefix-pool2 : tie.Need-array-share-prefix-pool2
 array-share-prefix-pool2 c = let w = whole-read (c .before .before .before .before .r2 .given .0 .0) (c .before .before .before .before .before .before .read .ensures) (c .before .before .before .before .r2 .given .1) in filled-within (w .holds .pool2)
 
--- src/lib.rt:75:17
 slice-aggregate-run-output-4 : tie.Need-slice-aggregate-run-output-4
 slice-aggregate-run-output-4 c = let w = whole-read (c .before .before .before .before .before .r2 .given .0 .0) (c .before .before .before .before .before .before .before .read .ensures) (c .before .before .before .before .before .r2 .given .1) in filled-count (w .holds .pool2)
 
--- src/lib.rt:76:17
 array-share-prefix-steps : tie.Need-array-share-prefix-steps
 array-share-prefix-steps c = let w = whole-read (c .before .before .before .before .before .r2 .given .0 .0) (c .before .before .before .before .before .before .before .read .ensures) (c .before .before .before .before .before .r2 .given .1) in filled-within (w .holds .words)
 
--- src/lib.rt:76:17
 slice-aggregate-run-output-5 : tie.Need-slice-aggregate-run-output-5
 slice-aggregate-run-output-5 c = let w = whole-read (c .before .before .before .before .before .before .r2 .given .0 .0) (c .before .before .before .before .before .before .before .before .read .ensures) (c .before .before .before .before .before .before .r2 .given .1) in filled-count (w .holds .words)
 
--- src/lib.rt:70:13
 run-output-requires : tie.Need-run-output-requires
 run-output-requires c κs = search needs
 
--- src/lib.rt:46:1
 returns : tie.Need-returns
 returns c = record { few = c .fault .ensures .0; full = c .fault .ensures .1 .0; text = c .fault .ensures .1 .1 ∙ fault-output _ _ (c .before .before .before .before .before .read .ensures) (c .before .before .before .r .given .1) }
 
--- src/lib.rt:46:1
 returns-2 : tie.Need-returns-2
 returns-2 c = let w = whole-read (c .before .before .before .before .before .before .before .before .r2 .given .0 .0) (c .before .before .before .before .before .before .before .before .before .before .read .ensures) (c .before .before .before .before .before .before .before .before .r2 .given .1) in record { few = c .run-output .ensures .0; full = c .run-output .ensures .1; text = c .run-output .ensures .2 (w .input) (given-whole (w .input) _ _ (w .holds)) ∙ whole-output _ (w .input) (w .is) }
 

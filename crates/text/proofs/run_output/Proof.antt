@@ -5,64 +5,46 @@ use Rattle.text.proofs.TextLaws.{run-given, output-done, output-unloade
 use borrow.Author.Needs.{needs}
 use Rattle.text.proofs.run_output.Statement.{statement}
 use Rattle.text.proofs.run_output.Tie as tie
-use Rattle.running.proofs.run.Reads as run-reads
-use Rattle.writing.proofs.answered.Reads as answered-reads
-use Rattle.writing.proofs.fault.Reads as fault-reads
-use Rattle.writing.proofs.refused.Reads as refused-reads
 
--- src/lib.rt:36:65
 slice-aggregate-run : tie.Need-slice-aggregate-run
 slice-aggregate-run c = search needs
 
--- src/lib.rt:36:9
 run-requires : tie.Need-run-requires
 run-requires c κs = search needs
 
--- src/lib.rt:38:19
 enum-known-ran : tie.Need-enum-known-ran
 enum-known-ran c = search needs
 
--- src/lib.rt:38:25
 answered-requires : tie.Need-answered-requires
 answered-requires c κs = search needs
 
--- src/lib.rt:39:22
 enum-known-ran-2 : tie.Need-enum-known-ran-2
 enum-known-ran-2 c = search needs
 
--- src/lib.rt:39:45
 refused-requires : tie.Need-refused-requires
 refused-requires c κs = search needs
 
--- src/lib.rt:40:33
 enum-told : tie.Need-enum-told
 enum-told c = search needs
 
--- src/lib.rt:40:27
 fault-requires : tie.Need-fault-requires
 fault-requires c κs = search needs
 
--- src/lib.rt:41:32
 enum-told-2 : tie.Need-enum-told-2
 enum-told-2 c = search needs
 
--- src/lib.rt:41:26
 fault-requires-2 : tie.Need-fault-requires-2
 fault-requires-2 c κs = search needs
 
--- src/lib.rt:24:1
 returns : tie.Need-returns
 returns c = (c .answered .ensures .0, c .answered .ensures .1 .0, λ i g. output-done i _ _ _ _ (run-given g _ (length-replicate {A = ℕ} 20480 0)) _ _ (c .before .before .before .before .before .before .before .run .ensures) (c .before .before .before .before .ran .given .1) (g .few) (c .answered .ensures .1 .1))
 
--- src/lib.rt:24:1
 returns-2 : tie.Need-returns-2
 returns-2 c = (c .refused .ensures .0, c .refused .ensures .1 .0, λ i g. output-unloaded i _ _ _ _ (run-given g _ (length-replicate {A = ℕ} 20480 0)) _ _ _ _ (c .before .before .before .before .before .before .run .ensures) (c .before .before .before .ran2 .given .1) (c .refused .ensures .1 .1))
 
--- src/lib.rt:24:1
 returns-3 : tie.Need-returns-3
 returns-3 c = (c .fault .ensures .0, c .fault .ensures .1 .0, λ i g. output-always i _ _ _ _ (run-given g _ (length-replicate {A = ℕ} 20480 0)) _ (c .before .before .before .before .before .run .ensures) (inl (c .before .before .enum-told .given .1)))
 
--- src/lib.rt:24:1
 returns-4 : tie.Need-returns-4
 returns-4 c = (c .fault2 .ensures .0, c .fault2 .ensures .1 .0, λ i g. output-always i _ _ _ _ (run-given g _ (length-replicate {A = ℕ} 20480 0)) _ (c .before .before .before .before .before .run .ensures) (inr (c .before .before .enum-told2 .given .1)))
 

@@ -3,34 +3,25 @@ use native.Mathlib.Omega.{arith}
 use borrow.Author.Needs.{needs}
 use Rattle.text.proofs.text.Statement.{statement}
 use Rattle.text.proofs.text.Tie as tie
-use Rattle.bytes.proofs.copy.Reads as copy-reads
-use Rattle.text.proofs.output_on.Reads as output-on-reads
 
--- src/lib.rt:88:9
 output-on-requires : tie.Need-output-on-requires
 output-on-requires c κs = search needs
 
--- src/lib.rt:90:9
 returns : tie.Need-returns
 returns c = text-short (c .before .output-on .ensures) _ (c .if1 .taken)
 
--- src/lib.rt:92:17
 array-share-prefix-page : tie.Need-array-share-prefix-page
 array-share-prefix-page c = page-within (c .before .output-on .ensures)
 
--- src/lib.rt:92:17
 slice-aggregate-copy : tie.Need-slice-aggregate-copy
 slice-aggregate-copy c = page-count (c .before .before .output-on .ensures)
 
--- src/lib.rt:92:5
 copy-requires : tie.Need-copy-requires
 copy-requires c κs = omega (arith, page-count (c .before .before .before .output-on .ensures), c .before .before .if1 .left)
 
--- src/lib.rt:84:1
 same-length : tie.Need-same-length
 same-length c = search needs
 
--- src/lib.rt:84:1
 returns-2 : tie.Need-returns-2
 returns-2 c = text-written (c .before .before .before .before .before .before .output-on .ensures) _ (c .before .before .before .before .before .if1 .left) _ (c .before .before .copy .ensures .1)
 

@@ -11,7 +11,6 @@ use Rattle.values.proofs.Names.{once-other, once-name, once-all, twice}
 use borrow.Author.Needs.{needs}
 use Rattle.values.proofs.distinct_in.Statement.{statement}
 use Rattle.values.proofs.distinct_in.Tie as tie
-use Rattle.values.proofs.has_word.Reads as has-word-reads
 
 abbrev Inv-loop : tie.InvT-loop
 Inv-loop s i₀ i = (i ≤ length s) × (distinct (binders (take i s)) ≡ true)

@@ -5,19 +5,15 @@ use borrow.Author.Needs.{needs}
 use Rattle.interpreter.proofs.loading.at_side.Statement.{statement}
 use Rattle.interpreter.proofs.loading.at_side.Tie as tie
 
--- src/loading.rt:58:28
 enum-told : tie.Need-enum-told
 enum-told c = search needs
 
--- src/loading.rt:59:26
 enum-known-v : tie.Need-enum-known-v
 enum-known-v c = search needs
 
--- src/loading.rt:54:1
 returns : tie.Need-returns
 returns c = search needs
 
--- src/loading.rt:54:1
 returns-2 : tie.Need-returns-2
 returns-2 c = sym (ap (λ (y : Verdict). atSide y (c .before .before .before .args .side)) (c .before .v .given .1))
 

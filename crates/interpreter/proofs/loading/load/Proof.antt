@@ -7,63 +7,46 @@ use Rattle.interpreter.proofs.LoadLaws.{taken, two-sides, refused-sides
 use borrow.Author.Needs.{needs}
 use Rattle.interpreter.proofs.loading.load.Statement.{statement}
 use Rattle.interpreter.proofs.loading.load.Tie as tie
-use Rattle.interpreter.proofs.loading.load_verdict.Reads as load-verdict-reads
-use Rattle.interpreter.proofs.loading.loaded.Reads as loaded-reads
-use Rattle.interpreter.proofs.loading.start_of.Reads as start-of-reads
-use Rattle.sides.proofs.Side.empty.Reads as empty-reads
 
--- src/loading.rt:118:9
 load-verdict-requires : tie.Need-load-verdict-requires
 load-verdict-requires c κs = search needs
 
 enum-told : tie.Need-enum-told
 enum-told c = search needs
 
--- src/loading.rt:120:26
 enum-told-2 : tie.Need-enum-told-2
 enum-told-2 c = search needs
 
--- src/loading.rt:120:26
 empty-requires : tie.Need-empty-requires
 empty-requires c κs = search needs
 
--- src/loading.rt:120:41
 empty-requires-2 : tie.Need-empty-requires-2
 empty-requires-2 c κs = search needs
 
--- src/loading.rt:120:9
 loaded-requires : tie.Need-loaded-requires
 loaded-requires c κs = search needs
 
--- src/loading.rt:120:9
 returns : tie.Need-returns
 returns c = let x = c .before .before .before .before .before .before .before .before .before .before in let b = composition (x .args .wrapper) (x .args .nodes1 .now) (x .args .pool1 .now) (x .args .nodes2 .now) (x .args .pool2 .now) in two-sides (load b) (c .before .before .before .before .before .load-verdict .result) (c .before .before .empty .result) (c .before .empty2 .result) _ _ (c .before .before .before .before .before .load-verdict .ensures) (refused-sides (load b) (c .before .before .before .before .before .load-verdict .result) _ _ _ (c .before .before .before .before .before .load-verdict .ensures) (c .before .before .before .enum-told2 .given .1)) (c .before .before .empty .ensures .0) (c .before .empty2 .ensures .0) (c .before .before .empty .ensures .1) (c .before .empty2 .ensures .1) (c .loaded .ensures)
 
--- src/loading.rt:122:9
 start-of-requires : tie.Need-start-of-requires
 start-of-requires c κs = let x = c .before .before .before .before .before .before .before in let b = composition (x .args .wrapper) (x .args .nodes1 .now) (x .args .pool1 .now) (x .args .nodes2 .now) (x .args .pool2 .now) in let k = taken b (sym (c .before .before .load-verdict .ensures) ∙ c .enum-told .given .1) in k .one
 
--- src/loading.rt:124:41
 start-of-requires-2 : tie.Need-start-of-requires-2
 start-of-requires-2 c κs = let x = c .before .before .before .before .before .before .before .before .before in let b = composition (x .args .wrapper) (x .args .nodes1 .now) (x .args .pool1 .now) (x .args .nodes2 .now) (x .args .pool2 .now) in let k = taken b (sym (c .before .before .before .before .load-verdict .ensures) ∙ c .before .before .enum-told .given .1) in k .pipeline (c .if1 .taken) .0
 
--- src/loading.rt:124:9
 loaded-requires-2 : tie.Need-loaded-requires-2
 loaded-requires-2 c κs = search needs
 
--- src/loading.rt:124:9
 returns-2 : tie.Need-returns-2
 returns-2 c = let x = c .before .before .before .before .before .before .before .before .before .before .before in let b = composition (x .args .wrapper) (x .args .nodes1 .now) (x .args .pool1 .now) (x .args .nodes2 .now) (x .args .pool2 .now) in let k = taken b (sym (c .before .before .before .before .before .before .load-verdict .ensures) ∙ c .before .before .before .before .enum-told .given .1) in two-sides (load b) Ok (c .before .before .before .start-of .result) (c .before .start-of2 .result) _ _ (sym (c .before .before .before .before .enum-told .given .1) ∙ c .before .before .before .before .before .before .load-verdict .ensures) (ap stateLoaded (k .pipeline (c .before .before .if1 .taken) .1)) (c .before .before .before .start-of .ensures .0) (c .before .start-of2 .ensures .0) (c .before .before .before .start-of .ensures .1) (c .before .start-of2 .ensures .1) (c .loaded2 .ensures)
 
--- src/loading.rt:126:30
 empty-requires-3 : tie.Need-empty-requires-3
 empty-requires-3 c κs = search needs
 
--- src/loading.rt:126:5
 loaded-requires-3 : tie.Need-loaded-requires-3
 loaded-requires-3 c κs = search needs
 
--- src/loading.rt:115:1
 returns-3 : tie.Need-returns-3
 returns-3 c = let x = c .before .before .before .before .before .before .before .before .before .before .before in let b = composition (x .args .wrapper) (x .args .nodes1 .now) (x .args .pool1 .now) (x .args .nodes2 .now) (x .args .pool2 .now) in let k = taken b (sym (c .before .before .before .before .before .before .load-verdict .ensures) ∙ c .before .before .before .before .enum-told .given .1) in two-sides (load b) Ok (c .before .before .before .start-of .result) (c .before .empty3 .result) _ _ (sym (c .before .before .before .before .enum-told .given .1) ∙ c .before .before .before .before .before .before .load-verdict .ensures) (ap stateLoaded (k .filter (c .before .before .if1 .left))) (c .before .before .before .start-of .ensures .0) (c .before .empty3 .ensures .0) (c .before .before .before .start-of .ensures .1) (c .before .empty3 .ensures .1) (c .loaded3 .ensures)
 

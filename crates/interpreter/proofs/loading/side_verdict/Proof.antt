@@ -5,9 +5,6 @@ use native.Mathlib.Omega.{arith}
 use borrow.Author.Needs.{needs}
 use Rattle.interpreter.proofs.loading.side_verdict.Statement.{statement}
 use Rattle.interpreter.proofs.loading.side_verdict.Tie as tie
-use Rattle.sides.proofs.Side.contents_within.Reads as contents-within-reads
-use Rattle.scopes.proofs.unfolded.unfolded_at.Reads as unfolded-at-reads
-use Rattle.tables.proofs.checks.check.Reads as check-reads
 
 check-requires : tie.Need-check-requires
 check-requires c κs = search needs

@@ -7,27 +7,21 @@ use borrow.Author.Needs.{needs}
 use Rattle.interpreter.proofs.lost.is_stranded.Statement.{statement}
 use Rattle.interpreter.proofs.lost.is_stranded.Tie as tie
 
--- src/lost.rt:21:25
 enum-told : tie.Need-enum-told
 enum-told c = search needs
 
--- src/lost.rt:22:28
 enum-told-2 : tie.Need-enum-told-2
 enum-told-2 c = search needs
 
--- src/lost.rt:23:28
 enum-told-3 : tie.Need-enum-told-3
 enum-told-3 c = search needs
 
--- src/lost.rt:16:1
 returns : tie.Need-returns
 returns c = not-arrived (viewMessage (c .before .before .args .m)) (ap (λ (y : Status). isArrived (viewStatus y)) (c .enum-told .given .1))
 
--- src/lost.rt:16:1
 returns-2 : tie.Need-returns-2
 returns-2 c = arrived-is (viewMessage (c .before .before .before .args .m)) _ (ap (λ (y : Status). isArrived (viewStatus y)) (c .before .enum-told2 .given .1)) refl
 
--- src/lost.rt:16:1
 returns-3 : tie.Need-returns-3
 returns-3 c = not-arrived (viewMessage (c .before .before .args .m)) (ap (λ (y : Status). isArrived (viewStatus y)) (c .enum-told3 .given .1))
 

@@ -9,7 +9,6 @@ use borrow.Author.Needs.{needs}
 use native.Mathlib.Omega.{arith}
 use Rattle.interpreter.proofs.lost.stranded_in.Statement.{statement}
 use Rattle.interpreter.proofs.lost.stranded_in.Tie as tie
-use Rattle.interpreter.proofs.lost.is_stranded.Reads as is-stranded-reads
 
 abbrev Inv-loop : tie.InvT-loop
 Inv-loop l n k₀ k = (k ≤ n) × (every fresh (take k (l .msgs)) ≡ true)
@@ -17,39 +16,30 @@ Inv-loop l n k₀ k = (k ≤ n) × (every fresh (take k (l .msgs)) ≡ true)
 abbrev μ-loop : tie.MeasureT-loop
 μ-loop l n k₀ k = n - k
 
--- src/lost.rt:34:5
 loop-holds : tie.Need-loop-holds Inv-loop μ-loop
 loop-holds c = (omega arith, refl)
 
--- src/lost.rt:35:17
 mul-m : tie.Need-mul-m Inv-loop μ-loop
 mul-m c = omega arith
 
--- src/lost.rt:35:17
 element-copy-out-m : tie.Need-element-copy-out-m Inv-loop μ-loop
 element-copy-out-m c = omega arith
 
--- src/lost.rt:36:12
 is-stranded-requires : tie.Need-is-stranded-requires Inv-loop μ-loop
 is-stranded-requires c κs = search needs
 
--- src/lost.rt:37:13
 returns : tie.Need-returns Inv-loop μ-loop
 returns c = let l = c .before .before .before .before .before .args .t1 in let full : length (l .msgs) ≡ 16 = search unmap in found-at l (c .before .before .before .before .loop .k) _ (c .before .is-stranded .result) full (c .before .before .before .before .before .pre) (c .before .before .before .loop-test .taken) (c .before .is-stranded .ensures) (c .if1 .taken)
 
--- src/lost.rt:39:13
 add-k : tie.Need-add-k Inv-loop μ-loop
 add-k c = omega arith
 
--- src/lost.rt:34:5
 loop-less : tie.Need-loop-less Inv-loop μ-loop
 loop-less c = omega arith
 
--- src/lost.rt:34:5
 loop-again : tie.Need-loop-again Inv-loop μ-loop
 loop-again c = let l = c .before .before .before .before .before .args .t1 in let full : length (l .msgs) ≡ 16 = search unmap in (omega arith, next-fresh l (c .before .before .before .before .loop .k) _ (c .before .is-stranded .result) (omega arith) (c .before .is-stranded .ensures) (c .if1 .left) (c .before .before .before .before .loop .inv .1))
 
--- src/lost.rt:28:1
 returns-2 : tie.Need-returns-2 Inv-loop μ-loop
 returns-2 c = let l = c .before .before .args .t1 in let full : length (l .msgs) ≡ 16 = search unmap in found-none l (c .before .loop .k) (omega arith) (c .before .loop .inv .1)
 

@@ -14,51 +14,39 @@ Inv-loop out₀ i w at k₀ out k = (k ≤ 20) × (length out ≡ length out₀)
 abbrev μ-loop : tie.MeasureT-loop
 μ-loop out₀ i w at k₀ out k = 20 - k
 
--- src/running.rt:118:14
 mul-at : tie.Need-mul-at Inv-loop μ-loop
 mul-at c = search needs
 
--- src/running.rt:120:5
 loop-holds : tie.Need-loop-holds Inv-loop μ-loop
 loop-holds c = let a = c .args in (omega arith, refl, c .pre, paste-zero (a .out .now) (20 * a .i) (a .t3 .of))
 
--- src/running.rt:121:23
 mul-out : tie.Need-mul-out Inv-loop μ-loop
 mul-out c = search needs
 
--- src/running.rt:121:23
 element-copy-out-out : tie.Need-element-copy-out-out Inv-loop μ-loop
 element-copy-out-out c = search needs
 
--- src/running.rt:121:13
 add-out : tie.Need-add-out Inv-loop μ-loop
 add-out c = search needs
 
--- src/running.rt:121:9
 mul-out-2 : tie.Need-mul-out-2 Inv-loop μ-loop
 mul-out-2 c = search needs
 
--- src/running.rt:121:9
 slice-write-out : tie.Need-slice-write-out Inv-loop μ-loop
 slice-write-out c = search needs
 
--- src/running.rt:122:9
 add-k : tie.Need-add-k Inv-loop μ-loop
 add-k c = search needs
 
--- src/running.rt:120:5
 loop-less : tie.Need-loop-less Inv-loop μ-loop
 loop-less c = search needs
 
--- src/running.rt:120:5
 loop-again : tie.Need-loop-again Inv-loop μ-loop
 loop-again c = let l = c .before .before .loop in let a = c .before .before .before .args in let full : length (a .t3 .of) ≡ 20 = search needs in (search needs, search needs, l .inv .2, copy-next _ (a .out .now) (20 * a .i) (length (a .out .now)) (a .t3 .of) (l .k) refl (l .inv .3) (omega (arith, l .inv .2)) (omega (arith, full)))
 
--- src/running.rt:114:1
 same-length : tie.Need-same-length Inv-loop μ-loop
 same-length c = search needs
 
--- src/running.rt:114:1
 returns : tie.Need-returns Inv-loop μ-loop
 returns c = let l = c .before .loop in let a = c .before .before .args in copy-all (l .out) (a .out .now) (20 * a .i) (a .t3 .of) (l .k) 20 (omega arith) (l .inv .3)
 

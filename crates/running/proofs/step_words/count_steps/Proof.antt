@@ -15,67 +15,51 @@ Inv-loop steps len p₀ n₀ p n = (len ≡ length steps) × (p ≤ len) × (n �
 abbrev μ-loop : tie.MeasureT-loop
 μ-loop steps len p₀ n₀ p n = len - p
 
--- src/running.rt:57:5
 loop-holds : tie.Need-loop-holds Inv-loop μ-loop
 loop-holds c = (refl, omega arith, omega arith, plus-none _)
 
--- src/running.rt:58:12
 sub-if1 : tie.Need-sub-if1 Inv-loop μ-loop
 sub-if1 c = search needs
 
--- src/running.rt:59:13
 returns : tie.Need-returns Inv-loop μ-loop
 returns c = let l = c .before .before .loop in count-short _ (l .p) (l .n) _ (omega arith) (omega arith) (l .inv .3)
 
--- src/running.rt:61:28
 add-wide : tie.Need-add-wide Inv-loop μ-loop
 add-wide c = search needs
 
--- src/running.rt:61:22
 mul-wide : tie.Need-mul-wide Inv-loop μ-loop
 mul-wide c = search needs
 
--- src/running.rt:61:22
 shared-slice-read-wide : tie.Need-shared-slice-read-wide Inv-loop μ-loop
 shared-slice-read-wide c = search needs
 
--- src/running.rt:61:13
 wide-requires : tie.Need-wide-requires Inv-loop μ-loop
 wide-requires c κs = search needs
 
--- src/running.rt:62:19
 add-if2 : tie.Need-add-if2 Inv-loop μ-loop
 add-if2 c = search needs
 
--- src/running.rt:62:12
 sub-if2 : tie.Need-sub-if2 Inv-loop μ-loop
 sub-if2 c = search needs
 
--- src/running.rt:63:13
 returns-2 : tie.Need-returns-2 Inv-loop μ-loop
 returns-2 c = let l = c .before .before .before .before .before .loop in count-cut _ (l .p) (l .n) _ (omega arith) (omega (arith, c .before .wide .ensures)) (l .inv .3)
 
--- src/running.rt:65:13
 add-p : tie.Need-add-p Inv-loop μ-loop
 add-p c = search needs
 
--- src/running.rt:65:13
 add-p-2 : tie.Need-add-p-2 Inv-loop μ-loop
 add-p-2 c = search needs
 
--- src/running.rt:66:9
 add-n : tie.Need-add-n Inv-loop μ-loop
 add-n c = search needs
 
--- src/running.rt:57:5
 loop-less : tie.Need-loop-less Inv-loop μ-loop
 loop-less c = search needs
 
--- src/running.rt:57:5
 loop-again : tie.Need-loop-again Inv-loop μ-loop
 loop-again c = let l = c .before .before .before .before .before .loop in (l .inv .0, search needs, search needs, count-next _ (l .p) (l .n) _ _ (c .before .wide .ensures) (omega arith) (omega (arith, c .before .wide .ensures)) (l .inv .3))
 
--- src/running.rt:51:1
 returns-3 : tie.Need-returns-3 Inv-loop μ-loop
 returns-3 c = let l = c .before .loop in count-end _ (l .p) (l .n) _ (omega arith) (l .inv .3)
 

@@ -8,8 +8,6 @@ use Rattle.scopes.proofs.FreeUseLaws.{unmap, fits-is}
 use borrow.Author.Needs.{needs}
 use Rattle.scopes.proofs.free_uses.defined_at.Statement.{statement}
 use Rattle.scopes.proofs.free_uses.defined_at.Tie as tie
-use Rattle.scopes.proofs.free_uses.clear.Reads as clear-reads
-use Rattle.scopes.proofs.free_uses.tuple_names.Reads as tuple-names-reads
 
 tuple-names-requires : tie.Need-tuple-names-requires
 tuple-names-requires c κs = search needs

@@ -13,8 +13,6 @@ use Rattle.scopes.proofs.FreeUseLaws.{hide-name, hide-other}
 use borrow.Author.Needs.{needs}
 use Rattle.scopes.proofs.free_uses.hide_names.Statement.{statement}
 use Rattle.scopes.proofs.free_uses.hide_names.Tie as tie
-use Rattle.scopes.proofs.free_uses.wide.Reads as wide-reads
-use Rattle.tables.proofs.marks.Marks.put.Reads as put-reads
 
 abbrev Inv-loop : tie.InvT-loop
 Inv-loop s r₀ i₀ r i = (i ≤ length s) × (r .on ≡ hide (r₀ .on) (binders (take i s)))

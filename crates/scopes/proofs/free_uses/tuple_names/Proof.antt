@@ -11,11 +11,6 @@ use borrow.Author.Needs.{needs}
 use native.Mathlib.Omega.{arith}
 use Rattle.scopes.proofs.free_uses.tuple_names.Statement.{statement}
 use Rattle.scopes.proofs.free_uses.tuple_names.Tie as tie
-use Rattle.scopes.proofs.free_uses.wide.Reads as wide-reads
-use Rattle.tables.proofs.marks.Marks.none.Reads as none-reads
-use Rattle.tables.proofs.marks.Marks.put.Reads as put-reads
-use Rattle.values.proofs.Env.count.Reads as count-reads
-use Rattle.values.proofs.Value.tuple.Reads as tuple-reads
 
 abbrev Inv-loop : tie.InvT-loop
 Inv-loop e n r₀ k₀ r k = (n ≤ 8) × (k ≤ n) × (length (r .on) ≡ 64) × ((m : ℕ) → m < 64 → getD (r .on) m false ≡ tupleOf (lookup (take k (e .names)) (map viewValue (take k (e .vals))) m (m ∷ [])))

@@ -5,7 +5,6 @@ use Rattle.scopes.proofs.FreeUseLaws.{use-chan, use-low, use-tag}
 use borrow.Author.Needs.{needs}
 use Rattle.scopes.proofs.free_uses.unmarked.Statement.{statement}
 use Rattle.scopes.proofs.free_uses.unmarked.Tie as tie
-use Rattle.tables.proofs.marks.Marks.has.Reads as has-reads
 
 has-requires : tie.Need-has-requires
 has-requires c κs = search needs

@@ -6,7 +6,6 @@ use Rattle.scopes.proofs.NameLaws.{child-yes, child-no}
 use borrow.Author.Needs.{needs}
 use Rattle.scopes.proofs.names.is_child.Statement.{statement}
 use Rattle.scopes.proofs.names.is_child.Tie as tie
-use Rattle.tables.proofs.nodes.use_of.Reads as use-of-reads
 
 use-of-requires : tie.Need-use-of-requires
 use-of-requires c κs = search needs

@@ -4,8 +4,6 @@ use Rattle.scopes.proofs.NameLaws.{parent-by}
 use borrow.Author.Needs.{needs}
 use Rattle.scopes.proofs.names.is_parent.Statement.{statement}
 use Rattle.scopes.proofs.names.is_parent.Tie as tie
-use Rattle.scopes.proofs.names.any_of_four.Reads as any-of-four-reads
-use Rattle.scopes.proofs.names.is_child.Reads as is-child-reads
 
 is-child-requires : tie.Need-is-child-requires
 is-child-requires c κs = search needs

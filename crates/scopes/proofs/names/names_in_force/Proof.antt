@@ -11,10 +11,6 @@ use borrow.Author.Needs.{needs}
 use native.Mathlib.Omega.{arith}
 use Rattle.scopes.proofs.names.names_in_force.Statement.{statement}
 use Rattle.scopes.proofs.names.names_in_force.Tie as tie
-use Rattle.scopes.proofs.names.Names.none.Reads as none-reads
-use Rattle.scopes.proofs.names.Names.with_bound.Reads as with-bound-reads
-use Rattle.scopes.proofs.names.is_parent.Reads as is-parent-reads
-use Rattle.tables.proofs.nodes.node_at.Reads as node-at-reads
 
 abbrev Inv-loop : tie.InvT-loop
 Inv-loop nodes pool n r₀ cur₀ m₀ r cur m = (m ≤ n) × (lastEight (scope (table nodes pool) n) ≡ lastEight (scopeUp (table nodes pool) m cur (viewNames r))) × (length (viewNames r) ≤ 8)

@@ -6,7 +6,6 @@ use Rattle.scopes.proofs.UnfoldedLaws.{exact}
 use borrow.Author.Needs.{needs}
 use Rattle.scopes.proofs.unfolded.unfolded_at.Statement.{statement}
 use Rattle.scopes.proofs.unfolded.unfolded_at.Tie as tie
-use Rattle.scopes.proofs.unfolded.counts.Reads as counts-reads
 
 counts-requires : tie.Need-counts-requires
 counts-requires c κs = search needs

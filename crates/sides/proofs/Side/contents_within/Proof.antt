@@ -3,9 +3,6 @@ use Rattle.sides.proofs.Lists.{stops, goes-on}
 use borrow.Author.Needs.{needs}
 use Rattle.sides.proofs.Side.contents_within.Statement.{statement}
 use Rattle.sides.proofs.Side.contents_within.Tie as tie
-use Rattle.sides.proofs.Side.boxes_within.Reads as boxes-within-reads
-use Rattle.sides.proofs.Side.minted_within.Reads as minted-within-reads
-use Rattle.sides.proofs.Side.particles_within.Reads as particles-within-reads
 
 particles-within-requires : tie.Need-particles-within-requires
 particles-within-requires c κs = search needs

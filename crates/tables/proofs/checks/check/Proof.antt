@@ -5,12 +5,6 @@ use mathlib.Core.Path.{sym, _∙_}
 use borrow.Author.Needs.{needs}
 use Rattle.tables.proofs.checks.check.Statement.{statement}
 use Rattle.tables.proofs.checks.check.Tie as tie
-use Rattle.tables.proofs.checks.lowest_bad_place.Reads as lowest-bad-place-reads
-use Rattle.tables.proofs.checks.lowest_bad_name.Reads as lowest-bad-name-reads
-use Rattle.tables.proofs.checks.lowest_bad_scope.Reads as lowest-bad-scope-reads
-use Rattle.tables.proofs.checks.lowest_bad_child.Reads as lowest-bad-child-reads
-use Rattle.tables.proofs.checks.lowest_bad_kind.Reads as lowest-bad-kind-reads
-use Rattle.tables.proofs.checks.sizes_ok.Reads as sizes-ok-reads
 
 sizes-ok-requires : tie.Need-sizes-ok-requires
 sizes-ok-requires c κs = search needs

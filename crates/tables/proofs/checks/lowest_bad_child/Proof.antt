@@ -11,9 +11,6 @@ use borrow.Author.Needs.{needs}
 use native.Mathlib.Omega.{arith}
 use Rattle.tables.proofs.checks.lowest_bad_child.Statement.{statement}
 use Rattle.tables.proofs.checks.lowest_bad_child.Tie as tie
-use Rattle.tables.proofs.fields.tree_ok.Reads as tree-ok-reads
-use Rattle.tables.proofs.nodes.node_at.Reads as node-at-reads
-use Rattle.tables.proofs.children.times_child.Reads as times-child-reads
 
 abbrev Inv-loop : tie.InvT-loop
 Inv-loop nodes c t n₀ n = (c ≡ length nodes / 5) × (n ≤ c) × (c ≤ 256) × ((pool : List ℕ) → firstBad (check3 (table nodes pool)) c 0 ≡ firstBad (check3 (table nodes pool)) (c - n) n)

@@ -10,8 +10,6 @@ use Rattle.model.specs.Checks.{firstBad, check2}
 use borrow.Author.Needs.{needs}
 use Rattle.tables.proofs.checks.lowest_bad_kind.Statement.{statement}
 use Rattle.tables.proofs.checks.lowest_bad_kind.Tie as tie
-use Rattle.tables.proofs.fields.kind_ok.Reads as kind-ok-reads
-use Rattle.tables.proofs.nodes.node_at.Reads as node-at-reads
 
 abbrev Inv-loop : tie.InvT-loop
 Inv-loop nodes c n₀ n = (c ≡ length nodes / 5) × (n ≤ c) × ((pool : List ℕ) → firstBad (check2 (table nodes pool)) c 0 ≡ firstBad (check2 (table nodes pool)) (c - n) n)

@@ -10,8 +10,6 @@ use Rattle.model.specs.Checks.{firstBad, check4}
 use borrow.Author.Needs.{needs}
 use Rattle.tables.proofs.checks.lowest_bad_name.Statement.{statement}
 use Rattle.tables.proofs.checks.lowest_bad_name.Tie as tie
-use Rattle.tables.proofs.fields.names_ok.Reads as names-ok-reads
-use Rattle.tables.proofs.nodes.node_at.Reads as node-at-reads
 
 abbrev Inv-loop : tie.InvT-loop
 Inv-loop nodes c n₀ n = (c ≡ length nodes / 5) × (n ≤ c) × ((pool : List ℕ) → firstBad (check4 (table nodes pool)) c 0 ≡ firstBad (check4 (table nodes pool)) (c - n) n)

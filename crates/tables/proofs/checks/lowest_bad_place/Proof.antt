@@ -9,8 +9,6 @@ use Rattle.model.specs.Checks.{firstBad, check5}
 use borrow.Author.Needs.{needs}
 use Rattle.tables.proofs.checks.lowest_bad_place.Statement.{statement}
 use Rattle.tables.proofs.checks.lowest_bad_place.Tie as tie
-use Rattle.tables.proofs.fields.places_ok.Reads as places-ok-reads
-use Rattle.tables.proofs.nodes.node_at.Reads as node-at-reads
 
 abbrev Inv-loop : tie.InvT-loop
 Inv-loop nodes pool c n₀ n = (c ≡ length nodes / 5) × (n ≤ c) × (firstBad (check5 (table nodes pool)) c 0 ≡ firstBad (check5 (table nodes pool)) (c - n) n)

@@ -3,7 +3,6 @@ use Rattle.tables.proofs.ScopeLaws.{scope-at, scope-none}
 use borrow.Author.Needs.{needs}
 use Rattle.tables.proofs.checks.lowest_bad_scope.Statement.{statement}
 use Rattle.tables.proofs.checks.lowest_bad_scope.Tie as tie
-use Rattle.tables.proofs.scope.lowest_over.Reads as lowest-over-reads
 
 lowest-over-requires : tie.Need-lowest-over-requires
 lowest-over-requires c κs = search needs

@@ -6,7 +6,6 @@ use Rattle.tables.proofs.FieldLaws.{counted-more, counted-full, counted
 use borrow.Author.Needs.{needs}
 use Rattle.tables.proofs.children.count_field.Statement.{statement}
 use Rattle.tables.proofs.children.count_field.Tie as tie
-use Rattle.tables.proofs.nodes.use_of.Reads as use-of-reads
 
 use-of-requires : tie.Need-use-of-requires
 use-of-requires c κs = search needs

@@ -3,7 +3,6 @@ use Rattle.tables.proofs.FieldLaws.{node-counted}
 use borrow.Author.Needs.{needs}
 use Rattle.tables.proofs.children.count_node.Statement.{statement}
 use Rattle.tables.proofs.children.count_node.Tie as tie
-use Rattle.tables.proofs.children.count_field.Reads as count-field-reads
 
 count-field-requires : tie.Need-count-field-requires
 count-field-requires c κs = search needs

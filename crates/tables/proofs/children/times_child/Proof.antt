@@ -10,8 +10,6 @@ use borrow.Author.Needs.{needs}
 use native.Mathlib.Omega.{arith}
 use Rattle.tables.proofs.children.times_child.Statement.{statement}
 use Rattle.tables.proofs.children.times_child.Tie as tie
-use Rattle.tables.proofs.children.count_node.Reads as count-node-reads
-use Rattle.tables.proofs.nodes.node_at.Reads as node-at-reads
 
 abbrev Inv-loop : tie.InvT-loop
 Inv-loop nodes c of₀ n₀ of n = (c ≡ length nodes / 5) × (n ≤ c) × (length of ≡ 256) × ((pool : List ℕ) (m : ℕ) → m < 256 → getD of m 0 ≡ min 2 (timesChild (table nodes pool) m n))

@@ -4,8 +4,6 @@ use Rattle.tables.specs.Fields.{childOk}
 use borrow.Author.Needs.{needs}
 use Rattle.tables.proofs.fields.children_ok.Statement.{statement}
 use Rattle.tables.proofs.fields.children_ok.Tie as tie
-use Rattle.tables.proofs.fields.child_ok.Reads as child-ok-reads
-use Rattle.tables.proofs.fields.all_of_four.Reads as all-of-four-reads
 
 child-ok-requires : tie.Need-child-ok-requires
 child-ok-requires c κs = search needs

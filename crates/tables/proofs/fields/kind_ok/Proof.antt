@@ -4,8 +4,6 @@ use Rattle.tables.specs.Fields.{unusedOk}
 use borrow.Author.Needs.{needs}
 use Rattle.tables.proofs.fields.kind_ok.Statement.{statement}
 use Rattle.tables.proofs.fields.kind_ok.Tie as tie
-use Rattle.tables.proofs.fields.unused_ok.Reads as unused-ok-reads
-use Rattle.tables.proofs.fields.all_of_four.Reads as all-of-four-reads
 
 unused-ok-requires : tie.Need-unused-ok-requires
 unused-ok-requires c κs = search needs

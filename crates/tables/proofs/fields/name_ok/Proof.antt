@@ -8,7 +8,6 @@ use native.Mathlib.Omega.{arith}
 use borrow.Author.Needs.{needs}
 use Rattle.tables.proofs.fields.name_ok.Statement.{statement}
 use Rattle.tables.proofs.fields.name_ok.Tie as tie
-use Rattle.tables.proofs.nodes.use_of.Reads as use-of-reads
 
 use-of-requires : tie.Need-use-of-requires
 use-of-requires c κs = search needs

@@ -4,8 +4,6 @@ use Rattle.tables.specs.Fields.{nameOk}
 use borrow.Author.Needs.{needs}
 use Rattle.tables.proofs.fields.names_ok.Statement.{statement}
 use Rattle.tables.proofs.fields.names_ok.Tie as tie
-use Rattle.tables.proofs.fields.all_of_four.Reads as all-of-four-reads
-use Rattle.tables.proofs.fields.name_ok.Reads as name-ok-reads
 
 name-ok-requires : tie.Need-name-ok-requires
 name-ok-requires c κs = search needs

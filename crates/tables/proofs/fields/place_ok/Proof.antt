@@ -10,9 +10,6 @@ use native.Mathlib.Omega.{arith}
 use borrow.Author.Needs.{needs}
 use Rattle.tables.proofs.fields.place_ok.Statement.{statement}
 use Rattle.tables.proofs.fields.place_ok.Tie as tie
-use Rattle.tables.proofs.pool.pattern_ok.Reads as pattern-ok-reads
-use Rattle.tables.proofs.nodes.use_of.Reads as use-of-reads
-use Rattle.tables.proofs.pool.value_ok.Reads as value-ok-reads
 
 use-of-requires : tie.Need-use-of-requires
 use-of-requires c κs = search needs

@@ -4,8 +4,6 @@ use Rattle.tables.specs.Fields.{placeOk}
 use borrow.Author.Needs.{needs}
 use Rattle.tables.proofs.fields.places_ok.Statement.{statement}
 use Rattle.tables.proofs.fields.places_ok.Tie as tie
-use Rattle.tables.proofs.fields.all_of_four.Reads as all-of-four-reads
-use Rattle.tables.proofs.fields.place_ok.Reads as place-ok-reads
 
 place-ok-requires : tie.Need-place-ok-requires
 place-ok-requires c κs = search needs

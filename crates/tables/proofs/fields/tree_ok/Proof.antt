@@ -4,7 +4,6 @@ use mathlib.Core.Path.{sym, _∙_}
 use borrow.Author.Needs.{needs}
 use Rattle.tables.proofs.fields.tree_ok.Statement.{statement}
 use Rattle.tables.proofs.fields.tree_ok.Tie as tie
-use Rattle.tables.proofs.fields.children_ok.Reads as children-ok-reads
 
 children-ok-requires : tie.Need-children-ok-requires
 children-ok-requires c κs = search needs

@@ -6,7 +6,6 @@ use Rattle.model.specs.Table.{uses}
 use borrow.Author.Needs.{needs}
 use Rattle.tables.proofs.fields.unused_ok.Statement.{statement}
 use Rattle.tables.proofs.fields.unused_ok.Tie as tie
-use Rattle.tables.proofs.nodes.use_of.Reads as use-of-reads
 
 use-of-requires : tie.Need-use-of-requires
 use-of-requires c κs = search needs

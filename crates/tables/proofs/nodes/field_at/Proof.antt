@@ -6,35 +6,27 @@ use borrow.Author.Needs.{needs}
 use Rattle.tables.proofs.nodes.field_at.Statement.{statement}
 use Rattle.tables.proofs.nodes.field_at.Tie as tie
 
--- src/nodes.rt:29:17
 mul-i : tie.Need-mul-i
 mul-i c = search needs
 
--- src/nodes.rt:30:16
 sub-if2 : tie.Need-sub-if2
 sub-if2 c = search needs
 
--- src/nodes.rt:31:26
 add-result : tie.Need-add-result
 add-result c = search needs
 
--- src/nodes.rt:31:20
 mul-result : tie.Need-mul-result
 mul-result c = search needs
 
--- src/nodes.rt:31:20
 shared-slice-read-result : tie.Need-shared-slice-read-result
 shared-slice-read-result c = search needs
 
--- src/nodes.rt:31:13
 returns : tie.Need-returns
 returns c = search needs
 
--- src/nodes.rt:25:1
 returns-2 : tie.Need-returns-2
 returns-2 c = λ pool. sym (List·getD-eq-default (c .before .before .args .nodes .now) 0 (omega arith))
 
--- src/nodes.rt:25:1
 returns-3 : tie.Need-returns-3
 returns-3 c = λ pool. sym (List·getD-eq-default (c .before .args .nodes .now) 0 (omega arith))
 

@@ -4,50 +4,37 @@ use mathlib.Core.List.{[]}
 use borrow.Author.Needs.{needs}
 use Rattle.tables.proofs.nodes.node_at.Statement.{statement}
 use Rattle.tables.proofs.nodes.node_at.Tie as tie
-use Rattle.tables.proofs.nodes.field_at.Reads as field-at-reads
-use Rattle.tables.proofs.nodes.wide.Reads as wide-reads
 
--- src/nodes.rt:42:20
 field-at-requires : tie.Need-field-at-requires
 field-at-requires c κs = search needs
 
--- src/nodes.rt:42:15
 wide-requires : tie.Need-wide-requires
 wide-requires c κs = search needs
 
--- src/nodes.rt:43:17
 field-at-requires-2 : tie.Need-field-at-requires-2
 field-at-requires-2 c κs = search needs
 
--- src/nodes.rt:43:12
 wide-requires-2 : tie.Need-wide-requires-2
 wide-requires-2 c κs = search needs
 
--- src/nodes.rt:44:17
 field-at-requires-3 : tie.Need-field-at-requires-3
 field-at-requires-3 c κs = search needs
 
--- src/nodes.rt:44:12
 wide-requires-3 : tie.Need-wide-requires-3
 wide-requires-3 c κs = search needs
 
--- src/nodes.rt:45:17
 field-at-requires-4 : tie.Need-field-at-requires-4
 field-at-requires-4 c κs = search needs
 
--- src/nodes.rt:45:12
 wide-requires-4 : tie.Need-wide-requires-4
 wide-requires-4 c κs = search needs
 
--- src/nodes.rt:46:17
 field-at-requires-5 : tie.Need-field-at-requires-5
 field-at-requires-5 c κs = search needs
 
--- src/nodes.rt:46:12
 wide-requires-5 : tie.Need-wide-requires-5
 wide-requires-5 c κs = search needs
 
--- src/nodes.rt:38:1
 returns : tie.Need-returns
 returns c = record { k = c .before .before .before .before .before .before .before .before .wide .ensures ∙ c .before .before .before .before .before .before .before .before .before .field-at .ensures []; f1 = c .before .before .before .before .before .before .wide2 .ensures ∙ c .before .before .before .before .before .before .before .field-at2 .ensures []; f2 = c .before .before .before .before .wide3 .ensures ∙ c .before .before .before .before .before .field-at3 .ensures []; f3 = c .before .before .wide4 .ensures ∙ c .before .before .before .field-at4 .ensures []; f4 = c .wide5 .ensures ∙ c .before .field-at5 .ensures [] }
 

@@ -10,18 +10,13 @@ use native.Mathlib.Omega.{arith}
 use borrow.Author.Needs.{needs}
 use Rattle.tables.proofs.pool.names_at.Statement.{statement}
 use Rattle.tables.proofs.pool.names_at.Tie as tie
-use Rattle.values.proofs.names_in.Reads as names-in-reads
-use Rattle.tables.proofs.pool.words_at.Reads as words-at-reads
 
--- src/pool.rt:48:14
 words-at-requires : tie.Need-words-at-requires
 words-at-requires c κs = search needs
 
--- src/pool.rt:48:5
 names-in-requires : tie.Need-names-in-requires
 names-in-requires c κs = search needs
 
--- src/pool.rt:45:1
 returns : tie.Need-returns
 unfolding leafOf
 returns c = let a = c .before .before .before .args in let r = c .names-in .ensures in (r .0 ∙ ap (λ (s : List ℕ). length (binders s)) (c .before .words-at .ensures), omega (arith, r .1, ap length (c .before .words-at .ensures), words-few isPatternLeaf (a .pool .now) (a .p)))

@@ -8,8 +8,6 @@ use native.Mathlib.Omega.{arith}
 use borrow.Author.Needs.{needs}
 use Rattle.tables.proofs.pool.pattern_ok.Statement.{statement}
 use Rattle.tables.proofs.pool.pattern_ok.Tie as tie
-use Rattle.values.proofs.distinct_in.Reads as distinct-in-reads
-use Rattle.values.proofs.size_at.Reads as size-at-reads
 
 size-at-requires : tie.Need-size-at-requires
 size-at-requires c κs = search needs

@@ -4,7 +4,6 @@ use mathlib.Core.Path.{sym, _∙_}
 use borrow.Author.Needs.{needs}
 use Rattle.tables.proofs.pool.value_ok.Statement.{statement}
 use Rattle.tables.proofs.pool.value_ok.Tie as tie
-use Rattle.values.proofs.size_at.Reads as size-at-reads
 
 size-at-requires : tie.Need-size-at-requires
 size-at-requires c κs = search needs

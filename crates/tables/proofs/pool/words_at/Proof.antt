@@ -7,57 +7,43 @@ use native.Mathlib.Omega.{arith}
 use borrow.Author.Needs.{needs}
 use Rattle.tables.proofs.pool.words_at.Statement.{statement}
 use Rattle.tables.proofs.pool.words_at.Tie as tie
-use Rattle.values.proofs.size_at.Reads as size-at-reads
 
--- src/pool.rt:20:11
 size-at-requires : tie.Need-size-at-requires
 size-at-requires c κs = search needs
 
--- src/pool.rt:21:18
 enum-known-k : tie.Need-enum-known-k
 enum-known-k c = search needs
 
--- src/pool.rt:22:21
 add-e : tie.Need-add-e
 add-e c = let a = c .before .before .before .before .before .args in let g = words-found _ (a .pool .now) (a .p) _ (sym (c .before .before .before .size-at .ensures) ∙ c .before .k .given .1) in omega (arith, g)
 
--- src/pool.rt:23:13
 mul-result : tie.Need-mul-result
 mul-result c = let a = c .before .before .before .before .before .args in let g = words-found _ (a .pool .now) (a .p) _ (sym (c .before .before .before .size-at .ensures) ∙ c .before .k .given .1) in omega (arith, g)
 
--- src/pool.rt:23:13
 sub-result : tie.Need-sub-result
 sub-result c = search needs
 
--- src/pool.rt:23:13
 part-result-start : tie.Need-part-result-start
 part-result-start c = search needs
 
--- src/pool.rt:23:13
 part-result-end : tie.Need-part-result-end
 part-result-end c = let a = c .before .before .before .before .before .args in let g = words-found _ (a .pool .now) (a .p) _ (sym (c .before .before .before .size-at .ensures) ∙ c .before .k .given .1) in omega (arith, g)
 
--- src/pool.rt:25:22
 enum-told : tie.Need-enum-told
 enum-told c = search needs
 
--- src/pool.rt:25:22
 sub-result-2 : tie.Need-sub-result-2
 sub-result-2 c = search needs
 
--- src/pool.rt:25:22
 part-result-start-2 : tie.Need-part-result-start-2
 part-result-start-2 c = search needs
 
--- src/pool.rt:25:22
 part-result-end-2 : tie.Need-part-result-end-2
 part-result-end-2 c = search needs
 
--- src/pool.rt:17:1
 returns : tie.Need-returns
 returns c = let a = c .before .before .before .before .before .before .args in let g = words-found _ (a .pool .now) (a .p) _ (sym (c .before .before .before .before .size-at .ensures) ∙ c .before .before .k .given .1) in let k = c .before .before .k .given .0 .0 in let e : a .p + k - a .p ≡ k = omega arith in ap (λ (j : ℕ). take j (drop (a .p) (a .pool .now))) e ∙ sym (g .0)
 
--- src/pool.rt:17:1
 returns-2 : tie.Need-returns-2
 returns-2 c = let a = c .before .before .before .before .before .args in sym (words-bad _ (a .pool .now) (a .p) (sym (c .before .before .before .size-at .ensures) ∙ c .before .enum-told .given .1))
 

@@ -34,7 +34,6 @@ abbrev too-long-below : ℕ → In 2 too-long-kinds.ps
 too-long-below t =
     and 2 too-long-kinds.ps (falls 2 too-long-kinds.ps _<_ μ-too-long t) too-long.Pre
 
--- src/length.rt:22:9
 too-long-returns : (t : ℕ) → too-long-lts.Need-returns (
   node-at-reads.Asked,
   node-at-reads.Learnt,
@@ -55,7 +54,6 @@ too-long-returns : (t : ℕ) → too-long-lts.Need-returns (
 ) (too-long-at t) too-long.Post
 too-long-returns t c = λ w. let z = w .inside in absurd (omega arith)
 
--- src/length.rt:24:9
 too-long-node-at-requires : (t : ℕ) → too-long-lts.Need-node-at-requires (
   node-at-reads.Asked,
   node-at-reads.Learnt,
@@ -76,7 +74,6 @@ too-long-node-at-requires : (t : ℕ) → too-long-lts.Need-node-at-requires (
 ) (too-long-at t) too-long.Post
 too-long-node-at-requires t c κs = search needs
 
--- src/length.rt:26:34
 too-long-child-requires : (t : ℕ) → too-long-lts.Need-child-requires (
   node-at-reads.Asked,
   node-at-reads.Learnt,
@@ -97,7 +94,6 @@ too-long-child-requires : (t : ℕ) → too-long-lts.Need-child-requires (
 ) (too-long-at t) too-long.Post
 too-long-child-requires t c κs = search needs
 
--- src/length.rt:26:12
 too-long-too-long-requires : (t : ℕ) → too-long-lts.Need-too-long-requires (
   node-at-reads.Asked,
   node-at-reads.Learnt,
@@ -118,7 +114,6 @@ too-long-too-long-requires : (t : ℕ) → too-long-lts.Need-too-long-requires (
 ) (too-long-at t) too-long.Post
 too-long-too-long-requires t c κs = (omega (arith, c .child .ensures .above (omega arith)), search needs)
 
--- src/length.rt:27:13
 too-long-returns-2 : (t : ℕ) → too-long-lts.Need-returns-2 (
   node-at-reads.Asked,
   node-at-reads.Learnt,
@@ -139,7 +134,6 @@ too-long-returns-2 : (t : ℕ) → too-long-lts.Need-returns-2 (
 ) (too-long-at t) too-long.Post
 too-long-returns-2 t c = let a = c .before .before .before .before .before .before .before .before .before .args in let ns = a .nodes .now in let pool = a .pool .now in λ w. left-yes ns pool (a .n) (viewEnv (a .e)) w _ (c .before .before .before .before .before .node-at .ensures) _ _ (c .before .before .before .if2 .taken) (c .before .before .child .ensures) (c .before .too-long .ensures) (c .if3 .taken)
 
--- src/length.rt:29:38
 too-long-child-requires-2 : (t : ℕ) → too-long-lts.Need-child-requires-2 (
   node-at-reads.Asked,
   node-at-reads.Learnt,
@@ -160,7 +154,6 @@ too-long-child-requires-2 : (t : ℕ) → too-long-lts.Need-child-requires-2 (
 ) (too-long-at t) too-long.Post
 too-long-child-requires-2 t c κs = search needs
 
--- src/length.rt:29:9
 too-long-too-long-requires-2 : (t : ℕ) → too-long-lts.Need-too-long-requires-2 (
   node-at-reads.Asked,
   node-at-reads.Learnt,
@@ -181,7 +174,6 @@ too-long-too-long-requires-2 : (t : ℕ) → too-long-lts.Need-too-long-requires
 ) (too-long-at t) too-long.Post
 too-long-too-long-requires-2 t c κs = (omega (arith, c .child2 .ensures .above (omega arith)), search needs)
 
--- src/length.rt:29:9
 too-long-returns-3 : (t : ℕ) → too-long-lts.Need-returns-3 (
   node-at-reads.Asked,
   node-at-reads.Learnt,
@@ -202,7 +194,6 @@ too-long-returns-3 : (t : ℕ) → too-long-lts.Need-returns-3 (
 ) (too-long-at t) too-long.Post
 too-long-returns-3 t c = let a = c .before .before .before .before .before .before .before .before .before .before .before .args in let ns = a .nodes .now in let pool = a .pool .now in λ w. left-no ns pool (a .n) (viewEnv (a .e)) w _ (c .before .before .before .before .before .before .before .node-at .ensures) _ _ _ _ (c .before .before .before .before .before .if2 .taken) (c .before .before .before .before .child .ensures) (c .before .before .before .too-long .ensures) (c .before .before .if3 .left) (c .before .child2 .ensures) (c .too-long2 .ensures)
 
--- src/length.rt:32:38
 too-long-child-requires-3 : (t : ℕ) → too-long-lts.Need-child-requires-3 (
   node-at-reads.Asked,
   node-at-reads.Learnt,
@@ -223,7 +214,6 @@ too-long-child-requires-3 : (t : ℕ) → too-long-lts.Need-child-requires-3 (
 ) (too-long-at t) too-long.Post
 too-long-child-requires-3 t c κs = search needs
 
--- src/length.rt:32:9
 too-long-too-long-requires-3 : (t : ℕ) → too-long-lts.Need-too-long-requires-3 (
   node-at-reads.Asked,
   node-at-reads.Learnt,
@@ -244,7 +234,6 @@ too-long-too-long-requires-3 : (t : ℕ) → too-long-lts.Need-too-long-requires
 ) (too-long-at t) too-long.Post
 too-long-too-long-requires-3 t c κs = (omega (arith, c .child3 .ensures .above (omega arith)), search needs)
 
--- src/length.rt:32:9
 too-long-returns-4 : (t : ℕ) → too-long-lts.Need-returns-4 (
   node-at-reads.Asked,
   node-at-reads.Learnt,
@@ -265,7 +254,6 @@ too-long-returns-4 : (t : ℕ) → too-long-lts.Need-returns-4 (
 ) (too-long-at t) too-long.Post
 too-long-returns-4 t c = let a = c .before .before .before .before .before .before .before .before .before .before .args in let ns = a .nodes .now in let pool = a .pool .now in λ w. box-is ns pool (a .n) (viewEnv (a .e)) w _ (c .before .before .before .before .before .before .node-at .ensures) _ _ (c .before .before .if4 .taken) (c .before .child3 .ensures) (c .too-long3 .ensures)
 
--- src/length.rt:35:24
 too-long-field-at-requires : (t : ℕ) → too-long-lts.Need-field-at-requires (
   node-at-reads.Asked,
   node-at-reads.Learnt,
@@ -286,7 +274,6 @@ too-long-field-at-requires : (t : ℕ) → too-long-lts.Need-field-at-requires (
 ) (too-long-at t) too-long.Post
 too-long-field-at-requires t c κs = search needs
 
--- src/length.rt:35:47
 too-long-name-requires : (t : ℕ) → too-long-lts.Need-name-requires (
   node-at-reads.Asked,
   node-at-reads.Learnt,
@@ -307,7 +294,6 @@ too-long-name-requires : (t : ℕ) → too-long-lts.Need-name-requires (
 ) (too-long-at t) too-long.Post
 too-long-name-requires t c κs = search needs
 
--- src/length.rt:35:13
 too-long-with-requires : (t : ℕ) → too-long-lts.Need-with-requires (
   node-at-reads.Asked,
   node-at-reads.Learnt,
@@ -328,7 +314,6 @@ too-long-with-requires : (t : ℕ) → too-long-lts.Need-with-requires (
 ) (too-long-at t) too-long.Post
 too-long-with-requires t c κs = search needs
 
--- src/length.rt:36:38
 too-long-child-requires-4 : (t : ℕ) → too-long-lts.Need-child-requires-4 (
   node-at-reads.Asked,
   node-at-reads.Learnt,
@@ -349,7 +334,6 @@ too-long-child-requires-4 : (t : ℕ) → too-long-lts.Need-child-requires-4 (
 ) (too-long-at t) too-long.Post
 too-long-child-requires-4 t c κs = search needs
 
--- src/length.rt:36:9
 too-long-too-long-requires-4 : (t : ℕ) → too-long-lts.Need-too-long-requires-4 (
   node-at-reads.Asked,
   node-at-reads.Learnt,
@@ -370,7 +354,6 @@ too-long-too-long-requires-4 : (t : ℕ) → too-long-lts.Need-too-long-requires
 ) (too-long-at t) too-long.Post
 too-long-too-long-requires-4 t c κs = (omega (arith, c .child4 .ensures .above (omega arith)), search needs)
 
--- src/length.rt:36:9
 too-long-returns-5 : (t : ℕ) → too-long-lts.Need-returns-5 (
   node-at-reads.Asked,
   node-at-reads.Learnt,
@@ -391,7 +374,6 @@ too-long-returns-5 : (t : ℕ) → too-long-lts.Need-returns-5 (
 ) (too-long-at t) too-long.Post
 too-long-returns-5 t c = let a = c .before .before .before .before .before .before .before .before .before .before .before .before .before .before .before .args in let ns = a .nodes .now in let pool = a .pool .now in let full : length (a .e .vals) ≡ 8 = search (needs, unmap, c .before .before .before .before .before .before .before .before .before .before .before .before .before .before .before .good) in let full′ : length (a .e .names) ≡ 8 = search (needs, c .before .before .before .before .before .before .before .before .before .before .before .before .before .before .before .good) in λ w. new-is ns pool (a .n) (viewEnv (a .e)) w _ (c .before .before .before .before .before .before .before .before .before .before .before .node-at .ensures) _ _ _ _ _ (c .before .before .before .before .before .if5 .taken) (sized (a .e) full′ full) (c .before .before .with .ensures) (c .before .before .before .before .field-at .ensures pool) (c .before .before .before .name .ensures) (c .before .child4 .ensures) (c .too-long4 .ensures)
 
--- src/length.rt:39:40
 too-long-words-at-requires : (t : ℕ) → too-long-lts.Need-words-at-requires (
   node-at-reads.Asked,
   node-at-reads.Learnt,
@@ -412,7 +394,6 @@ too-long-words-at-requires : (t : ℕ) → too-long-lts.Need-words-at-requires (
 ) (too-long-at t) too-long.Post
 too-long-words-at-requires t c κs = search needs
 
--- src/length.rt:39:13
 too-long-over-long-requires : (t : ℕ) → too-long-lts.Need-over-long-requires (
   node-at-reads.Asked,
   node-at-reads.Learnt,
@@ -433,7 +414,6 @@ too-long-over-long-requires : (t : ℕ) → too-long-lts.Need-over-long-requires
 ) (too-long-at t) too-long.Post
 too-long-over-long-requires t c κs = search needs
 
--- src/length.rt:40:9
 too-long-returns-6 : (t : ℕ) → too-long-lts.Need-returns-6 (
   node-at-reads.Asked,
   node-at-reads.Learnt,
@@ -455,7 +435,6 @@ too-long-returns-6 : (t : ℕ) → too-long-lts.Need-returns-6 (
 unfolding leafOf
 too-long-returns-6 t c = let a = c .before .before .before .before .before .before .before .before .before .before .before .before .before .before .args in let ns = a .nodes .now in let pool = a .pool .now in λ w. out-is ns pool (a .n) (viewEnv (a .e)) w _ (c .before .before .before .before .before .before .before .before .before .before .node-at .ensures) _ _ (c .before .before .if6 .taken) (c .before .words-at .ensures) (c .over-long .ensures)
 
--- src/length.rt:17:1
 too-long-returns-7 : (t : ℕ) → too-long-lts.Need-returns-7 (
   node-at-reads.Asked,
   node-at-reads.Learnt,

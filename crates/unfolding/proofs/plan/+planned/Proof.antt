@@ -28,7 +28,6 @@ planned-at t = and 1 planned-kinds.ps (is 1 planned-kinds.ps μ-planned t) plann
 abbrev planned-below : ℕ → In 1 planned-kinds.ps
 planned-below t = and 1 planned-kinds.ps (falls 1 planned-kinds.ps _<_ μ-planned t) planned.Pre
 
--- src/plan.rt:124:9
 planned-returns : (t : ℕ) → planned-lts.Need-returns (
   node-at-reads.Asked,
   node-at-reads.Learnt,
@@ -49,7 +48,6 @@ planned-returns : (t : ℕ) → planned-lts.Need-returns (
 ) (planned-at t) planned.Post
 planned-returns t c = λ pool w. let z = w .scoped .inside in absurd (omega arith)
 
--- src/plan.rt:126:9
 planned-node-at-requires : (t : ℕ) → planned-lts.Need-node-at-requires (
   node-at-reads.Asked,
   node-at-reads.Learnt,
@@ -70,7 +68,6 @@ planned-node-at-requires : (t : ℕ) → planned-lts.Need-node-at-requires (
 ) (planned-at t) planned.Post
 planned-node-at-requires t c κs = search needs
 
--- src/plan.rt:128:32
 planned-child-requires : (t : ℕ) → planned-lts.Need-child-requires (
   node-at-reads.Asked,
   node-at-reads.Learnt,
@@ -91,7 +88,6 @@ planned-child-requires : (t : ℕ) → planned-lts.Need-child-requires (
 ) (planned-at t) planned.Post
 planned-child-requires t c κs = search needs
 
--- src/plan.rt:128:13
 planned-planned-requires : (t : ℕ) → planned-lts.Need-planned-requires (
   node-at-reads.Asked,
   node-at-reads.Learnt,
@@ -112,7 +108,6 @@ planned-planned-requires : (t : ℕ) → planned-lts.Need-planned-requires (
 ) (planned-at t) planned.Post
 planned-planned-requires t c κs = (omega (arith, c .child .ensures .above (omega arith)), search needs)
 
--- src/plan.rt:129:31
 planned-child-requires-2 : (t : ℕ) → planned-lts.Need-child-requires-2 (
   node-at-reads.Asked,
   node-at-reads.Learnt,
@@ -133,7 +128,6 @@ planned-child-requires-2 : (t : ℕ) → planned-lts.Need-child-requires-2 (
 ) (planned-at t) planned.Post
 planned-child-requires-2 t c κs = search needs
 
--- src/plan.rt:129:9
 planned-planned-requires-2 : (t : ℕ) → planned-lts.Need-planned-requires-2 (
   node-at-reads.Asked,
   node-at-reads.Learnt,
@@ -154,7 +148,6 @@ planned-planned-requires-2 : (t : ℕ) → planned-lts.Need-planned-requires-2 (
 ) (planned-at t) planned.Post
 planned-planned-requires-2 t c κs = (omega (arith, c .child2 .ensures .above (omega arith)), search needs)
 
--- src/plan.rt:129:9
 planned-returns-2 : (t : ℕ) → planned-lts.Need-returns-2 (
   node-at-reads.Asked,
   node-at-reads.Learnt,
@@ -175,7 +168,6 @@ planned-returns-2 : (t : ℕ) → planned-lts.Need-returns-2 (
 ) (planned-at t) planned.Post
 planned-returns-2 t c = let a = c .before .before .before .before .before .before .before .before .before .args in let ns = a .nodes .now in λ pool w. plan-par ns pool (a .n) (a .b) (a .w) (a .p) w _ (c .before .before .before .before .before .before .node-at .ensures) (c .before .before .before .before .if2 .taken) _ _ (c .before .before .before .child .ensures) (c .before .child2 .ensures) _ _ (c .before .before .planned .ensures pool) (c .planned2 .ensures pool)
 
--- src/plan.rt:132:13
 planned-next-box-requires : (t : ℕ) → planned-lts.Need-next-box-requires (
   node-at-reads.Asked,
   node-at-reads.Learnt,
@@ -196,7 +188,6 @@ planned-next-box-requires : (t : ℕ) → planned-lts.Need-next-box-requires (
 ) (planned-at t) planned.Post
 planned-next-box-requires t c κs = search needs
 
--- src/plan.rt:133:13
 planned-with-box-requires : (t : ℕ) → planned-lts.Need-with-box-requires (
   node-at-reads.Asked,
   node-at-reads.Learnt,
@@ -217,7 +208,6 @@ planned-with-box-requires : (t : ℕ) → planned-lts.Need-with-box-requires (
 ) (planned-at t) planned.Post
 planned-with-box-requires t c κs = search needs
 
--- src/plan.rt:134:31
 planned-child-requires-3 : (t : ℕ) → planned-lts.Need-child-requires-3 (
   node-at-reads.Asked,
   node-at-reads.Learnt,
@@ -238,7 +228,6 @@ planned-child-requires-3 : (t : ℕ) → planned-lts.Need-child-requires-3 (
 ) (planned-at t) planned.Post
 planned-child-requires-3 t c κs = search needs
 
--- src/plan.rt:134:9
 planned-planned-requires-3 : (t : ℕ) → planned-lts.Need-planned-requires-3 (
   node-at-reads.Asked,
   node-at-reads.Learnt,
@@ -259,7 +248,6 @@ planned-planned-requires-3 : (t : ℕ) → planned-lts.Need-planned-requires-3 (
 ) (planned-at t) planned.Post
 planned-planned-requires-3 t c κs = (omega (arith, c .child3 .ensures .above (omega arith)), search needs)
 
--- src/plan.rt:134:9
 planned-returns-3 : (t : ℕ) → planned-lts.Need-returns-3 (
   node-at-reads.Asked,
   node-at-reads.Learnt,
@@ -280,7 +268,6 @@ planned-returns-3 : (t : ℕ) → planned-lts.Need-returns-3 (
 ) (planned-at t) planned.Post
 planned-returns-3 t c = let a = c .before .before .before .before .before .before .before .before .before .before .before .args in let ns = a .nodes .now in λ pool w. plan-box ns pool (a .n) (a .b) (a .w) (a .p) w _ (c .before .before .before .before .before .before .before .before .node-at .ensures) (c .before .before .before .before .if3 .taken) _ _ (c .before .child3 .ensures) (c .before .before .before .next-box .ensures) _ _ (c .before .before .with-box .ensures) (c .planned3 .ensures pool)
 
--- src/plan.rt:137:13
 planned-with-requires : (t : ℕ) → planned-lts.Need-with-requires (
   node-at-reads.Asked,
   node-at-reads.Learnt,
@@ -301,7 +288,6 @@ planned-with-requires : (t : ℕ) → planned-lts.Need-with-requires (
 ) (planned-at t) planned.Post
 planned-with-requires t c κs = search needs
 
--- src/plan.rt:138:31
 planned-child-requires-4 : (t : ℕ) → planned-lts.Need-child-requires-4 (
   node-at-reads.Asked,
   node-at-reads.Learnt,
@@ -322,7 +308,6 @@ planned-child-requires-4 : (t : ℕ) → planned-lts.Need-child-requires-4 (
 ) (planned-at t) planned.Post
 planned-child-requires-4 t c κs = search needs
 
--- src/plan.rt:138:55
 planned-with-name-requires : (t : ℕ) → planned-lts.Need-with-name-requires (
   node-at-reads.Asked,
   node-at-reads.Learnt,
@@ -343,7 +328,6 @@ planned-with-name-requires : (t : ℕ) → planned-lts.Need-with-name-requires (
 ) (planned-at t) planned.Post
 planned-with-name-requires t c κs = search needs
 
--- src/plan.rt:138:9
 planned-planned-requires-4 : (t : ℕ) → planned-lts.Need-planned-requires-4 (
   node-at-reads.Asked,
   node-at-reads.Learnt,
@@ -364,7 +348,6 @@ planned-planned-requires-4 : (t : ℕ) → planned-lts.Need-planned-requires-4 (
 ) (planned-at t) planned.Post
 planned-planned-requires-4 t c κs = (omega (arith, c .before .child4 .ensures .above (omega arith)), search needs)
 
--- src/plan.rt:138:9
 planned-returns-4 : (t : ℕ) → planned-lts.Need-returns-4 (
   node-at-reads.Asked,
   node-at-reads.Learnt,
@@ -385,7 +368,6 @@ planned-returns-4 : (t : ℕ) → planned-lts.Need-returns-4 (
 ) (planned-at t) planned.Post
 planned-returns-4 t c = let a = c .before .before .before .before .before .before .before .before .before .before .before .before .before .args in let ns = a .nodes .now in λ pool w. plan-new ns pool (a .n) (a .b) (a .w) (a .p) w _ (c .before .before .before .before .before .before .before .before .before .before .node-at .ensures) (c .before .before .before .before .if4 .taken) _ (c .before .before .child4 .ensures) _ (c .before .before .before .with .ensures) _ _ (c .before .with-name .ensures) (c .planned4 .ensures pool)
 
--- src/plan.rt:141:9
 planned-with-row-requires : (t : ℕ) → planned-lts.Need-with-row-requires (
   node-at-reads.Asked,
   node-at-reads.Learnt,
@@ -406,7 +388,6 @@ planned-with-row-requires : (t : ℕ) → planned-lts.Need-with-row-requires (
 ) (planned-at t) planned.Post
 planned-with-row-requires t c κs = search needs
 
--- src/plan.rt:141:9
 planned-returns-5 : (t : ℕ) → planned-lts.Need-returns-5 (
   node-at-reads.Asked,
   node-at-reads.Learnt,
@@ -427,7 +408,6 @@ planned-returns-5 : (t : ℕ) → planned-lts.Need-returns-5 (
 ) (planned-at t) planned.Post
 planned-returns-5 t c = let a = c .before .before .before .before .before .before .before .before .before .before .before .before .args in let ns = a .nodes .now in λ pool w. plan-row ns pool (a .n) (a .b) (a .w) (a .p) w _ (c .before .before .before .before .before .before .before .before .before .node-at .ensures) (c .before .if5 .taken) _ (c .with-row .ensures)
 
--- src/plan.rt:119:1
 planned-returns-6 : (t : ℕ) → planned-lts.Need-returns-6 (
   node-at-reads.Asked,
   node-at-reads.Learnt,

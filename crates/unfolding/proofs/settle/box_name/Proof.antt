@@ -9,19 +9,15 @@ use borrow.Author.Needs.{needs}
 use Rattle.unfolding.proofs.settle.box_name.Statement.{statement}
 use Rattle.unfolding.proofs.settle.box_name.Tie as tie
 
--- src/settle.rt:169:13
 env-below-requires : tie.Need-env-below-requires
 env-below-requires c κs = c .before .pre
 
--- src/settle.rt:169:36
 word-of-byte-requires : tie.Need-word-of-byte-requires
 word-of-byte-requires c κs = search needs
 
--- src/settle.rt:169:5
 word-requires : tie.Need-word-requires
 word-requires c κs = search needs
 
--- src/settle.rt:164:1
 returns : tie.Need-returns
 returns c = let a = c .before .before .before .before .args in λ h. c .word .ensures ∙ ap₂ word (c .before .before .env-below .ensures (leb-true (length (viewEnv (a .e) .names) + length (viewNews (a .q .news) .names)) 8 h)) (c .before .word-of-byte .ensures .0)
 

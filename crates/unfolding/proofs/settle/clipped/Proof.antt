@@ -3,11 +3,9 @@ use borrow.Author.Needs.{needs}
 use Rattle.unfolding.proofs.settle.clipped.Statement.{statement}
 use Rattle.unfolding.proofs.settle.clipped.Tie as tie
 
--- src/settle.rt:88:9
 count-requires : tie.Need-count-requires
 count-requires c κs = search needs
 
--- src/settle.rt:85:1
 returns : tie.Need-returns
 returns c = (clipped-view (c .before .before .args .v) _ (c .before .count .ensures .0), c .before .count .ensures .1)
 

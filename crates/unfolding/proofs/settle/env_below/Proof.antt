@@ -21,59 +21,45 @@ Inv-loop side w n r₀ k₀ r k = (k ≤ n) × (length (viewEnv r₀ .names) + l
 abbrev μ-loop : tie.MeasureT-loop
 μ-loop side w n r₀ k₀ r k = n - k
 
--- src/settle.rt:48:9
 count-requires : tie.Need-count-requires Inv-loop μ-loop
 count-requires c κs = search needs
 
--- src/settle.rt:51:5
 loop-holds : tie.Need-loop-holds Inv-loop μ-loop
 loop-holds c = (omega arith, λ h. below-none (c .before .args .side) (viewEnv (c .before .args .e)))
 
--- src/settle.rt:52:30
 element-copy-out-word-of-byte : tie.Need-element-copy-out-word-of-byte Inv-loop μ-loop
 element-copy-out-word-of-byte c = omega (arith, c .before .before .count .ensures)
 
--- src/settle.rt:52:13
 word-of-byte-requires : tie.Need-word-of-byte-requires Inv-loop μ-loop
 word-of-byte-requires c κs = search needs
 
--- src/settle.rt:53:30
 element-copy-out-word-of-byte-2 : tie.Need-element-copy-out-word-of-byte-2 Inv-loop μ-loop
 element-copy-out-word-of-byte-2 c = omega (arith, c .before .before .before .before .count .ensures)
 
--- src/settle.rt:53:13
 word-of-byte-requires-2 : tie.Need-word-of-byte-requires-2 Inv-loop μ-loop
 word-of-byte-requires-2 c κs = search needs
 
--- src/settle.rt:54:35
 mul-name : tie.Need-mul-name Inv-loop μ-loop
 mul-name c = let s = c .before .before .before .before .before .before .before in omega (arith, s .pre)
 
--- src/settle.rt:54:35
 add-name : tie.Need-add-name Inv-loop μ-loop
 add-name c = let s = c .before .before .before .before .before .before .before in omega (arith, s .pre, c .word-of-byte2 .ensures .1)
 
--- src/settle.rt:54:23
 name-requires : tie.Need-name-requires Inv-loop μ-loop
 name-requires c κs = search needs
 
--- src/settle.rt:54:9
 with-requires : tie.Need-with-requires Inv-loop μ-loop
 with-requires c κs = search needs
 
--- src/settle.rt:55:9
 add-k : tie.Need-add-k Inv-loop μ-loop
 add-k c = search needs
 
--- src/settle.rt:51:5
 loop-less : tie.Need-loop-less Inv-loop μ-loop
 loop-less c = search needs
 
--- src/settle.rt:51:5
 loop-again : tie.Need-loop-again Inv-loop μ-loop
 loop-again c = let s = c .before .before .before .before .before .before .before .before .before in let a = s .args in let l = c .before .before .before .before .before .before .before .loop in let w = a .t3 in let f1 = length-take (w .n) (w .names) in let f2 = length-take (w .n) (w .serials) in let e1 : length (a .e .names) ≡ 8 = search (needs, s .good) in let e2 : length (a .e .vals) ≡ 8 = search (needs, unmap, s .good) in let n1 = c .before .before .before .before .before .before .before .before .count .ensures in let lt = c .before .before .before .before .before .before .loop-test .taken in (omega arith, λ h. below-more (a .side) (viewEnv (a .e)) (w .names) (w .serials) (l .k) (sized (a .e) e1 e2) (omega arith) (omega arith) (omega arith) (viewEnv (l .r)) _ _ _ (l .inv .1 h) (c .before .before .before .before .word-of-byte .ensures .0) (c .before .name .ensures ∙ ap (λ (j : ℕ). (65536 * a .side + j) ∷ []) (c .before .before .word-of-byte2 .ensures .0)) (c .with .ensures))
 
--- src/settle.rt:44:1
 returns : tie.Need-returns Inv-loop μ-loop
 returns c = let a = c .before .before .before .args in let l = c .before .loop in let n1 = c .before .before .count .ensures in let lt = c .loop-test .left in λ h. below-all (a .side) (viewEnv (a .e)) _ (a .t3) (l .k) _ (omega arith) (omega arith) (n1 .0) (n1 .1) (l .inv .1 h)
 

@@ -4,15 +4,12 @@ use borrow.Author.Needs.{needs}
 use Rattle.unfolding.proofs.settle.input_at.Statement.{statement}
 use Rattle.unfolding.proofs.settle.input_at.Tie as tie
 
--- src/settle.rt:142:9
 vals-of-requires : tie.Need-vals-of-requires
 vals-of-requires c κs = search needs
 
--- src/settle.rt:144:5
 input-requires : tie.Need-input-requires
 input-requires c κs = search needs
 
--- src/settle.rt:139:1
 returns : tie.Need-returns
 returns c = let a = c .before .before .before .args in record { view = c .input .ensures .0 ∙ ap (input (a .at) (a .n)) (c .before .before .vals-of .ensures .0); fits = c .input .ensures .1 ∙ c .before .before .vals-of .ensures .1 }
 

@@ -8,39 +8,30 @@ use borrow.Author.Needs.{needs}
 use Rattle.unfolding.proofs.settle.output_at.Statement.{statement}
 use Rattle.unfolding.proofs.settle.output_at.Tie as tie
 
--- src/settle.rt:131:9
 node-at-requires : tie.Need-node-at-requires
 node-at-requires c κs = search needs
 
--- src/settle.rt:132:24
 field-at-requires : tie.Need-field-at-requires
 field-at-requires c κs = search needs
 
--- src/settle.rt:132:9
 word-requires : tie.Need-word-requires
 word-requires c κs = search needs
 
--- src/settle.rt:133:23
 field-at-requires-2 : tie.Need-field-at-requires-2
 field-at-requires-2 c κs = search needs
 
--- src/settle.rt:133:9
 tag-at-requires : tie.Need-tag-at-requires
 tag-at-requires c κs = search needs
 
--- src/settle.rt:134:36
 words-at-requires : tie.Need-words-at-requires
 words-at-requires c κs = search needs
 
--- src/settle.rt:134:9
 substituted-requires : tie.Need-substituted-requires
 substituted-requires c κs = search needs
 
--- src/settle.rt:135:5
 output-requires : tie.Need-output-requires
 output-requires c κs = search needs
 
--- src/settle.rt:128:1
 returns : tie.Need-returns
 unfolding leafOf
 returns c = let a = c .before .before .before .before .before .before .before .before .before .before .args in let ns = a .nodes .now in let pool = a .pool .now in output-is ns pool (a .n) (a .at) (viewEnv (a .e)) _ (c .before .before .before .before .before .before .before .node-at .ensures) _ 0 (c .before .before .before .tag-at .result) _ _ _ (c .before .before .before .before .before .word .ensures ∙ ap (word (viewEnv (a .e))) (c .before .before .before .before .before .before .field-at .ensures pool)) (c .before .before .before .tag-at .ensures ∙ ap (tagOf (viewEnv (a .e))) (c .before .before .before .before .field-at2 .ensures pool)) (c .before .before .words-at .ensures) (c .before .substituted .ensures) (c .output .ensures .0) (c .output .ensures .1)

@@ -24,43 +24,33 @@ Inv-loop e side p n r₀ k₀ r k = (k ≤ n) × (r .len ≡ r₀ .len + k) × (
 abbrev μ-loop : tie.MeasureT-loop
 μ-loop e side p n r₀ k₀ r k = n - k
 
--- src/settle.rt:180:5
 loop-holds : tie.Need-loop-holds Inv-loop μ-loop
 loop-holds c = let a = c .args in (omega arith, omega arith, (let f : length (a .t3 .boxes) ≡ 16 = search (needs, unmap) in f), λ h. grown-none (settledBox (a .side) (viewEnv (a .e))) viewPlace (a .t3 .boxes) (viewBoxes (a .boxes)), λ h. h)
 
--- src/settle.rt:181:17
 mul-q : tie.Need-mul-q Inv-loop μ-loop
 mul-q c = let s = c .before .before in omega (arith, s .pre)
 
--- src/settle.rt:181:17
 element-copy-out-q : tie.Need-element-copy-out-q Inv-loop μ-loop
 element-copy-out-q c = let s = c .before .before in omega (arith, s .pre)
 
--- src/settle.rt:182:20
 box-name-requires : tie.Need-box-name-requires Inv-loop μ-loop
 box-name-requires c κs = let s = c .before .before .before in s .pre .0
 
--- src/settle.rt:182:42
 wide-requires : tie.Need-wide-requires Inv-loop μ-loop
 wide-requires c κs = search needs
 
--- src/settle.rt:182:9
 with-requires : tie.Need-with-requires Inv-loop μ-loop
 with-requires c κs = let s = c .before .before .before .before .before in omega (arith, s .pre)
 
--- src/settle.rt:183:9
 add-k : tie.Need-add-k Inv-loop μ-loop
 add-k c = search needs
 
--- src/settle.rt:180:5
 loop-less : tie.Need-loop-less Inv-loop μ-loop
 loop-less c = search needs
 
--- src/settle.rt:180:5
 loop-again : tie.Need-loop-again Inv-loop μ-loop
 loop-again c = let s = c .before .before .before .before .before .before in let a = s .args in let l = c .before .before .before .before .before .loop in let f : length (a .t3 .boxes) ≡ 16 = l .inv .2 in let lt = c .before .before .before .before .loop-test .taken in let z = s .pre in let ln = c .with .ensures .len in (omega arith, omega arith, f, λ h. grown-more (settledBox (a .side) (viewEnv (a .e))) viewPlace (a .t3 .boxes) (viewBoxes (a .boxes)) (l .k) (viewBoxes (l .r)) _ _ _ (omega arith) (ap₂ mbox (c .before .before .box-name .ensures (place-fine (boxFine (viewEnv (a .e))) viewPlace (a .t3 .boxes) (a .t3 .added) (l .k) _ lt (omega arith) h)) (c .before .wide .ensures)) (c .with .ensures .view) (l .inv .3 h), λ h. c .with .ensures .fits (l .inv .4 h))
 
--- src/settle.rt:173:1
 returns : tie.Need-returns Inv-loop μ-loop
 returns c = let a = c .before .before .args in let l = c .before .loop in let lt = c .loop-test .left in let e : l .k ≡ a .t3 .added = omega arith in record { view = λ h. l .inv .3 h ∙ ap (λ (j : ℕ). viewBoxes (a .boxes) ++ map (settledBox (a .side) (viewEnv (a .e))) (map viewPlace (take j (a .t3 .boxes)))) e; fits = l .inv .4 }
 

@@ -22,51 +22,39 @@ Inv-loop e n r₀ k₀ r k = (k ≤ n) × (length (r .rows) ≡ 8) × (map viewV
 abbrev μ-loop : tie.MeasureT-loop
 μ-loop e n r₀ k₀ r k = n - k
 
--- src/settle.rt:115:9
 count-requires : tie.Need-count-requires Inv-loop μ-loop
 count-requires c κs = search needs
 
--- src/settle.rt:116:17
 none-requires : tie.Need-none-requires Inv-loop μ-loop
 none-requires c κs = search needs
 
--- src/settle.rt:118:5
 loop-holds : tie.Need-loop-holds Inv-loop μ-loop
 loop-holds c = (omega arith, (let f : length (c .none .result .rows) ≡ 8 = search (needs, unmap) in f), refl, refl)
 
--- src/settle.rt:119:17
 mul-v : tie.Need-mul-v Inv-loop μ-loop
 mul-v c = omega (arith, c .before .before .before .count .ensures)
 
--- src/settle.rt:119:17
 element-copy-out-v : tie.Need-element-copy-out-v Inv-loop μ-loop
 element-copy-out-v c = omega (arith, c .before .before .before .count .ensures)
 
--- src/settle.rt:120:21
 clipped-requires : tie.Need-clipped-requires Inv-loop μ-loop
 clipped-requires c κs = search needs
 
--- src/settle.rt:120:9
 mul-t10 : tie.Need-mul-t10 Inv-loop μ-loop
 mul-t10 c = omega (arith, c .before .before .before .before .before .count .ensures)
 
--- src/settle.rt:120:9
 element-set-from-r : tie.Need-element-set-from-r Inv-loop μ-loop
 element-set-from-r c = omega (arith, c .before .before .before .before .before .count .ensures)
 
--- src/settle.rt:121:9
 add-k : tie.Need-add-k Inv-loop μ-loop
 add-k c = search needs
 
--- src/settle.rt:118:5
 loop-less : tie.Need-loop-less Inv-loop μ-loop
 loop-less c = search needs
 
--- src/settle.rt:118:5
 loop-again : tie.Need-loop-again Inv-loop μ-loop
 loop-again c = let s = c .before .before .before .before .before .before in let l = c .before .before .before .loop in let f : length (l .r .rows) ≡ 8 = l .inv .1 in let f2 : length (s .args .t1 .vals) ≡ 8 = search (needs, unmap, s .good) in let n1 = c .before .before .before .before .before .count .ensures in let lt = c .before .before .loop-test .taken in (omega arith, simp length-set f, vals-more (l .r .rows) (s .args .t1 .vals) (l .k) _ _ (omega arith) (omega arith) (c .clipped .ensures .0) (l .inv .2), vals-fit (l .r .rows) (s .args .t1 .vals) (l .k) vd _ (omega arith) (omega arith) (c .clipped .ensures .1) (l .inv .3))
 
--- src/settle.rt:112:1
 returns : tie.Need-returns Inv-loop μ-loop
 returns c = let s = c .before .before .before .before in let l = c .before .loop in let n1 = c .before .before .before .count .ensures in let lt = c .loop-test .left in (vals-all (s .args .t1) (l .k) _ _ (omega arith) (omega arith) (n1 .1) (l .inv .2), both _ _ (le-leb (l .k) 8 (omega arith)) (l .inv .3))
 

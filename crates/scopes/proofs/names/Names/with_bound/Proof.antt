@@ -10,11 +10,6 @@ use Rattle.scopes.proofs.NameLaws.{bound-new, bound-input, bound-none, 
 use borrow.Author.Needs.{needs}
 use Rattle.scopes.proofs.names.Names.with_bound.Statement.{statement}
 use Rattle.scopes.proofs.names.Names.with_bound.Tie as tie
-use Rattle.scopes.proofs.names.Names.with_outer.Reads as with-outer-reads
-use Rattle.scopes.proofs.names.Names.with_pattern.Reads as with-pattern-reads
-use Rattle.tables.proofs.nodes.field_at.Reads as field-at-reads
-use Rattle.tables.proofs.nodes.node_at.Reads as node-at-reads
-use Rattle.tables.proofs.pool.words_at.Reads as words-at-reads
 
 node-at-requires : tie.Need-node-at-requires
 node-at-requires c κs = search needs

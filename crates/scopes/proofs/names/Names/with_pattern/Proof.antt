@@ -10,7 +10,6 @@ use borrow.Author.Needs.{needs}
 use native.Mathlib.Omega.{arith}
 use Rattle.scopes.proofs.names.Names.with_pattern.Statement.{statement}
 use Rattle.scopes.proofs.names.Names.with_pattern.Tie as tie
-use Rattle.scopes.proofs.names.Names.with_outer.Reads as with-outer-reads
 
 abbrev Inv-loop : tie.InvT-loop
 Inv-loop s r₀ i₀ r i = (i ≤ length s) × (viewNames r ≡ lastEight (binders (drop i s) ++ viewNames r₀))

@@ -3,7 +3,6 @@ use Rattle.scopes.proofs.UnfoldedLaws.{three-same}
 use borrow.Author.Needs.{needs}
 use Rattle.scopes.proofs.unfolded.Unfolded.plus.Statement.{statement}
 use Rattle.scopes.proofs.unfolded.Unfolded.plus.Tie as tie
-use Rattle.scopes.proofs.unfolded.sum.Reads as sum-reads
 
 sum-requires : tie.Need-sum-requires
 sum-requires c κs = search needs

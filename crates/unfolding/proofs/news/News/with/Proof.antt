@@ -6,8 +6,6 @@ use native.Mathlib.Omega.{arith}
 use borrow.Author.Needs.{needs}
 use Rattle.unfolding.proofs.news.News.with.Statement.{statement}
 use Rattle.unfolding.proofs.news.News.with.Tie as tie
-use Rattle.unfolding.proofs.news.small.Reads as small-reads
-use Rattle.unfolding.proofs.news.wide.Reads as wide-reads
 
 wide-requires : tie.Need-wide-requires
 wide-requires c κs = search needs

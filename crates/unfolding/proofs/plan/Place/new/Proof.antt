@@ -5,15 +5,12 @@ use borrow.Author.Needs.{needs}
 use Rattle.unfolding.proofs.plan.Place.new.Statement.{statement}
 use Rattle.unfolding.proofs.plan.Place.new.Tie as tie
 
--- src/plan.rt:35:19
 small-requires : tie.Need-small-requires
 small-requires c κs = search needs
 
--- src/plan.rt:36:17
 small-requires-2 : tie.Need-small-requires-2
 small-requires-2 c κs = search needs
 
--- src/plan.rt:31:5
 returns : tie.Need-returns
 returns c = let a = c .before .before .args in λ h i. ap₂ (λ (x y : ℕ). place x y (a .news)) (c .before .small .ensures h) (c .small2 .ensures i)
 

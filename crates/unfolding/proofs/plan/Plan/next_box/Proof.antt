@@ -7,19 +7,15 @@ use borrow.Author.Needs.{needs}
 use Rattle.unfolding.proofs.plan.Plan.next_box.Statement.{statement}
 use Rattle.unfolding.proofs.plan.Plan.next_box.Tie as tie
 
--- src/plan.rt:111:24
 add-result : tie.Need-add-result
 add-result c = search needs
 
--- src/plan.rt:111:17
 returns : tie.Need-returns
 returns c = let a = c .before .before .args in let full : length (a .self .boxes) ≡ 16 = search (needs, unmap) in λ h. next-is (a .self) full (omega arith)
 
--- src/plan.rt:104:5
 returns-2 : tie.Need-returns-2
 returns-2 c = search needs
 
--- src/plan.rt:104:5
 returns-3 : tie.Need-returns-3
 returns-3 c = search needs
 

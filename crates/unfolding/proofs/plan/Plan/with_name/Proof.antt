@@ -3,15 +3,12 @@ use borrow.Author.Needs.{needs}
 use Rattle.unfolding.proofs.plan.Plan.with_name.Statement.{statement}
 use Rattle.unfolding.proofs.plan.Plan.with_name.Tie as tie
 
--- src/plan.rt:98:27
 add-self : tie.Need-add-self
 add-self c = search needs
 
--- src/plan.rt:93:5
 returns : tie.Need-returns
 returns c = search needs
 
--- src/plan.rt:93:5
 returns-2 : tie.Need-returns-2
 returns-2 c = λ h. absurd (omega arith)
 

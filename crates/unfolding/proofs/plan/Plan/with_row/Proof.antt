@@ -7,27 +7,21 @@ use borrow.Author.Needs.{needs}
 use Rattle.unfolding.proofs.plan.Plan.with_row.Statement.{statement}
 use Rattle.unfolding.proofs.plan.Plan.with_row.Tie as tie
 
--- src/plan.rt:74:28
 new-requires : tie.Need-new-requires
 new-requires c κs = search needs
 
--- src/plan.rt:74:13
 mul-t9 : tie.Need-mul-t9
 mul-t9 c = search needs
 
--- src/plan.rt:74:13
 element-set-from-self : tie.Need-element-set-from-self
 element-set-from-self c = search needs
 
--- src/plan.rt:75:24
 add-self : tie.Need-add-self
 add-self c = search needs
 
--- src/plan.rt:69:5
 returns : tie.Need-returns
 returns c = let a = c .before .before .args in let full : length (a .t1 .rows) ≡ 32 = search (needs, unmap) in λ h i j. row-stored (a .t1) (a .node) (a .at) (a .news) _ (c .new .ensures i j) full h
 
--- src/plan.rt:69:5
 returns-2 : tie.Need-returns-2
 returns-2 c = λ h i j. absurd (omega arith)
 
