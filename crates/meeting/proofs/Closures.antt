@@ -19,7 +19,7 @@ use Rattle.values.specs.Env.{viewValue, viewEnv, firstEight, extendedOf}
 use Rattle.values.specs.Match.{viewBound, fit, fitOf, storedAfter}
 use Rattle.values.proofs.Lists.{take-count}
 use Rattle.values.proofs.Matches.{matched-no, matched-yes}
-use Rattle.values.proofs.Environments.{eight-all, can-extend}
+use Rattle.values.proofs.Environments.{eight-all, can-extend, env}
 use Rattle.tables.specs.Checks.{Passes}
 use Rattle.scopes.specs.Names.{lastEight}
 use Rattle.scopes.proofs.ScopeBound.{scope-whole}
@@ -30,9 +30,6 @@ use Rattle.unfolding.specs.Scoped.{Scoped}
 use Rattle.unfolding.specs.Long.{longIn}
 use Rattle.meeting.specs.Meeting.{Scoping, EnvIs, BindingIs, BodyIs}
 use mathlib.Core.Logic.{inl, inr}
-
-abbrev env : List ℕ → List (List ℕ) → Env
-env ns vs = record { names = ns; vals = vs }
 
 -- the names from place top on, and as many values
 pub values-none : (ns : List ℕ) (vs : List Value) (ρ : Env) (top : ℕ) → ρ ≡ noNames → ρ ≡ env (take (top - top) ns) (map viewValue (take (top - top) vs))

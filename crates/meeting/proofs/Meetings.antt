@@ -1,9 +1,9 @@
 -- Meet on the structs: a law for each way that the code goes.
 use mathlib.Core.Path.{_≡_, refl, sym, ap, ap₂, subst, _∙_}
 use mathlib.Core.Bool.{Bool, true, false, cond}
-use mathlib.Core.List.{List, [], _∷_}
+use mathlib.Core.List.{List}
 use mathlib.Core.Logic.{_⊎_, ⊎-elim}
-use Prim.Native.Nat.{ℕ, zero, suc, _+_, _-_, _<_, _≤_}
+use Prim.Native.Nat.{ℕ, _+_, _-_, _<_, _≤_}
 use native.Mathlib.Omega.{arith}
 use borrow.Author.Tests.{leb-true, ltb-true, ltb-false, eqb-true}
 use lib.Dec.{leb, ltb, eqb}
@@ -17,7 +17,7 @@ use Rattle.model.specs.Unfolding.{unfolds, defined, particlesIn, boxesIn, newNa
 use Rattle.model.specs.Load.{Setting}
 use Rattle.model.specs.WellFormed.{envAt, wfParticle}
 use Rattle.model.specs.Step.{Moved, withContents, withParticles, without, meet, meetParticles, settled}
-use Rattle.model.proofs.Tests.{fst, snd}
+use Rattle.model.proofs.Tests.{fst, snd, length-gone}
 use Rattle.model.proofs.Growing.{CoreOk, core-ok}
 use Rattle.model.proofs.Environments.{Sized}
 use Rattle.values.specs.Env.{viewEnv}
@@ -151,10 +151,6 @@ module _ (t : Table) (side : ℕ) (o : Side) (i j : ℕ) (p q : Particle) (M : M
       number-refused _ o (w .offer) x k r e (z c ct (viewCore o) i j) ke says
 
 -- how many particles are left
-length-gone : {A : Type 0} (l : List A) (i : ℕ) → i < length l → suc (length (remove l i)) ≡ length l
-length-gone [] i h = absurd (omega arith)
-length-gone (x ∷ l) zero h = refl
-length-gone (x ∷ l) (suc i) h = ap suc (length-gone l i (omega arith))
 
 length-left : (again : Bool) (l : List MParticle) (i j : ℕ) → i < length l → j < length l → (i ≡ j → ⊥) → length (without again l i j) ≡ length l - cond again 1 2
 length-left true l i j p q n = omega (arith, length-gone l i p)

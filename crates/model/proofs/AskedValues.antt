@@ -6,7 +6,7 @@ use mathlib.Core.Logic.{_⊎_, inl, inr, ⊎-elim}
 use Prim.Native.Nat.{ℕ, suc, _+_, _≤_}
 use native.Mathlib.Nat.{zero-add, suc-add}
 use native.Mathlib.Omega.{arith}
-use borrow.Author.Tests.{leb-true, leb-false, le-leb, lt-ltb, le-ltb, ltb-true, ltb-false}
+use borrow.Author.Tests.{leb-true, leb-false, le-leb, lt-ltb, le-ltb, ltb-true, ltb-false, not-false}
 use lib.Dec.{leb, ltb, T}
 use lib.ListN.{length, length-append}
 use Rattle.calculus.specs.Syntax.{Val, Vals, nm, tup, vnil, vcons, AllV, AllVs, parent, plain}
@@ -21,7 +21,7 @@ use Rattle.model.specs.Process.{vwords, vswords, vcount, upto, valOf, ke
 use Rattle.model.specs.Agreement.{foreign, someName, enterable, mintedNumber, Says, says-tau, says-in, says-out}
 use Rattle.calculus.proofs.Renaming.{AllV-map}
 use Rattle.calculus.proofs.FreeNames.{mem-left, mem-right}
-use Rattle.model.proofs.Tests.{fst, snd, both, alt, alt-left, alt-right}
+use Rattle.model.proofs.Tests.{fst, snd, both, alt, alt-left, alt-right, append-nil, or-true}
 use Rattle.model.proofs.Keeping.{Spoken, shaped-words}
 use Rattle.model.proofs.Invariant.{known-held}
 use Rattle.model.proofs.KnownNames.{keep-in, held-minted, in-upto}
@@ -30,9 +30,6 @@ use Rattle.model.proofs.ValueWords.{worded, val-back, val-written, wfVa
 use Rattle.model.proofs.Labels.{none-all, T-not}
 
 -- names that may enter
-or-true : (a : Bool) → a || true ≡ true
-or-true true = refl
-or-true false = refl
 
 pub name-enterable : (x : ℕ) → isName x ≡ true → enterable x ≡ true
 name-enterable x e = ⊎-elim (λ p. let a = leb-true x 63 p in low (lt-ltb x 64 (omega arith)))
@@ -63,10 +60,6 @@ enterable-name x e = ⊎-elim
     and2 : (a b : Bool) → not a && b ≡ true → (a ≡ false) × (b ≡ true)
     and2 true b e = absurd (false≢true e)
     and2 false b e = (refl, e)
-
-not-not : (b : Bool) → not b ≡ false → b ≡ true
-not-not true e = refl
-not-not false e = absurd (false≢true (sym e))
 
 -- two properties of the names of a value are one
 mutual
@@ -151,10 +144,6 @@ mutual
       let a = length-append (vwords v) (vswords vs) in
       ap₂ (items isName 11) (append-assoc (vwords v) (vswords vs) r) (suc-add (vcount vs) n) ∙ reads-on v (vswords vs ++ r) (vcount vs + n) (omega arith) (h .0) ∙ reads-ons vs r n (omega arith) (h .1)
 
-append-nil : {A : Type 0} (l : List A) → l ++ [] ≡ l
-append-nil [] = refl
-append-nil (x ∷ xs) = ap (λ (l : List _). x ∷ l) (append-nil xs)
-
 value-of-names : (v : Val ℕ) → length (vwords v) ≤ 16 → AllV v (λ x. isName x ≡ true) → isValue (vwords v) ≡ true
 unfolding isValue
 value-of-names v l h = both _ _ (le-leb (length (vwords v)) 16 l) (items-shaped (vwords v) (ap (λ (w : List ℕ). items isName 11 w 1) (sym (append-nil (vwords v))) ∙ reads-on v [] 0 l h ∙ items-zero isName 11 []))
@@ -169,7 +158,7 @@ no-value v e = by-length (leb (length (vwords v)) 16) refl (foreign v) refl
     by-length : (t : Bool) → leb (length (vwords v)) 16 ≡ t → (u : Bool) → foreign v ≡ u → T (ltb 16 (length (vwords v))) ⊎ T (foreign v)
     by-length false p u q = inl (is-T _ (lt-ltb 16 (length (vwords v)) (leb-false (length (vwords v)) 16 p)))
     by-length true p true q = inr (is-T _ q)
-    by-length true p false q = absurd (false≢true (sym e ∙ value-of-names v (leb-true (length (vwords v)) 16 p) (AllV-map v (λ x h. enterable-name x (not-not (enterable x) h)) (none-all (λ n. not (enterable n)) v q))))
+    by-length true p false q = absurd (false≢true (sym e ∙ value-of-names v (leb-true (length (vwords v)) 16 p) (AllV-map v (λ x h. enterable-name x (not-false (enterable x) h)) (none-all (λ n. not (enterable n)) v q))))
 
 -- 12: the value has a minted name that is not known
 pub unknown-name : (s : State) (v : Val ℕ) → every (λ w. not (isMinted w) or known s w) (vwords v) ≡ false → T (someName (λ n. mintedNumber n && not (known s n)) (names v))

@@ -28,13 +28,12 @@ use Rattle.calculus.proofs.FreeNames.{eqb-sym}
 use Rattle.calculus.proofs.Trees.{Has, wf-has}
 use Rattle.calculus.proofs.Restriction.{RestrictInv}
 use Rattle.calculus.proofs.Bags.{item, at, Bag, bag-eq, bag-trans, bag-cons, ritems}
-use Rattle.model.proofs.Tests.{fst, both, every-append, every-one, every-set, length-remove}
+use Rattle.model.proofs.Tests.{fst, both, every-append, every-one, every-set, length-remove, get-every}
 use Rattle.model.proofs.KnownNames.{All}
 use Rattle.model.proofs.Splits.{get-pick}
 use Rattle.model.proofs.ItemMoves.{ids, forget, plainP, target, add-part}
 use Rattle.model.proofs.StateMoves.{wf-all}
 use Rattle.model.proofs.SideViews.{View}
-use Rattle.model.proofs.MeetTargets.{get-every}
 use Rattle.model.proofs.StateInversion.{item-at, ItemAt}
 use Rattle.model.proofs.ItemPlaces.{one-moved}
 use Rattle.model.proofs.Completing.{Completed, Answers, what-eq, site-eq, tagIn, chanIn, valIn, markIn}

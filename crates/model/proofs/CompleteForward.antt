@@ -28,7 +28,7 @@ use Rattle.model.specs.Process.{Mark, lobby, shelf, passer, taker, inert
 use Rattle.model.specs.Agreement.{plainly, At, Asks, asks-tau, Says, says-tau, Met, Excused, by-17, lobby-full, answerSide, enter, goDown, goUp, descend, meet, pass, leave, take}
 use Rattle.calculus.proofs.Inversion.{after}
 use Rattle.calculus.proofs.Bags.{item, at, Bag, bag-eq, bag-trans, bag-cons, bag-mid, bag-sym, ritem, ritems, ritems-app}
-use Rattle.model.proofs.Tests.{both, snd}
+use Rattle.model.proofs.Tests.{both, snd, get-every, not-empty, head-eq, tail-eq}
 use Rattle.model.proofs.Keeping.{pass-keeps}
 use Rattle.model.proofs.Invariant.{settled-is, core-short, core-limits}
 use Rattle.model.proofs.KnownNames.{All}
@@ -38,11 +38,10 @@ use Rattle.model.proofs.ItemMoves.{ids, forget, plainM, target, par-of,
 use Rattle.model.proofs.StateMoves.{wf-all, rooted-all}
 use Rattle.model.proofs.SideViews.{View, new-same}
 use Rattle.model.proofs.TakeMoves.{OnShelf, later, took, took-state, taken-bag, same-boxes, same-new}
-use Rattle.model.proofs.MeetTargets.{get-every}
 use Rattle.model.proofs.StateInversion.{silent-target, rename-of, item-at}
-use Rattle.model.proofs.ItemPlaces.{head-eq, tail-eq, two-changed}
+use Rattle.model.proofs.ItemPlaces.{two-changed}
 use Rattle.model.proofs.Completing.{Completed, Inv, inv-at, Answers, step2, added, what-eq, tagIn, chanIn, valIn, markIn, received, on-some, forwarded}
-use Rattle.model.proofs.WrapperLevel.{not-empty, Input, enters-of, passes-of, takes-of, input-is, Sent, of-lobby, of-shelf, output-is}
+use Rattle.model.proofs.WrapperLevel.{Input, enters-of, passes-of, takes-of, input-is, Sent, of-lobby, of-shelf, output-is}
 
 -- THE SHELF
 

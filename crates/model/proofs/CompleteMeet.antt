@@ -38,7 +38,6 @@ use Rattle.model.proofs.ItemMoves.{ids, forget, plainP, plain-part, tar
 use Rattle.model.proofs.SideViews.{View, view1, view2}
 use Rattle.model.proofs.BoxOrder.{Orient, Away, away-app, away-side, away-shelf, away-forwarders, z2, orient1, orient2}
 use Rattle.model.proofs.ParticlePairs.{leaves, before-bag, behind-bag}
-use Rattle.model.proofs.MeetTargets.{get-every}
 use Rattle.model.proofs.MeetMoves.{after-is, body-is}
 use Rattle.model.proofs.Sound.{reach2}
 use Rattle.model.proofs.StateInversion.{item-at}
@@ -46,6 +45,7 @@ use Rattle.model.proofs.Completing.{Completed, Answers, answers1, answe
 use Rattle.model.proofs.TwoItems.{not-away, set-swap, two-at, two-changed, two-parts, pair-of}
 use Rattle.model.proofs.MatchingBack.{MatchedBack}
 use Rattle.model.proofs.MeetAnswer.{meet-step, mb, same-σ, answered}
+use Rattle.model.proofs.Tests.{get-every}
 
 -- the step at the place of two particles of one side
 parts-step : {k : Step} {w : Participants Mark} → At k w → (σ i j : ℕ) → w ≡ two (part σ i) (part σ j) → k ≡ meet-step σ i j

@@ -33,7 +33,7 @@ use Rattle.calculus.proofs.Equivariance.{lren}
 use Rattle.calculus.proofs.Restriction.{RestrictInv, minus}
 use Rattle.calculus.proofs.TreeMoves.{Move, sends}
 use Rattle.calculus.proofs.Bags.{item, at, Bag, bag-eq, bag-trans, ritems, ritems-app}
-use Rattle.model.proofs.Tests.{fst, snd, every-remove, length-remove}
+use Rattle.model.proofs.Tests.{fst, snd, every-remove, length-remove, get-every}
 use Rattle.model.proofs.Keeping.{shaped-words}
 use Rattle.model.proofs.Items.{shaped-items}
 use Rattle.model.proofs.Invariant.{settled-is, core-short, core-limits}
@@ -45,7 +45,6 @@ use Rattle.model.proofs.StateMoves.{same-bags, wf-all}
 use Rattle.model.proofs.NamesLeaving.{new-left}
 use Rattle.model.proofs.SideViews.{View}
 use Rattle.model.proofs.SideSteps.{few-two}
-use Rattle.model.proofs.MeetTargets.{get-every}
 use Rattle.model.proofs.StateInversion.{transitions, target-of, rename-of, item-at, ItemAt, atoms-at, items-atoms, fn-sel}
 use Rattle.model.proofs.AskedValues.{value-written, not-strange}
 use Rattle.model.proofs.Completing.{Completed, Inv, inv-at, Answers, own-unknown, what-eq, tagIn, chanIn, valIn, markIn}

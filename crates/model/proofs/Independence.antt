@@ -7,7 +7,7 @@ use Prim.Native.Nat.{ℕ, zero, suc, _<_}
 use native.Mathlib.Omega.{arith}
 use borrow.Author.Tests.{leb-true, eqb-true}
 use lib.Dec.{eqb}
-use lib.ListN.{length, getD, set, length-set}
+use lib.ListN.{length, getD, set}
 use lib.Seq.{getD-set-same}
 use Rattle.model.specs.Basics.{_or_, choose, Res, refuse, done, has, every}
 use Rattle.model.specs.Values.{isMinted}
@@ -18,7 +18,7 @@ use Rattle.model.specs.WellFormed.{wfState, wfSide, ready}
 use Rattle.model.specs.Step.{Step, Label, silent, enters, leaves, Moved, labelled, step, settled, local, local2, enter, marks, marked, markAll, mark1, markOf, answerOf, sideAfter, known}
 use Rattle.model.specs.Runs.{isSide1, side1Steps, Seen, sees, afterAll, leftBy1, leftEarlier, premise, Independence}
 use Rattle.model.proofs.Tests.{or-cases, has-append, fst, snd, both, alt}
-use Rattle.model.proofs.Invariant.{keeps}
+use Rattle.model.proofs.Invariant.{keeps, mark1-size}
 use Rattle.model.proofs.Starts.{loadSide-ok, starts}
 
 -- side 1 alone: it knows the names that left by its own outlet
@@ -79,14 +79,6 @@ mark1-keeps l v w e = go (isMinted v) refl
     go true m = rw m (set-keeps l (markOf v) (markOf w) e)
     go false m = rw m e
 
-mark1-length : (l : List Bool) (v : ℕ) → length (mark1 l v) ≡ length l
-unfolding mark1
-mark1-length l v = go (isMinted v) refl
-  where
-    go : (t : Bool) → isMinted v ≡ t → length (mark1 l v) ≡ length l
-    go true m = rw m (length-set l (markOf v) true)
-    go false m = rw m
-
 mark1-marks : (l : List Bool) (w : ℕ) → length l ≡ 512 → isMinted w ≡ true → marked (mark1 l w) w ≡ true
 unfolding mark1
 mark1-marks l w n m = rw m (getD-set-same l (markOf w) true false (rw n (minted-place w m)))
@@ -99,7 +91,7 @@ markAll-marks : (vs : List ℕ) (l : List Bool) (w : ℕ) → length l ≡ 512 �
 markAll-marks [] l w n h m = absurd (false≢true h)
 markAll-marks (v ∷ vs) l w n h m =
     ⊎-elim (λ p. let q : w ≡ v = eqb-true w v p in rw (← q) (markAll-keeps vs (mark1 l w) w (mark1-marks l w n m)))
-    (λ p. markAll-marks vs (mark1 l v) w (mark1-length l v ∙ n) p m)
+    (λ p. markAll-marks vs (mark1 l v) w (mark1-size l v ∙ n) p m)
     (or-cases (eqb w v) (has w vs) h)
 
 -- the marks cover what has left, after an answer too

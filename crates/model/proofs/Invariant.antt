@@ -17,7 +17,7 @@ use Rattle.model.specs.Side.{withinLimits, limits, Core, Side, State, Pa
 use Rattle.model.specs.Load.{Setting, Composition, setting1, setting2, isPipeline, load, isOk, Loaded, loadSide, start}
 use Rattle.model.specs.WellFormed.{Counts, held, heldWord, wfValue, wfParticle, wfLeft, wfSide, isNoSide, wfTaken, wfState, clear, counts, ready}
 use Rattle.model.specs.Step.{short, Step, Label, silent, enters, leaves, Moved, local, local2, inner, marks, marked, markAll, mark1, markOf, known, step, settled, sideAfter}
-use Rattle.model.proofs.Tests.{or-cases, and-right, fst, snd, both, alt, alt-right, every-mono, need-done, choose-done, bind-done}
+use Rattle.model.proofs.Tests.{or-cases, and-right, fst, snd, both, alt, alt-right, every-mono, need-done, choose-done, bind-done, cond-true}
 use Rattle.model.proofs.Growing.{Le, CoreOk, core-ok, core-wf, core-mono, wfLeft-mono}
 use Rattle.model.proofs.Keeping.{Spoken, spoken-held, Kept, done-inj, enter-keeps, down-keeps, up-keeps, descend-keeps, pass-keeps, leave-keeps, takes-keeps}
 use Rattle.model.proofs.Items.{clash}
@@ -121,7 +121,7 @@ mark1-wf k l w h e = go (isMinted w) refl
         not-public : (w : ℕ) → isMinted w ≡ true → w ≤ 63 → ⊥
         not-public w m a = ⊎-elim (λ p. let b = leb-true 65536 w (fst _ _ p) in omega arith) (λ p. let b = leb-true 131072 w (fst _ _ p) in omega arith) (alt (leb 65536 w & leb w 65791) (leb 131072 w & leb w 131327) m)
 
-mark1-size : (l : List Bool) (w : ℕ) → length (mark1 l w) ≡ length l
+pub mark1-size : (l : List Bool) (w : ℕ) → length (mark1 l w) ≡ length l
 unfolding mark1
 mark1-size l w = go (isMinted w)
   where
@@ -171,10 +171,6 @@ clear-none : (l : List Bool) (i : ℕ) → clear l ≡ true → getD l i false �
 clear-none [] i h e = false≢true e
 clear-none (x ∷ xs) zero h e = false≢true (rw e at (fst _ _ h))
 clear-none (x ∷ xs) (suc i) h e = clear-none xs i (snd _ _ h) e
-
-cond-true : (t a b : Bool) → t ≡ true → cond t a b ≡ true → a ≡ true
-cond-true true a b e h = h
-cond-true false a b e h = absurd (false≢true e)
 
 true-cond : (t a b : Bool) → t ≡ true → a ≡ true → cond t a b ≡ true
 true-cond true a b e h = h

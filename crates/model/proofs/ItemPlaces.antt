@@ -23,17 +23,12 @@ use Rattle.calculus.proofs.Bags.{item, at, select-app, ritem, ritems, ritems-ap
 use Rattle.model.proofs.Splits.{numbered-map}
 use Rattle.model.proofs.ItemMoves.{ids, forget, plainM, plainP, plain-part, plain-msg, whole, target}
 use Rattle.model.proofs.StateInversion.{ItemAt}
+use Rattle.model.proofs.Tests.{head-eq, tail-eq}
 
 -- a list split at an element, in its first part or in its second
 pub data Part {A : Type 0} (L R X : List A) (i : A) (Y : List A) : Type 0 where
   in-first : (Y1 : List A) → L ≡ X ++ i ∷ Y1 → Y ≡ Y1 ++ R → Part L R X i Y
   in-second : (X1 : List A) → R ≡ X1 ++ i ∷ Y → X ≡ L ++ X1 → Part L R X i Y
-
-pub head-eq : {A : Type 0} {x y : A} {l m : List A} → x ∷ l ≡ y ∷ m → x ≡ y
-head-eq e = cc
-
-pub tail-eq : {A : Type 0} {x y : A} {l m : List A} → x ∷ l ≡ y ∷ m → l ≡ m
-tail-eq e = cc
 
 pub part-of : {A : Type 0} (L R X : List A) (i : A) (Y : List A) → L ++ R ≡ X ++ i ∷ Y → Part L R X i Y
 part-of [] R X i Y e = in-second X e refl

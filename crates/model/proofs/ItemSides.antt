@@ -28,14 +28,13 @@ use Rattle.model.specs.Agreement.{plainly, At, asks-tau, Says, says-tau,
 use Rattle.calculus.proofs.Trees.{Has, here, there}
 use Rattle.calculus.proofs.Restriction.{RestrictInv}
 use Rattle.calculus.proofs.Bags.{item, at, Bag, bag-eq, bag-trans, bag-sym, bag-cons, bag-mid, ritem, ritems, ritems-app}
-use Rattle.model.proofs.Tests.{fst, snd, both}
+use Rattle.model.proofs.Tests.{fst, snd, both, get-every, not-empty}
 use Rattle.model.proofs.Invariant.{settled-is, core-short}
 use Rattle.model.proofs.Checked.{Checked}
 use Rattle.model.proofs.ItemFacts.{InputAt, input-at}
 use Rattle.model.proofs.StateTree.{two-none}
 use Rattle.model.proofs.ItemMoves.{ids, forget, plainM, plainP, target, gone-bag}
 use Rattle.model.proofs.SideViews.{View, view1, view2, new-same}
-use Rattle.model.proofs.MeetTargets.{get-every}
 use Rattle.model.proofs.StateInversion.{rename-of, silent-target}
 use Rattle.model.proofs.ItemPlaces.{Where, beside, behind, where-of}
 use Rattle.model.proofs.ItemPlaces.{message as message', particle as particle'}
@@ -52,10 +51,6 @@ pub data Stands (b : Composition) (s : State) (X : List (Item Mark)) (i : Item M
       → ritems forget X ++ ritems forget Y ≡ target (b .wrapper) (vw .c .side) (vw .c .table) (vw .C) (vw .D) (vw .core) (vw .core .lobby) (remove (vw .core .contents .particles) j)
       → ((q : Particle) → ritems forget X ++ plainP (vw .c .table) (vw .c .side) q ∷ ritems forget Y ≡ target (b .wrapper) (vw .c .side) (vw .c .table) (vw .C) (vw .D) (vw .core) (vw .core .lobby) (set (vw .core .contents .particles) j q))
       → Stands b s X i Y
-
-not-empty : {A : Type 0} (X : List A) (y : A) (Y : List A) → [] ≡ X ++ y ∷ Y → ⊥
-not-empty [] y Y q = let z : _≡_ {A = ℕ} 0 (suc (length Y)) = ap length q in omega arith
-not-empty (w ∷ X) y Y q = let z : _≡_ {A = ℕ} 0 (suc (length (X ++ y ∷ Y))) = ap length q in omega arith
 
 -- a box of the state by its place
 pub record BoxAt (s : State) (c : Place Mark) : Type 0 where

@@ -5,7 +5,7 @@ use mathlib.Core.List.{List, [], _∷_, _++_}
 use mathlib.Core.Logic.{_⊎_, inl, inr, ⊎-elim}
 use Prim.Native.Nat.{ℕ, suc, _<_}
 use native.Mathlib.Omega.{arith}
-use borrow.Author.Tests.{leb-true, ltb-true, eqb-true}
+use borrow.Author.Tests.{leb-true, ltb-true, eqb-true, not-false}
 use lib.Dec.{ltb, eqb, T}
 use lib.ListN.{length}
 use Rattle.calculus.specs.Syntax.{Val, Vals, nm, tup, vnil, vcons, AllV, AllVs, plain}
@@ -68,10 +68,6 @@ enterable-small x e = ⊎-elim
     and-r true b e = e
     and-r false b e = absurd (false≢true e)
 
-not-not : (b : Bool) → not b ≡ false → b ≡ true
-not-not true e = refl
-not-not false e = absurd (false≢true (sym e))
-
 not-tuple : (x : ℕ) → x < 4000000 → isTuple x ≡ false
 not-tuple x l = go (isTuple x) refl
   where
@@ -83,7 +79,7 @@ all-map : {A B : ℕ → Type 0} (v : Val ℕ) → ((x : ℕ) → A x → B x) �
 all-map v f h = AllV-map v f h
 
 pub usual : (v : Val ℕ) → T (not (foreign v)) → AllV v (λ x. isTuple x ≡ false)
-usual v h = all-map v (λ x e. not-tuple x (let l = enterable-small x (not-not (enterable x) e) in omega arith)) (none-all (λ n. not (enterable n)) v (T-not (foreign v) h))
+usual v h = all-map v (λ x e. not-tuple x (let l = enterable-small x (not-false (enterable x) e) in omega arith)) (none-all (λ n. not (enterable n)) v (T-not (foreign v) h))
 
 -- the value that words are, and the label's value
 pub label-val : (ws : List ℕ) (v : Val ℕ) → every worded ws ≡ true → ws ≡ vwords v → T (not (foreign v)) → valOf ws ≡ v

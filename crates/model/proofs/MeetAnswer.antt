@@ -31,12 +31,12 @@ use Rattle.calculus.proofs.Trees.{Reach}
 use Rattle.calculus.proofs.NamedProcesses.{inst-defined}
 use Rattle.calculus.proofs.Restriction.{RestrictInv}
 use Rattle.calculus.proofs.Bags.{item, at, Bag, ritems}
-use Rattle.model.proofs.Tests.{fst, snd, both}
+use Rattle.model.proofs.Tests.{fst, snd, both, some-inj, length-gone}
 use Rattle.model.proofs.Counts.{Added, unfolds-adds}
 use Rattle.model.proofs.MeetingKeeps.{every-without}
 use Rattle.model.proofs.Invariant.{settled-is, core-short}
 use Rattle.model.proofs.ItemFacts.{InputAt}
-use Rattle.model.proofs.Splits.{some-inj, get-pick, get-length}
+use Rattle.model.proofs.Splits.{get-pick, get-length}
 use Rattle.model.proofs.ItemMoves.{forget, target}
 use Rattle.model.proofs.SideViews.{View}
 use Rattle.model.proofs.Substitutions.{name-word, tag-words}
@@ -70,10 +70,6 @@ comp-fit ρ (suc (suc n)) (toChild m) e = absurd (let z : _≡_ {A = ℕ} 0 1 = 
 comp-fit ρ (suc (suc n)) (fromChild m) e = let q : word ρ n ≡ m = cc in eq-eqb m (word ρ n) (sym q)
 
 -- how many particles a meeting leaves
-length-gone : {A : Type 0} (l : List A) (i : ℕ) → i < length l → suc (length (remove l i)) ≡ length l
-length-gone [] i h = absurd (omega arith)
-length-gone (x ∷ l) zero h = refl
-length-gone (x ∷ l) (suc i) h = ap suc (length-gone l i (omega arith))
 
 length-without : (again : Bool) (l : List Particle) (i j : ℕ) → i < length l → j < length l → (i ≡ j → ⊥) → length (without again l i j) + 2 ≡ length l + stays again
 length-without true l i j p q n = omega (arith, length-gone l i p)

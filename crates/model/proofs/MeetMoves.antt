@@ -30,7 +30,7 @@ use Rattle.calculus.proofs.Inversion.{after as afterM}
 use Rattle.calculus.proofs.NamedProcesses.{proc-inst, inst-defined}
 use Rattle.calculus.proofs.Trees.{Reach}
 use Rattle.calculus.proofs.Bags.{item}
-use Rattle.model.proofs.Tests.{fst, snd, need-done, bind-done, every-append}
+use Rattle.model.proofs.Tests.{fst, snd, need-done, bind-done, every-append, get-every}
 use Rattle.model.proofs.Keeping.{done-inj, roomy-of, at-limits}
 use Rattle.model.proofs.Items.{clash, shaped-items, matches-wf}
 use Rattle.model.proofs.Environments.{Sized}
@@ -49,7 +49,7 @@ use Rattle.model.proofs.Matching.{Bound, bound, env-pat}
 use Rattle.model.proofs.BoxOrder.{Orient}
 use Rattle.model.proofs.ParticlePairs.{leaves, go-meet}
 use Rattle.model.proofs.UnfoldingGrows.{mt}
-use Rattle.model.proofs.MeetTargets.{fit-comp, get-every, grown-goes}
+use Rattle.model.proofs.MeetTargets.{fit-comp, grown-goes}
 
 -- an input's two ends, by mode
 pub after-is : (again : Bool) (t : Mark) (x : ℕ) (ι : ITag ℕ) (p : Pat) (B : Proc Mark (p ∷ [])) (σ : Vars p → Val ℕ) → afterM (modeOf again) t x ι p B σ ≡ leaves again (pinp (modeOf again) t x ι p B) (inst B σ)

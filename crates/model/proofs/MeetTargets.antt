@@ -3,15 +3,14 @@ use mathlib.Core.Path.{_≡_, refl, sym, ap, ap₂, _∙_, subst, subst₂, tran
 use mathlib.Core.Bool.{Bool, true, false, cond, false≢true}
 use mathlib.Core.List.{List, [], _∷_, _++_, map, append-assoc}
 use mathlib.Core.Logic.{_⊎_, ⊎-elim}
-use mathlib.Core.Option.{some}
-use Prim.Native.Nat.{ℕ, zero, suc, _<_, _≤_}
+use Prim.Native.Nat.{ℕ, _<_, _≤_}
 use native.Mathlib.Omega.{arith}
 use borrow.Author.Tests.{leb-true, ltb-true, eqb-true, ne-eqb}
 use lib.Dec.{eqb}
-use lib.ListN.{length, getElem?}
+use lib.ListN.{length}
 use Rattle.calculus.specs.Syntax.{Proc, remark, comp, receivedChild}
 use Rattle.calculus.specs.Congruence.{_≋_, rfl, symm, trans}
-use Rattle.calculus.specs.Transitions.{In, restrict, tau, Participants, one, two, names, Out∉}
+use Rattle.calculus.specs.Transitions.{In, restrict, tau, Participants, one, two, names}
 use Rattle.calculus.specs.Transitions.{Step as Trans}
 use Rattle.calculus.specs.Tree.{fill}
 use Rattle.calculus.specs.Tree.{Item, select, Conf}
@@ -29,7 +28,7 @@ use Rattle.model.specs.Step.{tagsFit, withContents, withParticles}
 use Rattle.model.specs.Process.{Mark, siteOf, codeOf, envOf, tagOut, placesOf, confAs, confOf, newOf, knownOf}
 use Rattle.model.specs.Agreement.{plainly}
 use Rattle.calculus.proofs.Marks.{remark-news, remark-all}
-use Rattle.calculus.proofs.Restriction.{under-news, Eachn}
+use Rattle.calculus.proofs.Restriction.{under-news}
 use Rattle.calculus.proofs.Extrusion.{in-news}
 use Rattle.calculus.proofs.Bags.{item, at, Bag, bag-refl, bag-eq, bag-trans, bag-sym, bag-cons, bag-comm, bag-app, bag-fill, select-app, ritems, rplaces, remark-bag}
 use Rattle.model.proofs.Tests.{fst, snd, every-mono}
@@ -42,7 +41,7 @@ use Rattle.model.proofs.HandlerTerms.{fits-sound}
 use Rattle.model.proofs.ItemFacts.{Each, each-app, part-in, env-in, env-names}
 use Rattle.model.proofs.StateTree.{few-one}
 use Rattle.model.proofs.ItemMoves.{forget, plainM, plainP, Moves, whole, target, whole°}
-use Rattle.model.proofs.StateMoves.{Goes, fn-all, good-all}
+use Rattle.model.proofs.StateMoves.{Goes, fn-all, good-all, no-names}
 use Rattle.model.proofs.SideViews.{View}
 use Rattle.model.proofs.SideSteps.{few-two, each-now}
 use Rattle.model.proofs.UnfoldedTerms.{confS, unfolded}
@@ -93,15 +92,6 @@ plain-items b t I = remark-news forget (newOf b t) (fill (confOf b t .boxes) (at
 
 pub plain-process : (b : Composition) (t : State) → plainly (process (confOf b t)) ≡ restrict (newOf b t) (fill (rplaces forget (confOf b t .boxes)) (at (ritems forget (confOf b t .items))))
 plain-process b t = ap plainly (process-is b t) ∙ plain-items b t (confOf b t .items)
-
-no-names : (N : List ℕ) → Eachn (Out∉ []) N
-no-names [] = tt
-no-names (x ∷ N) = (refl, no-names N)
-
-pub get-every : {A : Type 0} (f : A → Bool) (l : List A) (i : ℕ) (x : A) → every f l ≡ true → getElem? l i ≡ some x → f x ≡ true
-get-every f [] i x h e = absurd (let z : _≡_ {A = ℕ} 0 1 = cc in omega arith)
-get-every f (y ∷ l) zero x h e = let q : y ≡ x = cc in subst (λ (z : _). f z ≡ true) q (fst _ _ h)
-get-every f (y ∷ l) (suc i) x h e = get-every f l i x (snd _ _ h) e
 
 module _ (b : Composition) (s : State) (e : ready b s ≡ true) (vw : View b s) (ori : Orient b s vw)
     (own : ((vw .c .side ≡ 1) × (vw .core .contents .minted ≡ s .one .core .contents .minted)) ⊎ ((vw .c .side ≡ 2) × (vw .core .contents .minted ≡ s .two .core .contents .minted))) where

@@ -20,10 +20,7 @@ use Rattle.model.proofs.Tests.{fst, snd, alt}
 use Rattle.model.proofs.ValueWords.{worded, val-written, names-words}
 use Rattle.model.proofs.KnownNames.{is-true, out-of, own-low, minted-high, keep-out}
 use Rattle.model.proofs.NamesLeaving.{minted-is, own-unworded}
-
-T-true : (b : Bool) → T b → b ≡ true
-T-true true h = refl
-T-true false h = absurd h
+use Rattle.calculus.proofs.Parallels.{T-true}
 
 pub every-mem : (f : ℕ → Bool) (ws : List ℕ) (x : ℕ) → every f ws ≡ true → T (mem x ws) → f x ≡ true
 every-mem f [] x h m = absurd m

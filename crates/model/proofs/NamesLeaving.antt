@@ -7,7 +7,7 @@ use Prim.Native.Nat.{ℕ, _<_, _≤_}
 use native.Mathlib.Omega.{arith}
 use borrow.Author.Tests.{leb-true, eqb-true, eq-eqb, le-leb, ne-eqb, eqb-false}
 use lib.Dec.{leb, eqb, T}
-use lib.ListN.{length, getD, set, length-set}
+use lib.ListN.{length, getD, set}
 use lib.Seq.{getD-set-same, getD-set-other}
 use Rattle.calculus.specs.Transitions.{mem, names}
 use Rattle.model.specs.Basics.{_&_, _or_, done, every}
@@ -21,6 +21,7 @@ use Rattle.calculus.proofs.FreeNames.{mem-cases, or-cases, or-left, or-right}
 use Rattle.model.proofs.Tests.{fst, snd, both, alt, alt-left, alt-right}
 use Rattle.model.proofs.KnownNames.{is-true, out-of, upto-out, own-low, minted-high}
 use Rattle.model.proofs.ValueWords.{worded, val-written, names-words}
+use Rattle.model.proofs.Invariant.{mark1-size}
 
 -- a minted name's place is its own
 place-own : (x w : ℕ) → isMinted x ≡ true → isMinted w ≡ true → markOf x ≡ markOf w → x ≡ w
@@ -45,14 +46,6 @@ place-low : (x : ℕ) → isMinted x ≡ true → markOf x < 512
 place-low x p = ⊎-elim
     (λ a. let a0 = leb-true 65536 x (fst _ _ a) in let a1 = leb-true x 65791 (snd _ _ a) in omega arith)
     (λ a. let a0 = leb-true 131072 x (fst _ _ a) in let a1 = leb-true x 131327 (snd _ _ a) in omega arith) (alt _ _ p)
-
-mark1-size : (l : List Bool) (w : ℕ) → length (mark1 l w) ≡ length l
-unfolding mark1
-mark1-size l w = go (isMinted w)
-  where
-    go : (b : Bool) → length (cond b (set l (markOf w) true) l) ≡ length l
-    go true = length-set l (markOf w) true
-    go false = refl
 
 marked-one : (l : List Bool) (w x : ℕ) → length l ≡ 512 → isMinted x ≡ true → marked (mark1 l w) x ≡ marked l x || eqb x w
 unfolding mark1

@@ -4,7 +4,7 @@ use mathlib.Core.Bool.{Bool, true, false}
 use mathlib.Core.List.{List, [], _∷_, _++_}
 use mathlib.Core.Logic.{⊎-elim}
 use mathlib.Core.Option.{some}
-use Prim.Native.Nat.{ℕ, zero, suc, _+_, _<_, _≤_}
+use Prim.Native.Nat.{ℕ, _+_, _<_, _≤_}
 use native.Mathlib.Omega.{arith}
 use borrow.Author.Tests.{leb-true, eqb-true}
 use lib.Dec.{eqb}
@@ -13,7 +13,7 @@ use Rattle.calculus.specs.Syntax.{plain}
 use Rattle.calculus.specs.Syntax.{parent as iparent}
 use Rattle.calculus.specs.Transitions.{Label, tau, send, recv, Participants, one, two}
 use Rattle.calculus.specs.Tree.{Item}
-use Rattle.model.specs.Basics.{done, every, remove}
+use Rattle.model.specs.Basics.{done, remove}
 use Rattle.model.specs.Values.{isValue, items}
 use Rattle.model.specs.Side.{Message, Core, State, down, limits}
 use Rattle.model.specs.Load.{Composition, isPipeline}
@@ -23,7 +23,7 @@ use Rattle.model.specs.Process.{Mark, part, boxed, lobby, shelf, enterer
 use Rattle.model.specs.Agreement.{At, Asks, asks-in, asks-out, asks-tau}
 use Rattle.calculus.proofs.Trees.{Reach}
 use Rattle.calculus.proofs.Bags.{bag-eq}
-use Rattle.model.proofs.Tests.{fst, snd, need-done, choose-done}
+use Rattle.model.proofs.Tests.{fst, snd, need-done, choose-done, get-every}
 use Rattle.model.proofs.Keeping.{shaped-words}
 use Rattle.model.proofs.Items.{clash, shaped-items}
 use Rattle.model.proofs.ValueWords.{val-written}
@@ -37,11 +37,6 @@ use Rattle.model.proofs.NamesEntering.{enter-fresh}
 use Rattle.model.proofs.SideViews.{View, new-same}
 use Rattle.model.proofs.Labels.{SaysInv, label-val, empty-words, at-enter, at-down, at-up, at-descend, at-meet, at-pass, at-leave}
 use Rattle.model.proofs.SideMoves.{Quiet, Up, quiet, shelved, up-zero, down-quiet, up-moves, descend-quiet, pass-quiet, leave-moves, enter-moves}
-
-get-every : {A : Type 0} (f : A → Bool) (l : List A) (i : ℕ) (x : A) → every f l ≡ true → getElem? l i ≡ some x → f x ≡ true
-get-every f [] i x h e = absurd (let z : _≡_ {A = ℕ} 0 1 = cc in omega arith)
-get-every f (y ∷ l) zero x h e = let q : y ≡ x = cc in subst (λ (z : _). f z ≡ true) q (fst _ _ h)
-get-every f (y ∷ l) (suc i) x h e = get-every f l i x (snd _ _ h) e
 
 module _ (b : Composition) (s : State) (e : ready b s ≡ true) where
   pub few-two : s .two .core .contents .minted ≤ 256

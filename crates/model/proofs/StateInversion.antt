@@ -30,7 +30,7 @@ use Rattle.calculus.proofs.Trees.{same}
 use Rattle.calculus.proofs.FreeNames.{eqb-true}
 use Rattle.calculus.proofs.TreeMoves.{Atom, Move, term-moves}
 use Rattle.calculus.proofs.Bags.{item, at, Bag, ritems}
-use Rattle.model.proofs.Tests.{fst, snd}
+use Rattle.model.proofs.Tests.{fst, snd, some-inj}
 use Rattle.model.proofs.KnownNames.{All, held-in, low-in}
 use Rattle.model.proofs.ItemFacts.{each-at, part-atom}
 use Rattle.model.proofs.StateTree.{one-ok, two-ok, two-none, one-checked, two-checked, items-each}
@@ -52,9 +52,6 @@ atoms-numbered f g h n (x ∷ l) e = (h n x (fst _ _ e), atoms-numbered f g h (s
 
 no-some : {A : Type 0} {a : A} → none ≡ some a → ⊥
 no-some e = let z : _≡_ {A = ℕ} 0 1 = cc in omega arith
-
-some-inj : {A : Type 0} {a b : A} → some a ≡ some b → a ≡ b
-some-inj e = cc
 
 pub atoms-at : {M : Type 0} (I : List (Item M)) → Atoms I → (k i : ℕ) (P : Proc M []) → getElem? (select I k) i ≡ some P → Atom P
 atoms-at [] h k i P e = absurd (no-some e)

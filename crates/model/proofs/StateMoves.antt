@@ -33,7 +33,7 @@ pub record Goes (b : Composition) (s s' : State) (l : Label) (w : Participants M
   pub step : Trans (knownOf s) (process (confOf b s)) l w R
   pub to : plainly R ≋ plainly (process (confOf b s'))
 
-no-names : (N : List ℕ) → Eachn (Out∉ []) N
+pub no-names : (N : List ℕ) → Eachn (Out∉ []) N
 no-names [] = tt
 no-names (x ∷ N) = (refl, no-names N)
 

@@ -25,7 +25,7 @@ use Rattle.model.specs.Process.{Mark, part, lobby, shelf, ownName, siteO
 use Rattle.calculus.proofs.Trees.{Reach}
 use Rattle.calculus.proofs.Marks.{remark-news}
 use Rattle.calculus.proofs.Bags.{at, ritem, ritems, ritems-app, rplaces, remark-bag}
-use Rattle.model.proofs.Tests.{fst, snd}
+use Rattle.model.proofs.Tests.{fst, snd, cond-true}
 use Rattle.model.proofs.Growing.{CoreOk, core-ok}
 use Rattle.model.proofs.Checked.{Checked}
 use Rattle.model.proofs.Invariant.{load-checked}
@@ -40,10 +40,6 @@ empty (x ∷ l) e = let z = eqb-true (suc (length l)) 0 e in absurd (omega arith
 cond-false : (t a b : Bool) → t ≡ false → cond t a b ≡ true → b ≡ true
 cond-false true a b e h = absurd (false≢true (sym e))
 cond-false false a b e h = h
-
-cond-true : (t a b : Bool) → t ≡ true → cond t a b ≡ true → a ≡ true
-cond-true true a b e h = h
-cond-true false a b e h = absurd (false≢true e)
 
 module _ (b : Composition) (s : State) (e : ready b s ≡ true) where
   pub wf-of : wfState b s ≡ true

@@ -2,7 +2,7 @@
 use mathlib.Core.Path.{_≡_, refl, sym, ap, ap₂, _∙_, subst, subst₂}
 use mathlib.Core.Bool.{Bool, true, false, cond, false≢true}
 use mathlib.Core.List.{List, [], _∷_, _++_, map}
-use mathlib.Core.Option.{none, some}
+use mathlib.Core.Option.{some}
 use Prim.Native.Nat.{ℕ, zero, suc, _+_, _<_, _≤_}
 use native.Mathlib.Omega.{arith}
 use borrow.Author.Tests.{eq-eqb}
@@ -20,21 +20,13 @@ use Rattle.model.specs.Process.{Mark, siteOf, numbered, partItem, msgIte
 use Rattle.calculus.proofs.Trees.{same, fill-cong, upd-same, upd-other}
 use Rattle.calculus.proofs.FreeNames.{eqb-true}
 use Rattle.calculus.proofs.Bags.{item, at, select-app, ritem, ritems, ritems-app}
-use Rattle.model.proofs.Splits.{some-inj, numbered-map}
+use Rattle.model.proofs.Splits.{numbered-map}
 use Rattle.model.proofs.ItemMoves.{ids, forget, plainM, plainP, plain-part, plain-msg, whole, target}
 use Rattle.model.proofs.BoxOrder.{Away}
 use Rattle.model.proofs.ParticlePairs.{PairAt, two-out, one-first, one-second}
 use Rattle.model.proofs.StateInversion.{item-at}
 use Rattle.model.proofs.ItemPlaces.{Part, part-of, in-first, in-second, numbered-at}
-
-nothing : {A : Type 0} {x : A} → none ≡ some x → ⊥
-nothing e = let z : _≡_ {A = ℕ} 0 1 = cc in omega arith
-
-head-eq : {A : Type 0} {x y : A} {l m : List A} → x ∷ l ≡ y ∷ m → x ≡ y
-head-eq e = cc
-
-tail-eq : {A : Type 0} {x y : A} {l m : List A} → x ∷ l ≡ y ∷ m → l ≡ m
-tail-eq e = cc
+use Rattle.model.proofs.Tests.{nothing, some-inj, head-eq, tail-eq}
 
 -- two places set, in either order
 pub set-swap : {A : Type 0} (l : List A) (i j : ℕ) (x y : A) → (i ≡ j → ⊥) → set (set l i x) j y ≡ set (set l j y) i x

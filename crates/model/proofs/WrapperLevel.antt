@@ -20,10 +20,7 @@ use Rattle.model.proofs.ItemMoves.{ids, forget, plainM, target}
 use Rattle.model.proofs.SideViews.{View, view1, view2}
 use Rattle.model.proofs.ItemPlaces.{Part, part-of, in-first, in-second, Where, beside, message, particle, behind, where-of}
 use Rattle.model.proofs.Completing.{Answers, answers1, answers2, site-eq, isOut}
-
-pub not-empty : {A : Type 0} (X : List A) (y : A) (Y : List A) → [] ≡ X ++ y ∷ Y → ⊥
-not-empty [] y Y q = let z : _≡_ {A = ℕ} 0 (suc (length Y)) = ap length q in omega arith
-not-empty (w ∷ X) y Y q = let z : _≡_ {A = ℕ} 0 (suc (length (X ++ y ∷ Y))) = ap length q in omega arith
+use Rattle.model.proofs.Tests.{not-empty}
 
 -- a property of every item of a list
 abbrev Every : (Item Mark → Type 0) → List (Item Mark) → Type 0

@@ -37,6 +37,7 @@ use Rattle.interpreter.specs.Loading.{outcomeOf, stateLoaded, LoadIs}
 use Rattle.dispatch.specs.Stepping.{asked}
 use Rattle.interpreter.specs.Answers.{saidOf, givenFor}
 use Rattle.running.specs.Running.{countOf, wordsIn, Put, RunIs}
+use Rattle.model.proofs.Tests.{some-inj}
 
 -- HOW MANY STEPS
 -- n steps before a count
@@ -118,9 +119,6 @@ pub record Running (b : Composition) (s : MState) (l lent : List ℕ) (n k p : �
   pub size : length out ≡ length lent
   pub same : drop (20 * k) out ≡ drop (20 * k) lent
   pub total : (xs : List Step) → stepsOf l ≡ some xs → allAnswerWords (answers b s xs) ≡ take (20 * k) out ++ allAnswerWords (answers b t rest)
-
-some-inj : {A : Type 0} {x y : A} → some x ≡ some y → x ≡ y
-some-inj e = cc
 
 pub run-start : (b : Composition) (s : MState) (l lent : List ℕ) (n : ℕ) → countOf (stepsOf l) ≡ some n → ready b s ≡ true → Running b s l lent n 0 0 s lent
 run-start b s l lent n e r = by (stepsOf l) refl

@@ -1,14 +1,14 @@
 -- Refusal 15 by a walk with marks is `defined` of crate model.
 use mathlib.Core.Path.{_≡_, refl, sym, ap, ap₂, _∙_, subst}
 use mathlib.Core.Bool.{Bool, true, false, not, cond}
-use mathlib.Core.List.{List, [], _∷_, _++_, map, map-append, append-assoc, append-nil}
+use mathlib.Core.List.{List, [], _∷_, _++_, map, append-assoc, append-nil}
 use Prim.Native.Nat.{ℕ, zero, suc, _+_, _-_, _<_, _≤_}
 use native.Mathlib.Omega.{arith}
 use native.Mathlib.Numerals.{add-one}
 use borrow.Author.Tests.{le-leb, lt-leb, lt-ltb, leb-true, eqb-true, eqb-false}
 use lib.Dec.{leb, ltb, eqb}
 use lib.ListN.{length, getD, set, take, length-set, length-map, length-take}
-use lib.Seq.{take-suc, getD-set-same, getD-set-other, length-take-le}
+use lib.Seq.{take-suc, getD-set-same, getD-set-other}
 use Rattle.model.specs.Basics.{_&_}
 use Rattle.model.specs.Values.{Env, extend, lookup, value, isNameIn, binders}
 use Rattle.model.specs.Table.{Table, count, term, Term, build}
@@ -26,6 +26,7 @@ use Rattle.values.proofs.Names.{binders-append}
 use Rattle.scopes.specs.Walk.{Step}
 use Rattle.scopes.specs.FreeUses.{nameClear, tagClear, hide, clearIn, clearAt}
 use Rattle.scopes.proofs.StepLaws.{to-left, to-right, to-box, to-new, to-body}
+use Rattle.values.proofs.Environments.{env, look-more, look-all}
 
 -- THE WALK, one law for each way the code goes
 and-yes : (a b : Bool) → a ≡ true → a & b ≡ b
@@ -149,28 +150,6 @@ module _ (ts : List Bool) (c g : ℕ) where
       go (suc (suc n)) h q = let m : suc (suc n) - 2 ≡ n = omega arith in sym (ap not (ap (λ (k : ℕ). getD ts k false) (sym m) ∙ q))
 
 -- WHICH NAMES AN ENVIRONMENT BINDS TO A TUPLE
-pub unmap : (X Y : Type 0) (f : X → Y) (l : List X) (n : ℕ) → length (map f l) ≡ n → length l ≡ n
-unmap X Y f l n p = sym (length-map l f) ∙ p
-
-take-count : {A : Type 0} (n : ℕ) (l : List A) → take (length (take n l)) l ≡ take n l
-take-count zero l = refl
-take-count (suc n) [] = refl
-take-count (suc n) (x ∷ l) = ap (λ (r : List _). x ∷ r) (take-count n l)
-
-look-all : (e : dec.Env) (k w : ℕ) (v : List ℕ) → k ≡ length (viewEnv e .names) → k ≡ length (viewEnv e .vals) →
-    v ≡ lookup (take k (e .names)) (map viewValue (take k (e .vals))) w (w ∷ []) → v ≡ value (viewEnv e) w
-look-all e k w v p q r =
-    let q′ : k ≡ length (take (e .n) (e .vals)) = q ∙ length-map (take (e .n) (e .vals)) viewValue in
-    let a : take k (e .names) ≡ take (e .n) (e .names) = ap (λ (j : ℕ). take j (e .names)) p ∙ take-count (e .n) (e .names) in
-    let b : take k (e .vals) ≡ take (e .n) (e .vals) = ap (λ (j : ℕ). take j (e .vals)) q′ ∙ take-count (e .n) (e .vals) in
-    r ∙ rw (a, b)
-
-look-more : (ns : List ℕ) (vs : List Value) (k w : ℕ) (d : Value) (x : List ℕ) → k < length ns → k < length vs →
-    lookup (take (k + 1) ns) (map viewValue (take (k + 1) vs)) w x ≡ cond (eqb (getD ns k 0) w) (viewValue (getD vs k d)) (lookup (take k ns) (map viewValue (take k vs)) w x)
-look-more ns vs k w d x h g =
-    rw (add-one, take-suc ns k 0 h, take-suc vs k d g, map-append)
-    (look-append (take k ns) (map viewValue (take k vs)) (getD ns k 0 ∷ []) (viewValue (getD vs k d) ∷ []) w x
-    (length-map (take k vs) viewValue ∙ length-take-le k vs (omega arith) ∙ sym (length-take-le k ns (omega arith))))
 
 module _ (ns : List ℕ) (vs : List Value) (k : ℕ) (ts : List Bool) (h : k < length ns) (g : k < length vs) (full : length ts ≡ 64)
     (p : (m : ℕ) → m < 64 → getD ts m false ≡ tupleOf (lookup (take k ns) (map viewValue (take k vs)) m (m ∷ []))) where
@@ -200,9 +179,6 @@ pub record Agrees (ρ : Env) (ts : List Bool) : Type 0 where
   pub sized : Sized ρ
   pub full : length ts ≡ 64
   pub same : (n : ℕ) → n ≤ 63 → isNameIn ρ n ≡ nameClear ts n
-
-abbrev env : List ℕ → List (List ℕ) → Env
-env ns vs = record { names = ns; vals = vs }
 
 agrees-new : (ρ : Env) (ts : List Bool) (x : ℕ) → Agrees ρ ts → Agrees (extend ρ (x ∷ []) ((0 ∷ []) ∷ [])) (set ts x false)
 agrees-new ρ ts x a = record {

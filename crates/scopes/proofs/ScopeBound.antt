@@ -10,11 +10,11 @@ use lib.ListN.{length, length-append}
 use Rattle.model.specs.Basics.{Res, refuse, done, isDone, choose}
 use Rattle.model.specs.Values.{at}
 use Rattle.model.specs.Table.{Table, count, kind, field, childTimes, Term, build, term, bound, scopeUp, scope}
-use Rattle.model.specs.Checks.{Fault, found, fault, check1, check2, check3, timesChild, over, overAll}
+use Rattle.model.specs.Checks.{Fault, fault, check1, check2, check3, timesChild, over, overAll}
 use Rattle.model.proofs.Tests.{choose-done, fst, snd, alt}
 use Rattle.model.proofs.Items.{clash}
 use Rattle.model.proofs.Terms.{Child, left, right, in-box, in-new, in-body, term-at}
-use Rattle.model.proofs.Checked.{Checked, checked, is-tree, scope-child}
+use Rattle.model.proofs.Checked.{Checked, checked, is-tree, scope-child, not-found}
 use Rattle.tables.specs.Checks.{Passes}
 use Rattle.tables.proofs.CheckLaws.{few}
 use Rattle.scopes.specs.Names.{lastEight}
@@ -130,10 +130,6 @@ module _ (t : Table) (c : Checked t) (root : 256 ≤ over 0 (term t 0)) where
       (subst (λ (b : Term). 256 ≤ over (length (scope t n)) b) (term-at t (is-tree t c) n l) (at-node (suc n) n (omega arith) l)))
 
 -- WHAT PASSING THE CHECKS SAYS
-not-found : (x : Res ℕ) (k : ℕ) (r : Res Fault) (e : ℕ) → found x k r ≡ refuse e → ((e′ : ℕ) × (x ≡ refuse e′)) × (r ≡ refuse e)
-unfolding found
-not-found (done n) k r e p = absurd (clash (sym p))
-not-found (refuse e′) k r e p = ((e′, refl), p)
 
 none-over : (t : Table) (e : ℕ) → overAll t ≡ refuse e → 256 ≤ over 0 (term t 0)
 unfolding overAll choose

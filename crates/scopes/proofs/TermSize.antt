@@ -4,7 +4,6 @@ use mathlib.Core.Path.{_≡_, refl, sym, ap, ap₂, _∙_, subst}
 use mathlib.Core.Bool.{Bool, true, false, cond}
 use mathlib.Core.Logic.{_⊎_, ⊎-elim}
 use Prim.Native.Nat.{ℕ, zero, suc, _+_, _-_, _<_, _≤_}
-use native.Mathlib.Nat.{eq-or-lt-of-le}
 use native.Mathlib.Omega.{arith}
 use borrow.Author.Tests.{leb-true, leb-false, eqb-true, eqb-false, eq-eqb, ne-eqb}
 use lib.Dec.{leb, eqb}
@@ -13,7 +12,7 @@ use Rattle.model.specs.Checks.{check2, check3, timesChild}
 use Rattle.model.specs.Unfolding.{particlesIn, boxesIn, newNamesIn}
 use Rattle.model.proofs.Tests.{fst, snd, alt}
 use Rattle.model.proofs.Terms.{Child, left, right, in-box, in-new, in-body, term-at}
-use Rattle.model.proofs.Checked.{Checked, is-tree, parent-counts}
+use Rattle.model.proofs.Checked.{Checked, is-tree, parent-counts, two-le, one-le, split}
 use Rattle.tables.specs.Checks.{Passes}
 use Rattle.scopes.proofs.ScopeBound.{parent, passes-checked, no-fault, count-few}
 
@@ -113,8 +112,6 @@ module _ (t : Table) (n : ℕ) where
   kids-counted m (suc (suc (suc (suc (suc (suc (suc k))))))) e l = absurd (omega arith)
 
 -- A SUM OVER THE FIRST k NODES
-split : (j k : ℕ) → j < suc k → (j ≡ k) ⊎ (j < k)
-split j k h = eq-or-lt-of-le (omega arith)
 
 sumTo : ℕ → (ℕ → ℕ) → ℕ
 sumTo zero f = 0
@@ -167,18 +164,6 @@ sum-bound (suc k) n f a b = go (leb n k) refl (sum-bound k n f a (λ m l. b m (o
     go false e z = let l = leb-false n k e in let y = a k l in omega arith
 
 -- A NODE IS A CHILD OF THE FIRST k NODES AT LEAST AS OFTEN AS OF ONE OR TWO OF THEM
-one-le : (t : Table) (m k j : ℕ) → j < k → childTimes t m j ≤ timesChild t m k
-unfolding timesChild
-one-le t m zero j h = absurd (omega arith)
-one-le t m (suc k) j h = ⊎-elim (λ e. rw e (omega arith)) (λ l. omega (arith, one-le t m k j l)) (split j k h)
-
-two-le : (t : Table) (m k i j : ℕ) → i < k → j < k → ((i ≡ j) → ⊥) → childTimes t m i + childTimes t m j ≤ timesChild t m k
-unfolding timesChild
-two-le t m zero i j h h′ d = absurd (omega arith)
-two-le t m (suc k) i j h h′ d =
-    ⊎-elim (λ e. ⊎-elim (λ e′. absurd (d (e ∙ sym e′))) (λ l. rw e (omega (arith, one-le t m k j l))) (split j k h′))
-    (λ l. ⊎-elim (λ e′. rw e′ (omega (arith, one-le t m k i l))) (λ l′. omega (arith, two-le t m k i j l l′ d)) (split j k h′))
-    (split i k h)
 
 -- THE TERM AT A NODE
 module _ (t : Table) (q : Checked t) where

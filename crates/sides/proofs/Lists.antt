@@ -14,8 +14,6 @@ use Rattle.model.specs.Basics.{Res, _&_, every, remove, pick}
 use Rattle.model.proofs.Tests.{fst, snd, both, every-append, every-one, every-remove, every-set}
 
 -- what owning an array of structs tells of its list's length: for `search unmap`
-pub unmap : (X Y : Type 0) (f : X → Y) (l : List X) (n : ℕ) → length (map f l) ≡ n → length l ≡ n
-unmap X Y f l n p = sym (length-map l f) ∙ p
 
 -- a list without its place i, in two parts
 split-suc : {A : Type 0} (l : List A) (i : ℕ) → take i l ++ drop (suc i) l ≡ remove l i

@@ -17,8 +17,9 @@ use Rattle.model.specs.Checks.{everyField, fieldsOk, timesChild, firstBad, chec
 use Rattle.tables.specs.declared.nodes.Node.{Node}
 use Rattle.tables.specs.Nodes.{table, NodeIs}
 use Rattle.tables.specs.Fields.{useOf, fourFields, unusedOk, kindOk, childOk, treeOk, nameOk, placeOk, childBy, childOf, Counted}
+use Rattle.values.proofs.Spans.{eqb-same}
 
-and-true : (a : Bool) → a & true ≡ a
+pub and-true : (a : Bool) → a & true ≡ a
 unfolding _&_
 and-true true = refl
 and-true false = refl
@@ -183,13 +184,6 @@ module _ (f : ℕ → Bool) (c i : ℕ) where
     where
       step : c - i ≡ 0
       step = omega arith
-
-eqb-same : (a b c d : ℕ) → (a ≡ b → c ≡ d) → (c ≡ d → a ≡ b) → eqb a b ≡ eqb c d
-eqb-same a b c d f g = go (eqb c d) refl
-  where
-    go : (t : Bool) → eqb c d ≡ t → eqb a b ≡ eqb c d
-    go true e = eq-eqb a b (g (eqb-true c d e)) ∙ sym e
-    go false e = ne-eqb a b (λ x. eqb-false c d e (f x)) ∙ sym e
 
 pub tree-is : (ns pool : List ℕ) (n k : ℕ) (x : Node) → NodeIs ns n x → k ≡ min 2 (timesChild (table ns pool) n (count (table ns pool))) → treeOk n (count (table ns pool)) k x ≡ check3 (table ns pool) n
 unfolding treeOk check3

@@ -14,6 +14,7 @@ use Rattle.model.specs.Unfolding.{tagOf, addBox, mint, unfolds}
 use Rattle.model.specs.Step.{short}
 use Rattle.model.proofs.Environments.{Sized, look-append, sized-extend}
 use Rattle.unfolding.specs.Long.{longIn}
+use Rattle.tables.proofs.FieldLaws.{and-true}
 
 -- the values of every name have as many words
 abbrev SameLong : Env → Env → Type 0
@@ -63,11 +64,6 @@ every-both f (a ∷ x) y = go (f a) (every-both f x y)
     go : (b : Bool) → every f (x ++ y) ≡ every f x & every f y → b & every f (x ++ y) ≡ (b & every f x) & every f y
     go true e = e
     go false e = refl
-
-and-true : (a : Bool) → a & true ≡ a
-unfolding _&_
-and-true true = refl
-and-true false = refl
 
 and-or : (a b c : Bool) → (a & not b) & not c ≡ a & not (b or c)
 unfolding _&_ _or_

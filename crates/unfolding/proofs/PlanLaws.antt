@@ -8,6 +8,7 @@ use Rattle.model.specs.Table.{Table, count, Term, nil, par, box, new, out, inp,
 use Rattle.model.specs.Side.{Particle, Box, Contents}
 use Rattle.model.specs.Unfolding.{addParticle, addBox, unfolds}
 use Rattle.unfolding.specs.Plan.{News, noNews, pass, Plan, start, planRow, planBox, planName, nextBox, plans, mintedNames, below, particleOf, settledRow, settledBox, settled}
+use Rattle.values.proofs.Environments.{env}
 
 -- the number of boxes before stays
 pub base-kept : (a : Term) (b : ℕ) (w : News) (p : Plan) → plans a b w p .base ≡ p .base
@@ -31,9 +32,6 @@ Stands t k (inp n r c g q a) = (n < count t) × (term t n ≡ inp n r c g q a)
 
 abbrev contents : List Particle → List Box → ℕ → Contents
 contents ps bs m = record { particles = ps; boxes = bs; minted = m }
-
-abbrev env : List ℕ → List (List ℕ) → Env
-env ns vs = record { names = ns; vals = vs }
 
 module _ (i : ℕ) (t : Table) (ρ : Env) (s : Contents) where
   row-more : (p : Plan) (n b : ℕ) (w : News) → addParticle (settled i t ρ s p) (particleOf (term t n) (below i ρ w) b) ≡ settled i t ρ s (planRow p n b w)

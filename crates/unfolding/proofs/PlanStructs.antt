@@ -15,7 +15,7 @@ use Rattle.unfolding.specs.declared.news.News.{News}
 use Rattle.unfolding.specs.declared.plan.Place.{Place}
 use Rattle.unfolding.specs.declared.plan.Plan.{Plan}
 
-abbrev mnews : List ℕ → List ℕ → m.News
+abbrev pub mnews : List ℕ → List ℕ → m.News
 mnews ns ks = record { names = ns; serials = ks }
 
 abbrev mplan : List m.Place → List m.Place → ℕ → ℕ → m.Plan

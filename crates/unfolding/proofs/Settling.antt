@@ -23,7 +23,7 @@ use Rattle.values.specs.declared.Env as dec
 use Rattle.values.specs.Env.{viewValue, viewEnv, Stores, firstEight}
 use Rattle.values.proofs.Lists.{view-push, take-count}
 use Rattle.values.proofs.Storing.{stores-short}
-use Rattle.values.proofs.Environments.{eight-all}
+use Rattle.values.proofs.Environments.{eight-all, env}
 use Rattle.tables.specs.declared.nodes.Node.{Node}
 use Rattle.tables.specs.Nodes.{table, NodeIs}
 use Rattle.tables.specs.Checks.{Passes}
@@ -33,17 +33,11 @@ use Rattle.sides.specs.declared.Particle as dp
 use Rattle.sides.specs.Views.{viewTag, viewParticle, fitsValue, fitsParticle}
 use Rattle.sides.proofs.Lists.{every-push}
 use Rattle.unfolding.specs.Plan.{below, mintedNames, particleOf, settledRow}
-use Rattle.unfolding.specs.Plan as m
 use Rattle.unfolding.specs.Views.{viewNews, viewPlace}
 use Rattle.unfolding.specs.Settling.{rowFine, OutputIs, InputIs, RowIs}
 use Rattle.unfolding.specs.declared.news.News.{News}
 use Rattle.unfolding.specs.declared.plan.Place.{Place}
-
-abbrev env : List ℕ → List (List ℕ) → Env
-env ns vs = record { names = ns; vals = vs }
-
-abbrev pub mnews : List ℕ → List ℕ → m.News
-mnews ns ks = record { names = ns; serials = ks }
+use Rattle.unfolding.proofs.PlanStructs.{mnews}
 
 -- THE ENVIRONMENT BELOW k binders, and one more
 pub below-none : (i : ℕ) (ρ : Env) → ρ ≡ below i ρ (mnews [] [])

@@ -1,23 +1,23 @@
 -- Laws of environments: looking up, substituting, binding names to values and to parts.
 use mathlib.Core.Path.{_≡_, refl, sym, ap, ap₂, _∙_, subst}
-use mathlib.Core.Bool.{Bool, true, false, not, cond}
+use mathlib.Core.Bool.{Bool, true, false, cond}
 use mathlib.Core.List.{List, [], _∷_, _++_, map, append-assoc, append-nil, map-append}
 use Prim.Native.Nat.{ℕ, _+_, _-_, _<_, _≤_}
 use native.Mathlib.Omega.{arith}
 use native.Mathlib.Numerals.{add-one}
-use borrow.Author.Tests.{le-leb, lt-leb, lt-ltb, le-ltb, eq-eqb, ne-eqb, eqb-true, eqb-false}
+use borrow.Author.Tests.{le-leb, lt-leb, lt-ltb, le-ltb, eq-eqb, ne-eqb}
 use lib.Dec.{eqb, ltb}
 use lib.ListN.{length, getD, take, drop, set, length-append, length-take, length-map, take-append-drop}
-use lib.Seq.{take-suc, take-suc-set, take-all, length-take-le, getD-take, getD-set-same, getD-set-other}
+use lib.Seq.{take-suc, take-suc-set, take-all, length-take-le, getD-take}
 use Rattle.model.specs.Basics.{_&_, choose}
-use Rattle.model.specs.Values.{Env, lookup, value, word, substitute, extend, isNameIn, binders}
+use Rattle.model.specs.Values.{Env, lookup, value, word, substitute, extend, binders}
 use Rattle.model.proofs.Environments.{look-append}
 use Rattle.values.specs.declared.Value.{Value}
 use Rattle.values.specs.declared.Env as dec
 use Rattle.values.specs.declared.Part.{Part}
 use Rattle.values.specs.declared.Bound.{Bound}
 use Rattle.values.specs.Match.{partOf, viewBound}
-use Rattle.values.specs.Env.{viewValue, viewEnv, Stores, standsFor, tupleOf, firstEight, canExtend, extendedOf, Given}
+use Rattle.values.specs.Env.{viewValue, viewEnv, Stores, standsFor, firstEight, canExtend, extendedOf, Given}
 use Rattle.values.proofs.Lists.{view-push, take-count, push-full, push-fits}
 use Rattle.values.proofs.Words.{left-false, right-false}
 use Rattle.values.proofs.Storing.{val}
@@ -93,7 +93,7 @@ pub size-word : (ρ : Env) (w : ℕ) → 63 < w → 1 ≡ length (standsFor ρ w
 size-word ρ w h = sym (ap (λ (b : Bool). length (cond b (value ρ w) (w ∷ []))) (lt-leb w 63 h))
 
 -- one name more
-abbrev env : List ℕ → List (List ℕ) → Env
+abbrev pub env : List ℕ → List (List ℕ) → Env
 env ns vs = record { names = ns; vals = vs }
 
 module _ (e : dec.Env) (x : ℕ) (v : Value) (p : length (e .names) ≡ 8) (q : length (e .vals) ≡ 8) where
@@ -114,29 +114,6 @@ module _ (e : dec.Env) (x : ℕ) (v : Value) (p : length (e .names) ≡ 8) (q : 
 -- where at most eight are in force, all are
 pub eight-all : (ρ : Env) → length (ρ .names) ≤ 8 → length (ρ .vals) ≤ 8 → firstEight ρ ≡ ρ
 eight-all ρ h g = ap₂ env (take-all 8 (ρ .names) h) (take-all 8 (ρ .vals) g)
-
--- which names are bound to a tuple
-module _ (ns : List ℕ) (vs : List Value) (k : ℕ) (ts : List Bool) (h : k < length ns) (g : k < length vs) (full : length ts ≡ 64)
-    (p : (m : ℕ) → m < 64 → getD ts m false ≡ tupleOf (lookup (take k ns) (map viewValue (take k vs)) m (m ∷ []))) where
-  pub tuples-in : (d : Value) (r : List Bool) → r ≡ set ts (getD ns k 0) (tupleOf (viewValue (getD vs k d))) → (m : ℕ) → m < 64 →
-      getD r m false ≡ tupleOf (lookup (take (k + 1) ns) (map viewValue (take (k + 1) vs)) m (m ∷ []))
-  tuples-in d r e m l = ap (λ (x : List Bool). getD x m false) e ∙ go (eqb (getD ns k 0) m) refl ∙ sym (ap tupleOf (look-more ns vs k m d (m ∷ []) h g))
-    where
-      go : (b : Bool) → eqb (getD ns k 0) m ≡ b → getD (set ts (getD ns k 0) (tupleOf (viewValue (getD vs k d)))) m false ≡
-          tupleOf (cond (eqb (getD ns k 0) m) (viewValue (getD vs k d)) (lookup (take k ns) (map viewValue (take k vs)) m (m ∷ [])))
-      go true q =
-          let s : getD ns k 0 ≡ m = eqb-true (getD ns k 0) m q in
-          rw (q, s) (getD-set-same ts m _ false (omega arith))
-      go false q = rw q (getD-set-other ts (getD ns k 0) m _ false (λ s. eqb-false (getD ns k 0) m q (sym s)) ∙ p m l)
-
-pub tuples-none : (m : ℕ) (b : Bool) → m < 64 → b ≡ false → b ≡ tupleOf (m ∷ [])
-unfolding tupleOf
-tuples-none m b h e = e ∙ sym (ap not (lt-ltb m 4000000 (omega arith)))
-
-pub tuples-all : (e : dec.Env) (k m : ℕ) (b : Bool) → k ≡ length (viewEnv e .names) → k ≡ length (viewEnv e .vals) →
-    b ≡ tupleOf (lookup (take k (e .names)) (map viewValue (take k (e .vals))) m (m ∷ [])) → b ≡ not (isNameIn (viewEnv e) m)
-unfolding tupleOf
-tuples-all e k m b p q r = r ∙ ap tupleOf (look-all e k m _ p q refl)
 
 -- the environment after i words of the pattern, k of them names
 pub record Grown (e : dec.Env) (p v : List ℕ) (b : Bound) (i k : ℕ) (r : dec.Env) : Type 0 where

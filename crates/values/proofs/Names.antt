@@ -11,7 +11,7 @@ use lib.ListN.{length, getD, take, drop, length-append, take-append-drop}
 use lib.Seq.{take-suc, take-all}
 use Rattle.model.specs.Basics.{has}
 use Rattle.model.specs.Values.{binders, distinct, isPublic}
-use Rattle.model.proofs.Tests.{and-left, and-right, and-intro}
+use Rattle.model.proofs.Tests.{and-left, and-right, and-intro, or-true}
 use Rattle.values.proofs.Lists.{at-i}
 
 pub binders-append : (a b : List ℕ) → binders (a ++ b) ≡ binders a ++ binders b
@@ -60,10 +60,6 @@ has-append m (x ∷ l) k = ap (λ (b : Bool). eqb m x || b) (has-append m l k) �
 or-none : (a : Bool) → a || false ≡ a
 or-none true = refl
 or-none false = refl
-
-or-true : (a : Bool) → a || true ≡ true
-or-true true = refl
-or-true false = refl
 
 has-snoc : (m : ℕ) (l : List ℕ) (n : ℕ) → has m (l ++ (n ∷ [])) ≡ has m l || eqb m n
 has-snoc m l n = has-append m l (n ∷ []) ∙ ap (λ (b : Bool). has m l || b) (or-none (eqb m n))

@@ -1,6 +1,5 @@
 use mathlib.Core.Path.{subst}
 use Prim.Native.Nat.{ℕ}
-use Rattle.sides.proofs.Lists.{unmap}
 use Rattle.tables.specs.Nodes.{table}
 use Rattle.sides.specs.Views.{viewCore}
 use Rattle.model.specs.Step.{meet, settled}
@@ -12,6 +11,7 @@ use native.Mathlib.Omega.{arith}
 use borrow.Author.Needs.{needs}
 use Rattle.meeting.proofs.meet.Statement.{statement}
 use Rattle.meeting.proofs.meet.Tie as tie
+use Rattle.values.proofs.Lists.{unmap}
 
 full : (x : tie.Start) → Full (x .args .o)
 full x = record { msgs = search unmap; particles = search unmap; boxes = search unmap; shelf = search unmap }

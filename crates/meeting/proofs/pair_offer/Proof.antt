@@ -1,10 +1,10 @@
 use mathlib.Core.Path.{refl}
-use Rattle.sides.proofs.Lists.{unmap}
 use Rattle.steps.proofs.Held.{Full, particles-cap}
 use Rattle.meeting.proofs.Meetings.{pair-past, pair-past-input, pair-no-output, pair-no-input, pair-may}
 use native.Mathlib.Omega.{arith}
 use Rattle.meeting.proofs.pair_offer.Statement.{statement}
 use Rattle.meeting.proofs.pair_offer.Tie as tie
+use Rattle.values.proofs.Lists.{unmap}
 
 full : (x : tie.Start) → Full (x .args .o)
 full x = record { msgs = search unmap; particles = search unmap; boxes = search unmap; shelf = search unmap }

@@ -3,12 +3,12 @@ use Prim.Native.Nat.{_-_, _≤_}
 use mathlib.Core.Bool.{true}
 use lib.ListN.{length, take}
 use Rattle.model.specs.Basics.{every}
-use Rattle.sides.proofs.Lists.{unmap}
 use Rattle.interpreter.proofs.FindLaws.{fresh, found-at, found-none, next-fresh}
 use borrow.Author.Needs.{needs}
 use native.Mathlib.Omega.{arith}
 use Rattle.interpreter.proofs.lost.stranded_in.Statement.{statement}
 use Rattle.interpreter.proofs.lost.stranded_in.Tie as tie
+use Rattle.values.proofs.Lists.{unmap}
 
 abbrev Inv-loop : tie.InvT-loop
 Inv-loop l n k₀ k = (k ≤ n) × (every fresh (take k (l .msgs)) ≡ true)

@@ -4,10 +4,11 @@ use lib.ListN.{length}
 use Rattle.tables.specs.Nodes.{table}
 use Rattle.scopes.proofs.StepLaws.{walks-at}
 use Rattle.scopes.proofs.ScopeBound.{passes-checked}
-use Rattle.scopes.proofs.FreeUseLaws.{unmap, fits-is}
+use Rattle.scopes.proofs.FreeUseLaws.{fits-is}
 use borrow.Author.Needs.{needs}
 use Rattle.scopes.proofs.free_uses.defined_at.Statement.{statement}
 use Rattle.scopes.proofs.free_uses.defined_at.Tie as tie
+use Rattle.values.proofs.Lists.{unmap}
 
 tuple-names-requires : tie.Need-tuple-names-requires
 tuple-names-requires c κs = search needs

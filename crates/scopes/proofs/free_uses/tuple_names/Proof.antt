@@ -6,11 +6,12 @@ use Prim.Native.Nat.{ℕ, _≤_, _<_, _-_}
 use lib.ListN.{length, take, getD, set, length-set}
 use Rattle.model.specs.Values.{lookup}
 use Rattle.values.specs.Env.{viewValue, tupleOf}
-use Rattle.scopes.proofs.FreeUseLaws.{unmap, tuples-in, tuples-none, tuples-all}
+use Rattle.scopes.proofs.FreeUseLaws.{tuples-in, tuples-none, tuples-all}
 use borrow.Author.Needs.{needs}
 use native.Mathlib.Omega.{arith}
 use Rattle.scopes.proofs.free_uses.tuple_names.Statement.{statement}
 use Rattle.scopes.proofs.free_uses.tuple_names.Tie as tie
+use Rattle.values.proofs.Lists.{unmap}
 
 abbrev Inv-loop : tie.InvT-loop
 Inv-loop e n r₀ k₀ r k = (n ≤ 8) × (k ≤ n) × (length (r .on) ≡ 64) × ((m : ℕ) → m < 64 → getD (r .on) m false ≡ tupleOf (lookup (take k (e .names)) (map viewValue (take k (e .vals))) m (m ∷ [])))

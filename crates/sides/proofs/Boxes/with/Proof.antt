@@ -1,13 +1,14 @@
 use mathlib.Core.Path.{_≡_, refl}
 use lib.ListN.{length}
 use Prim.Native.Nat.{_+_}
-use Rattle.sides.proofs.Lists.{unmap, view-push}
+use Rattle.sides.proofs.Lists.{view-push}
 use Rattle.sides.specs.Views.{viewBox}
 use borrow.Author.Tests.{le-leb}
 use native.Mathlib.Omega.{arith}
 use borrow.Author.Needs.{needs}
 use Rattle.sides.proofs.Boxes.with.Statement.{statement}
 use Rattle.sides.proofs.Boxes.with.Tie as tie
+use Rattle.values.proofs.Lists.{unmap}
 
 returns : tie.Need-returns
 returns c =

@@ -1,7 +1,7 @@
 use mathlib.Core.Path.{_≡_, refl, sym, _∙_}
 use lib.ListN.{length, take}
 use Prim.Native.Nat.{_-_, _≤_}
-use Rattle.sides.proofs.Lists.{unmap, fits-long, fits-fails, fits-all, every-more}
+use Rattle.sides.proofs.Lists.{fits-long, fits-fails, fits-all, every-more}
 use Rattle.sides.specs.Views.{fitsParticle}
 use Rattle.model.specs.Basics.{every}
 use mathlib.Core.Bool.{true}
@@ -9,6 +9,7 @@ use borrow.Author.Needs.{needs}
 use native.Mathlib.Omega.{arith}
 use Rattle.sides.proofs.Particles.fits.Statement.{statement}
 use Rattle.sides.proofs.Particles.fits.Tie as tie
+use Rattle.values.proofs.Lists.{unmap}
 
 abbrev Inv-loop : tie.InvT-loop
 Inv-loop self n k₀ k = (k ≤ n) × (every fitsParticle (take k (self .rows)) ≡ true)

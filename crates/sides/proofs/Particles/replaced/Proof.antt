@@ -1,10 +1,11 @@
 use mathlib.Core.Path.{_≡_, refl}
 use lib.ListN.{length}
-use Rattle.sides.proofs.Lists.{unmap, view-set, fits-put}
+use Rattle.sides.proofs.Lists.{view-set, fits-put}
 use Rattle.sides.specs.Views.{viewParticle, fitsParticle}
 use borrow.Author.Needs.{needs}
 use Rattle.sides.proofs.Particles.replaced.Statement.{statement}
 use Rattle.sides.proofs.Particles.replaced.Tie as tie
+use Rattle.values.proofs.Lists.{unmap}
 
 returns : tie.Need-returns
 returns c =

@@ -1,11 +1,12 @@
 use mathlib.Core.Path.{_≡_, refl}
 use lib.ListN.{length}
-use Rattle.sides.proofs.Lists.{unmap, view-push, fits-with}
+use Rattle.sides.proofs.Lists.{view-push, fits-with}
 use Rattle.sides.specs.Views.{viewParticle, fitsParticle}
 use native.Mathlib.Omega.{arith}
 use borrow.Author.Needs.{needs}
 use Rattle.sides.proofs.Particles.with.Statement.{statement}
 use Rattle.sides.proofs.Particles.with.Tie as tie
+use Rattle.values.proofs.Lists.{unmap}
 
 returns : tie.Need-returns
 returns c =

@@ -1,11 +1,12 @@
 use mathlib.Core.Path.{_≡_, refl}
 use lib.ListN.{length, length-set}
 use Prim.Native.Nat.{_-_, _≤_}
-use Rattle.sides.proofs.Lists.{unmap, Gap, gap-start, gap-more, gap-view, fits-gap}
+use Rattle.sides.proofs.Lists.{Gap, gap-start, gap-more, gap-view, fits-gap}
 use Rattle.sides.specs.Views.{viewParticle, fitsParticle}
 use native.Mathlib.Omega.{arith}
 use Rattle.sides.proofs.Particles.without.Statement.{statement}
 use Rattle.sides.proofs.Particles.without.Tie as tie
+use Rattle.values.proofs.Lists.{unmap}
 
 abbrev Inv-loop : tie.InvT-loop
 Inv-loop i self₀ last k₀ self k = (i ≤ k) × (k ≤ last) × (length (self .rows) ≡ 32) × Gap (self₀ .rows) i k (self .rows)

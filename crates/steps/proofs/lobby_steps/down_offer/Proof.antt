@@ -1,5 +1,4 @@
 use mathlib.Core.Path.{refl, sym, _∙_}
-use Rattle.sides.proofs.Lists.{unmap}
 use Rattle.steps.proofs.Held.{Full, lobby-cap, particles-cap, none-more, one-more}
 use Rattle.steps.proofs.LobbySteps.{down-past, down-not, down-full, down-may}
 use borrow.Author.Tests.{not-true, not-false}
@@ -7,6 +6,7 @@ use native.Mathlib.Omega.{arith}
 use borrow.Author.Needs.{needs}
 use Rattle.steps.proofs.lobby_steps.down_offer.Statement.{statement}
 use Rattle.steps.proofs.lobby_steps.down_offer.Tie as tie
+use Rattle.values.proofs.Lists.{unmap}
 
 full : (x : tie.Start) → Full (x .args .o)
 full x = record { msgs = search unmap; particles = search unmap; boxes = search unmap; shelf = search unmap }

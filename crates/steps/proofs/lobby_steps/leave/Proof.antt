@@ -1,5 +1,4 @@
 use mathlib.Core.Path.{refl}
-use Rattle.sides.proofs.Lists.{unmap}
 use Rattle.sides.specs.Views.{viewCore}
 use Rattle.model.specs.Step.{leave, settled}
 use Rattle.steps.specs.Asked.{LeaveAt}
@@ -9,6 +8,7 @@ use native.Mathlib.Omega.{arith}
 use borrow.Author.Needs.{needs}
 use Rattle.steps.proofs.lobby_steps.leave.Statement.{statement}
 use Rattle.steps.proofs.lobby_steps.leave.Tie as tie
+use Rattle.values.proofs.Lists.{unmap}
 
 full : (x : tie.Start) → Full (x .args .o)
 full x = record { msgs = search unmap; particles = search unmap; boxes = search unmap; shelf = search unmap }

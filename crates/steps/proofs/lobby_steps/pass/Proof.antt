@@ -1,4 +1,3 @@
-use Rattle.sides.proofs.Lists.{unmap}
 use Rattle.sides.specs.Views.{viewCore}
 use Rattle.model.specs.Step.{pass, settled}
 use Rattle.steps.specs.Asked.{PassAt}
@@ -8,6 +7,7 @@ use native.Mathlib.Omega.{arith}
 use borrow.Author.Needs.{needs}
 use Rattle.steps.proofs.lobby_steps.pass.Statement.{statement}
 use Rattle.steps.proofs.lobby_steps.pass.Tie as tie
+use Rattle.values.proofs.Lists.{unmap}
 
 full : (x : tie.Start) → Full (x .args .o)
 full x = record { msgs = search unmap; particles = search unmap; boxes = search unmap; shelf = search unmap }

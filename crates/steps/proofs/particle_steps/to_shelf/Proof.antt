@@ -1,10 +1,10 @@
-use Rattle.sides.proofs.Lists.{unmap}
 use Rattle.steps.proofs.Held.{Full, particles-cap, shelf-cap, none-more, one-more}
 use Rattle.steps.proofs.ParticleSteps.{shelf-full, shelf-did}
 use native.Mathlib.Omega.{arith}
 use borrow.Author.Needs.{needs}
 use Rattle.steps.proofs.particle_steps.to_shelf.Statement.{statement}
 use Rattle.steps.proofs.particle_steps.to_shelf.Tie as tie
+use Rattle.values.proofs.Lists.{unmap}
 
 full : (x : tie.Start) → Full (x .args .o)
 full x = record { msgs = search unmap; particles = search unmap; boxes = search unmap; shelf = search unmap }

@@ -1,5 +1,4 @@
 use mathlib.Core.Path.{_∙_}
-use Rattle.sides.proofs.Lists.{unmap}
 use Rattle.sides.specs.Views.{viewCore}
 use Rattle.model.specs.Step.{up, settled}
 use Rattle.steps.specs.Asked.{UpAt}
@@ -11,6 +10,7 @@ use native.Mathlib.Omega.{arith}
 use borrow.Author.Needs.{needs}
 use Rattle.steps.proofs.particle_steps.up.Statement.{statement}
 use Rattle.steps.proofs.particle_steps.up.Tie as tie
+use Rattle.values.proofs.Lists.{unmap}
 
 full : (x : tie.Start) → Full (x .args .o)
 full x = record { msgs = search unmap; particles = search unmap; boxes = search unmap; shelf = search unmap }

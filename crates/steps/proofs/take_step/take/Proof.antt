@@ -1,6 +1,5 @@
 use mathlib.Core.Path.{_≡_, refl}
 use lib.ListN.{length}
-use Rattle.sides.proofs.Lists.{unmap}
 use Rattle.sides.specs.Views.{viewCore, viewShelf}
 use Rattle.model.specs.Step.{takes, settled}
 use Rattle.steps.specs.Asked.{TakeAt}
@@ -11,6 +10,7 @@ use native.Mathlib.Omega.{arith}
 use borrow.Author.Needs.{needs}
 use Rattle.steps.proofs.take_step.take.Statement.{statement}
 use Rattle.steps.proofs.take_step.take.Tie as tie
+use Rattle.values.proofs.Lists.{unmap}
 
 full : (x : tie.Start) → Full (x .args .o)
 full x = record { msgs = search unmap; particles = search unmap; boxes = search unmap; shelf = search unmap }

@@ -1,6 +1,5 @@
 use mathlib.Core.Path.{_≡_, refl}
 use lib.ListN.{length}
-use Rattle.sides.proofs.Lists.{unmap}
 use Rattle.steps.proofs.Held.{Full, lobby-cap, none-more, one-more}
 use Rattle.steps.proofs.EnterSteps.{take-past, take-again, take-full, blank}
 use Rattle.sides.proofs.Sides.{shelf-short}
@@ -8,6 +7,7 @@ use native.Mathlib.Omega.{arith}
 use borrow.Author.Needs.{needs}
 use Rattle.steps.proofs.take_step.take_offer.Statement.{statement}
 use Rattle.steps.proofs.take_step.take_offer.Tie as tie
+use Rattle.values.proofs.Lists.{unmap}
 
 full : (x : tie.Start) → Full (x .args .o)
 full x = record { msgs = search unmap; particles = search unmap; boxes = search unmap; shelf = search unmap }

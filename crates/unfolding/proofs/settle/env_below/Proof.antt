@@ -1,7 +1,7 @@
 use mathlib.Core.Path.{_≡_, ap, _∙_}
 use Prim.Native.Nat.{ℕ, _-_, _+_, _≤_}
 use lib.ListN.{length}
-use Rattle.unfolding.proofs.Settling.{mnews, below-none, below-more, below-all}
+use Rattle.unfolding.proofs.Settling.{below-none, below-more, below-all}
 use lib.ListN.{take, length-take}
 use Rattle.values.proofs.Lists.{unmap}
 use Rattle.values.specs.Env.{viewEnv}
@@ -14,6 +14,7 @@ use borrow.Author.Needs.{needs}
 use native.Mathlib.Omega.{arith}
 use Rattle.unfolding.proofs.settle.env_below.Statement.{statement}
 use Rattle.unfolding.proofs.settle.env_below.Tie as tie
+use Rattle.unfolding.proofs.PlanStructs.{mnews}
 
 abbrev Inv-loop : tie.InvT-loop
 Inv-loop side w n r₀ k₀ r k = (k ≤ n) × (length (viewEnv r₀ .names) + length (viewNews w .names) ≤ 8 → viewEnv r ≡ below side (viewEnv r₀) (mnews (take k (w .names)) (take k (w .serials))))

@@ -5,12 +5,12 @@ use native.Mathlib.Omega.{arith}
 use borrow.Author.Needs.{needs}
 use lib.ListN.{length}
 use Rattle.sides.specs.Views.{viewBox, viewBoxes}
-use Rattle.sides.proofs.Lists.{unmap}
 use Rattle.wellformed.specs.Clauses.{boxAt, countsOf}
 use Rattle.wellformed.proofs.RowLaws.{Passed, rows-all, rows-more, rows-not}
 use Rattle.wellformed.proofs.ListLaws.{boxes-from}
 use Rattle.wellformed.proofs.lists.boxes_ok.Statement.{statement}
 use Rattle.wellformed.proofs.lists.boxes_ok.Tie as tie
+use Rattle.values.proofs.Lists.{unmap}
 
 abbrev Inv-loop : tie.InvT-loop
 Inv-loop c1 c2 b n k₀ k = (k ≤ n) × Passed (boxAt (countsOf c1 c2)) (viewBoxes b) 0 k

@@ -6,11 +6,11 @@ use borrow.Author.Needs.{needs}
 use lib.ListN.{length}
 use Rattle.model.specs.WellFormed.{wfMessage}
 use Rattle.sides.specs.Views.{viewLobby, viewMessage}
-use Rattle.sides.proofs.Lists.{unmap}
 use Rattle.wellformed.specs.Clauses.{countsOf}
 use Rattle.wellformed.proofs.RowLaws.{Passed, from-every, rows-all, rows-more, rows-not}
 use Rattle.wellformed.proofs.lists.lobby_ok.Statement.{statement}
 use Rattle.wellformed.proofs.lists.lobby_ok.Tie as tie
+use Rattle.values.proofs.Lists.{unmap}
 
 abbrev Inv-loop : tie.InvT-loop
 Inv-loop shelved c1 c2 l n k₀ k = (k ≤ n) × Passed (λ j x. wfMessage shelved (countsOf c1 c2) x) (viewLobby l) 0 k

@@ -7,11 +7,11 @@ use lib.ListN.{length}
 use Rattle.model.specs.WellFormed.{wfValue}
 use Rattle.values.specs.Env.{viewValue}
 use Rattle.sides.specs.Views.{viewShelf}
-use Rattle.sides.proofs.Lists.{unmap}
 use Rattle.wellformed.specs.Clauses.{countsOf}
 use Rattle.wellformed.proofs.RowLaws.{Passed, from-every, rows-all, rows-more, rows-not}
 use Rattle.wellformed.proofs.lists.shelf_ok.Statement.{statement}
 use Rattle.wellformed.proofs.lists.shelf_ok.Tie as tie
+use Rattle.values.proofs.Lists.{unmap}
 
 abbrev Inv-loop : tie.InvT-loop
 Inv-loop c1 c2 h n k₀ k = (k ≤ n) × Passed (λ j x. wfValue (countsOf c1 c2) x) (viewShelf h) 0 k

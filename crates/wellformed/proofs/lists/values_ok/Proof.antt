@@ -7,11 +7,11 @@ use borrow.Author.Needs.{needs}
 use lib.ListN.{length, take}
 use Rattle.model.specs.WellFormed.{wfValue}
 use Rattle.values.specs.Env.{viewValue}
-use Rattle.sides.proofs.Lists.{unmap}
 use Rattle.wellformed.specs.Clauses.{countsOf}
 use Rattle.wellformed.proofs.RowLaws.{Passed, from-every, rows-all, rows-more, rows-not}
 use Rattle.wellformed.proofs.lists.values_ok.Statement.{statement}
 use Rattle.wellformed.proofs.lists.values_ok.Tie as tie
+use Rattle.values.proofs.Lists.{unmap}
 
 abbrev Inv-loop : tie.InvT-loop
 Inv-loop c1 c2 n vals m k₀ k = (k ≤ m) × Passed (λ j x. wfValue (countsOf c1 c2) x) (map viewValue (take n vals)) 0 k

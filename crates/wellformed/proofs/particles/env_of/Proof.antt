@@ -7,10 +7,10 @@ use lib.ListN.{length, length-drop}
 use lib.Seq.{getD-drop}
 use Rattle.values.specs.Env.{viewEnv}
 use Rattle.scopes.specs.Names.{viewNames}
-use Rattle.sides.proofs.Lists.{unmap}
 use Rattle.wellformed.proofs.ParticleLaws.{env-all, env-more, envTo}
 use Rattle.wellformed.proofs.particles.env_of.Statement.{statement}
 use Rattle.wellformed.proofs.particles.env_of.Tie as tie
+use Rattle.values.proofs.Lists.{unmap}
 
 abbrev Inv-loop : tie.InvT-loop
 Inv-loop n s vals top e₀ i₀ e i = (i ≤ n) × (viewEnv e ≡ envTo (viewNames s) vals i)

@@ -8,11 +8,11 @@ use Rattle.model.specs.WellFormed.{wfParticle}
 use Rattle.tables.specs.Nodes.{table}
 use Rattle.tables.specs.Checks.{Passes}
 use Rattle.sides.specs.Views.{viewParticle, viewParticles}
-use Rattle.sides.proofs.Lists.{unmap}
 use Rattle.wellformed.specs.Clauses.{countsOf}
 use Rattle.wellformed.proofs.RowLaws.{Passed, from-every, rows-all, rows-more, rows-not}
 use Rattle.wellformed.proofs.particles.particles_ok.Statement.{statement}
 use Rattle.wellformed.proofs.particles.particles_ok.Tie as tie
+use Rattle.values.proofs.Lists.{unmap}
 
 abbrev Inv-loop : tie.InvT-loop
 Inv-loop nodes pool c1 c2 nb ps n k₀ k = (k ≤ n) × (Passes (table nodes pool) → Passed (λ j x. wfParticle (table nodes pool) (countsOf c1 c2) nb x) (viewParticles ps) 0 k)

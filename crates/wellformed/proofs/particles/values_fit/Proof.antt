@@ -6,11 +6,11 @@ use borrow.Author.Needs.{needs}
 use lib.ListN.{length, take}
 use Rattle.values.specs.Env.{viewValue}
 use Rattle.tables.specs.Nodes.{table}
-use Rattle.sides.proofs.Lists.{unmap}
 use Rattle.wellformed.proofs.RowLaws.{rows-length, take-capped}
 use Rattle.wellformed.proofs.ParticleLaws.{env-cut, fit-names, fit-not}
 use Rattle.wellformed.proofs.particles.values_fit.Statement.{statement}
 use Rattle.wellformed.proofs.particles.values_fit.Tie as tie
+use Rattle.values.proofs.Lists.{unmap}
 
 names-in-force-requires : tie.Need-names-in-force-requires
 names-in-force-requires c κs = search needs

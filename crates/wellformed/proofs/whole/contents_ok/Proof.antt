@@ -5,12 +5,12 @@ use borrow.Author.Needs.{needs}
 use lib.ListN.{length}
 use Rattle.tables.specs.Nodes.{table}
 use Rattle.sides.specs.Views.{viewBox, viewContents}
-use Rattle.sides.proofs.Lists.{unmap}
 use Rattle.wellformed.specs.Clauses.{countsOf}
 use Rattle.wellformed.proofs.RowLaws.{rows-length}
 use Rattle.wellformed.proofs.WholeLaws.{contents-are, contents-none, contents-not}
 use Rattle.wellformed.proofs.whole.contents_ok.Statement.{statement}
 use Rattle.wellformed.proofs.whole.contents_ok.Tie as tie
+use Rattle.values.proofs.Lists.{unmap}
 
 boxes : (x : tie.Start) → length (x .args .o .boxes .rows) ≡ 16
 boxes x = search unmap

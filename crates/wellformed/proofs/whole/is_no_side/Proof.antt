@@ -1,10 +1,11 @@
 -- `is_no_side`: Test by test.
 use mathlib.Core.Path.{_∙_, sym}
 use borrow.Author.Needs.{needs}
-use Rattle.sides.proofs.Lists.{goes-on, stops, unmap}
+use Rattle.sides.proofs.Lists.{goes-on, stops}
 use Rattle.wellformed.proofs.WholeLaws.{Full, no-side-in}
 use Rattle.wellformed.proofs.whole.is_no_side.Statement.{statement}
 use Rattle.wellformed.proofs.whole.is_no_side.Tie as tie
+use Rattle.values.proofs.Lists.{unmap}
 
 arrays : (x : tie.Start) → Full (x .args .o)
 arrays x = record { particles = search unmap; boxes = search unmap; lobby = search unmap; shelf = search unmap; taken = search needs; left = search needs }

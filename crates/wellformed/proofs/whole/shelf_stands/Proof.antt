@@ -5,12 +5,12 @@ use borrow.Author.Needs.{needs}
 use lib.ListN.{length}
 use Rattle.values.specs.Env.{viewValue}
 use Rattle.sides.specs.Views.{viewShelf}
-use Rattle.sides.proofs.Lists.{unmap}
 use Rattle.wellformed.specs.Clauses.{countsOf}
 use Rattle.wellformed.proofs.RowLaws.{no-rows}
 use Rattle.wellformed.proofs.WholeLaws.{shelf-empty, shelf-held}
 use Rattle.wellformed.proofs.whole.shelf_stands.Statement.{statement}
 use Rattle.wellformed.proofs.whole.shelf_stands.Tie as tie
+use Rattle.values.proofs.Lists.{unmap}
 
 shelf : (x : tie.Start) → length (x .args .o .shelf .rows) ≡ 32
 shelf x = search unmap

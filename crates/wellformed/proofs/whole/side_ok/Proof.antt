@@ -6,11 +6,12 @@ use Rattle.model.specs.Basics.{every}
 use Rattle.model.specs.WellFormed.{wfMessage}
 use Rattle.tables.specs.Nodes.{table}
 use Rattle.sides.specs.Views.{viewLobby, viewShelf, viewSide}
-use Rattle.sides.proofs.Lists.{goes-on, stops, unmap}
+use Rattle.sides.proofs.Lists.{goes-on, stops}
 use Rattle.wellformed.specs.Clauses.{countsOf, shelfAllowed}
 use Rattle.wellformed.proofs.WholeLaws.{Full, side-is, within-arrays}
 use Rattle.wellformed.proofs.whole.side_ok.Statement.{statement}
 use Rattle.wellformed.proofs.whole.side_ok.Tie as tie
+use Rattle.values.proofs.Lists.{unmap}
 
 arrays : (x : tie.Start) → Full (x .args .o)
 arrays x = record { particles = search unmap; boxes = search unmap; lobby = search unmap; shelf = search unmap; taken = search needs; left = search needs }

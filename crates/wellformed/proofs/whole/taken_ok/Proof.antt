@@ -6,11 +6,12 @@ use borrow.Author.Needs.{needs}
 use lib.ListN.{drop, length}
 use Rattle.model.specs.WellFormed.{clear}
 use Rattle.values.specs.Env.{viewValue}
-use Rattle.sides.proofs.Lists.{goes-on, stops, unmap}
+use Rattle.sides.proofs.Lists.{goes-on, stops}
 use Rattle.wellformed.specs.Clauses.{takenFits}
 use Rattle.wellformed.proofs.RowLaws.{rows-length}
 use Rattle.wellformed.proofs.whole.taken_ok.Statement.{statement}
 use Rattle.wellformed.proofs.whole.taken_ok.Tie as tie
+use Rattle.values.proofs.Lists.{unmap}
 
 clear-from-requires : tie.Need-clear-from-requires
 clear-from-requires c κs = search needs
