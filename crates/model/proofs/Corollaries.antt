@@ -116,8 +116,8 @@ seen-answers b (x ∷ xs) s = by-side (isSide1 x) refl (seen-answers b xs (step 
 
 pub answers-independent : AnswersIndependent
 unfolding AnswersIndependent Independence
-answers-independent b b′ w w′ t s s′ l l′ xs xs′ same p p′ =
-    sym (seen-answers b xs s) ∙ ap (map (λ (x : Seen). x .answer)) (independence b b′ w w′ t s s′ l l′ xs xs′ same p p′ .1) ∙ seen-answers b′ xs′ s′
+answers-independent b b′ w w′ t s s′ l l′ xs xs′ same p =
+    sym (seen-answers b xs s) ∙ ap (map (λ (x : Seen). x .answer)) (independence b b′ w w′ t s s′ l l′ xs xs′ same p .1) ∙ seen-answers b′ xs′ s′
 
 -- LISTING A
 

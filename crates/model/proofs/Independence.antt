@@ -9,7 +9,7 @@ use borrow.Author.Tests.{leb-true, eqb-true}
 use lib.Dec.{eqb}
 use lib.ListN.{length, getD, set}
 use lib.Seq.{getD-set-same}
-use Rattle.model.specs.Basics.{_or_, choose, Res, refuse, done, has, every}
+use Rattle.model.specs.Basics.{_&_, _or_, choose, Res, refuse, done, has, every}
 use Rattle.model.specs.Values.{isMinted}
 use Rattle.model.specs.Table.{Table}
 use Rattle.model.specs.Side.{State, Side, Core, startSide}
@@ -17,7 +17,7 @@ use Rattle.model.specs.Load.{Composition, Setting, setting1, setting2, i
 use Rattle.model.specs.WellFormed.{wfState, wfSide, ready}
 use Rattle.model.specs.Step.{Step, Label, silent, enters, leaves, Moved, labelled, step, settled, local, local2, enter, marks, marked, markAll, mark1, markOf, answerOf, sideAfter, known}
 use Rattle.model.specs.Runs.{isSide1, side1Steps, Seen, sees, afterAll, leftBy1, leftEarlier, premise, Independence}
-use Rattle.model.proofs.Tests.{or-cases, has-append, fst, snd, both, alt}
+use Rattle.model.proofs.Tests.{append-nil, or-cases, has-append, fst, snd, both, alt}
 use Rattle.model.proofs.Invariant.{keeps, mark1-size}
 use Rattle.model.proofs.Starts.{loadSide-ok, starts}
 
@@ -189,6 +189,42 @@ project b (x ∷ xs) seen s e h a =
         let cov : Covers (seen ++ leftBy1 (step b s x .answer)) (step b s x .after .one .left) = rw (so .1, so .0) (covers-nil seen (s .one .left) h) in
         rw (o, ih cov (snd _ _ a), so .0)
 
+-- the premise, of side 1 alone on its own steps
+solo-premise : Setting → (earlier : List ℕ) → Side → List Step → Bool
+solo-premise c earlier s [] = true
+solo-premise c earlier s (x ∷ xs) =
+    let r = alone c s x in
+    let rest = solo-premise c (earlier ++ leftBy1 (answerOf 1 r)) (sideAfter s r) xs in
+    (not (eqb (x .kind) 1) or leftEarlier earlier (x .words)) & rest
+
+-- so that it holds of one run where it holds of another with the same side-1 steps
+premise-is : (b : Composition) (xs : List Step) (seen : List ℕ) (s : State) → ready b s ≡ true → Covers seen (s .one .left) →
+    premise b seen s xs ≡ solo-premise (setting1 b) seen (s .one) (side1Steps xs)
+unfolding premise solo-premise _&_ _or_
+premise-is b [] seen s e h = refl
+premise-is b (x ∷ xs) seen s e h =
+    go (isSide1 x) refl (premise-is b xs (seen ++ leftBy1 (step b s x .answer)) (step b s x .after) (keeps b s x e))
+  where
+    go : (t : Bool) → isSide1 x ≡ t →
+        (Covers (seen ++ leftBy1 (step b s x .answer)) (step b s x .after .one .left) →
+        premise b (seen ++ leftBy1 (step b s x .answer)) (step b s x .after) xs ≡ solo-premise (setting1 b) (seen ++ leftBy1 (step b s x .answer)) (step b s x .after .one) (side1Steps xs)) →
+        premise b seen s (x ∷ xs) ≡ solo-premise (setting1 b) seen (s .one) (side1Steps (x ∷ xs))
+    go true o ih = by-head (not (eqb (x .kind) 1) or leftEarlier seen (x .words)) refl
+      where
+        by-head : (u : Bool) → not (eqb (x .kind) 1) or leftEarlier seen (x .words) ≡ u → premise b seen s (x ∷ xs) ≡ solo-premise (setting1 b) seen (s .one) (side1Steps (x ∷ xs))
+        by-head false q = rw (o, q)
+        by-head true q =
+            let st = own-step b s x seen e o h (rw o q) in
+            let cov : Covers (seen ++ leftBy1 (step b s x .answer)) (step b s x .after .one .left) = rw st (covers-after seen (s .one) (alone (setting1 b) (s .one) x) (ready-length b s e) h) in
+            rw (o, q, ih cov, st)
+    go false o ih =
+        let so = step-other b s x o in
+        let cov : Covers (seen ++ leftBy1 (step b s x .answer)) (step b s x .after .one .left) = rw (so .1, so .0) (covers-nil seen (s .one .left) h) in
+        rw (o, ih cov, so .1, so .0, append-nil seen)
+
+cong-premise : {c c′ : Setting} {s s′ : Side} {xs xs′ : List Step} → c ≡ c′ → s ≡ s′ → xs ≡ xs′ → solo-premise c [] s xs ≡ solo-premise c′ [] s′ xs′
+cong-premise p q r = cc
+
 -- side 1's state after a run is the last that it saw, or the one that it began with
 lastSeen : Side → List Seen → Side
 lastSeen s [] = s
@@ -210,8 +246,13 @@ cong-last p q = cc
 -- DEMAND 3
 pub independence : Independence
 unfolding Independence Covers
-independence b b′ w w′ t s s′ l l′ xs xs′ same a a′ =
+independence b b′ w w′ t s s′ l l′ xs xs′ same a =
     let one : s .one ≡ s′ .one = load-one b s w l ∙ ap (λ (u : Table). startSide (start 1 u)) t ∙ sym (load-one b′ s′ w′ l′) in
+    let a′ : premise b′ [] s′ xs′ ≡ true =
+    premise-is b′ xs′ [] s′ (starts b′ s′ l′) (λ v p m. absurd (false≢true p))
+    ∙ sym (cong-premise (same-config b b′ w w′ t) one same)
+    ∙ sym (premise-is b xs [] s (starts b s l) (λ v p m. absurd (false≢true p)))
+    ∙ a in
     let seen : sees b s xs ≡ sees b′ s′ xs′ =
     project b xs [] s (starts b s l) (λ v p m. absurd (false≢true p)) a
     ∙ cong (same-config b b′ w w′ t) one same

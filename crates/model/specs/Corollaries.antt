@@ -71,7 +71,7 @@ AnswersIndependent =
     (b b′ : Composition) → b .wrapper ≡ 2 → b′ .wrapper ≡ 2 → b .table1 ≡ b′ .table1 →
     (s s′ : State) → load b ≡ ok s → load b′ ≡ ok s′ →
     (xs xs′ : List Step) → side1Steps xs ≡ side1Steps xs′ →
-    premise b [] s xs ≡ true → premise b′ [] s′ xs′ ≡ true →
+    premise b [] s xs ≡ true →
     answersTo1 xs (answers b s xs) ≡ answersTo1 xs′ (answers b′ s′ xs′)
 
 -- LISTING A

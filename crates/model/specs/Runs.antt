@@ -68,12 +68,13 @@ Reached = (b : Composition) → ((s : State) → load b ≡ ok s → ready b s �
     × ((s : State) (x : Step) → ready b s ≡ true → ready b (step b s x .after) ≡ true)
 
 -- DEMAND 3. Two pipeline loads that succeed, with the same first table; any two lists of steps with the same side-1 steps
--- in the same order: side 1's state after the load, its answers and its state after each of its steps are equal, and so is its
--- state after the whole lists, and thereby at any time: a list may end anywhere
+-- in the same order; the premise of one run, from which the other's follows: side 1's state after the load, its answers and its
+-- state after each of its steps are equal, and so is its state after the whole lists, and thereby at any time: a list may end
+-- anywhere
 unfoldable pub Independence : Type 0
 Independence =
     (b b′ : Composition) → b .wrapper ≡ 2 → b′ .wrapper ≡ 2 → b .table1 ≡ b′ .table1 →
     (s s′ : State) → load b ≡ ok s → load b′ ≡ ok s′ →
     (xs xs′ : List Step) → side1Steps xs ≡ side1Steps xs′ →
-    premise b [] s xs ≡ true → premise b′ [] s′ xs′ ≡ true →
+    premise b [] s xs ≡ true →
     (s .one ≡ s′ .one) × (sees b s xs ≡ sees b′ s′ xs′) × (afterAll b s xs .one ≡ afterAll b′ s′ xs′ .one)
