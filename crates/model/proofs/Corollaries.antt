@@ -24,7 +24,7 @@ use Rattle.model.specs.Process.{confOf, knownOf, codeOf, valOf, reads, p
 use Rattle.model.specs.Agreement.{Says, says-tau, says-in, says-out, IsLabelled, SoundAt, Sound, LoadAgrees, plainly, handler}
 use Rattle.model.specs.Runs.{isSide1, Seen, sees, Reached, answers, afterAll, Independence}
 use Rattle.model.specs.Trials.{copier, entering, ask, inward, outward, tau as silently, runFrom}
-use Rattle.model.specs.Corollaries.{Path, stop, go, SaysAll, says-none, says-more, says-refused, RunsAreTransitions, answersTo1, AnswersIndependent, copies, labelsA, ListingA}
+use Rattle.model.specs.Corollaries.{Path, stop, go, SaysAll, says-none, says-more, says-refused, RunsAreTransitions, answersTo1, AnswersIndependent, sending, idle, PremiseNeeded, copies, labelsA, ListingA}
 use Rattle.calculus.proofs.Marks.{step-remark, wmark}
 use Rattle.model.proofs.Reached.{reached}
 use Rattle.model.proofs.Independence.{independence}
@@ -118,6 +118,14 @@ pub answers-independent : AnswersIndependent
 unfolding AnswersIndependent Independence
 answers-independent b b′ w w′ t s s′ l l′ xs xs′ same p =
     sym (seen-answers b xs s) ∙ ap (map (λ (x : Seen). x .answer)) (independence b b′ w w′ t s s′ l l′ xs xs′ same p .1) ∙ seen-answers b′ xs′ s′
+
+-- by computation
+pub premise-needed : PremiseNeeded
+unfolding _&_ _or_ choose bind need pick items shaped isValue at restOf firstOf matches childTimes build decode term scopeUp check1 check2 timesChild check3 check4 patternOk check5 over overAll firstBad found fault limits unfolds defined start loadSide load held heldWord wfValue wfTag wfParticle wfBoxes wfContents wfMessage wfCore wfLeft wfSide wfTaken isNoSide wfState ready enter goDown upFrom upParticle up descendParticle descend meetTerm meetParticles meet pass leave takes inner local local2 settled mark1 step answers PremiseNeeded
+premise-needed = (state sending, state idle, refl, refl, refl, refl, refl)
+  where
+    state : Composition → State
+    state b = record { one = startSide (start 1 (b .table1)); two = startSide (start 2 (b .table2)) }
 
 -- LISTING A
 

@@ -19,7 +19,8 @@ use Rattle.model.specs.Step.{Step, Answer, refusal, step}
 use Rattle.model.specs.Runs.{isSide1, side1Steps, answers, afterAll, premise}
 use Rattle.model.specs.Process.{inwards, outwards, Mark, confOf, knownOf}
 use Rattle.model.specs.Agreement.{Says, plainly}
-use Rattle.model.specs.Trials.{copier}
+use Rattle.model.specs.Trials.{pipeline, ask, entering, inward, no, nothingAtAll, copier}
+use Rattle.model.specs.MoreTrials.{sendsNew}
 
 -- PURITY (document 004, Propositions 2 and 4)
 
@@ -73,6 +74,25 @@ AnswersIndependent =
     (xs xs′ : List Step) → side1Steps xs ≡ side1Steps xs′ →
     premise b [] s xs ≡ true →
     answersTo1 xs (answers b s xs) ≡ answersTo1 xs′ (answers b′ s′ xs′)
+
+-- without its premise independence does not hold: side 1 is nil and asks for side 2's first name to enter, which side 2 has sent out
+-- by its own outlet in one run, and not in the other
+abbrev pub sending : Composition
+sending = pipeline nothingAtAll [] sendsNew (9 ∷ [])
+
+abbrev pub idle : Composition
+idle = pipeline nothingAtAll [] nothingAtAll []
+
+abbrev pub enteringIt : List Step
+enteringIt = entering 1 (131072 ∷ []) ∷ []
+
+abbrev pub enteringItSent : List Step
+enteringItSent = ask 3 2 0 0 ∷ ask 6 2 0 0 ∷ ask 7 2 0 0 ∷ enteringIt
+
+unfoldable pub PremiseNeeded : Type 0
+PremiseNeeded = (s s' : State) × (load sending ≡ ok s) × (load idle ≡ ok s') × (side1Steps enteringItSent ≡ side1Steps enteringIt)
+    × (answersTo1 enteringItSent (answers sending s enteringItSent) ≡ inward 1 (131072 ∷ []) ∷ [])
+    × (answersTo1 enteringIt (answers idle s' enteringIt) ≡ no 1 12 ∷ [])
 
 -- LISTING A
 
