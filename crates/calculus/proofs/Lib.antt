@@ -16,3 +16,10 @@ pub mod Marks
 pub mod TreeMoves
 pub mod Bags
 pub mod Swaps
+pub mod ScopeExamples
+pub mod Contexts
+pub mod Members
+pub mod KnownNames
+pub mod CongruentInstances
+pub mod CongruentSteps
+pub mod Purity

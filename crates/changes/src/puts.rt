@@ -78,10 +78,10 @@ fn marked_left(o: Side, at: usize) -> Side {
     o.with_left(left)
 }
 
-// A place marked as taken, if there is one.
+// A place marked as taken, if there is one: 32 places for each side's shelf.
 fn marked_taken(o: Side, at: usize) -> Side {
     let mut taken = o.taken;
-    if at < 32 {
+    if at < 64 {
         taken[at] = true;
     }
     o.with_taken(taken)

@@ -102,7 +102,7 @@ fn same_row_of_16(a: Side, b: Side, k: usize) -> bool
         && same_message(l.msgs[k], m.msgs[k])
 }
 
-// Particle and shelf value k, the number of each, and whether the value is taken.
+// Particle and shelf value k, the number of each, and whether the value of either side's shelf is taken.
 fn same_row_of_32(a: Side, b: Side, k: usize) -> bool
     requires { ⌜ k < 32 ⌝ }
 {
@@ -115,6 +115,7 @@ fn same_row_of_32(a: Side, b: Side, k: usize) -> bool
     p.len == q.len
         && h.len == g.len
         && t[k] == u[k]
+        && t[k + 32] == u[k + 32]
         && same_particle(p.rows[k], q.rows[k])
         && same_value(h.rows[k], g.rows[k])
 }

@@ -57,6 +57,14 @@ fn lists(s: State, side: u32) {
     compare(b" left", s, side, 31, 511, 31, 512);
 }
 
+// A mark beside no mark: the last place of side 1's shelf, the first and the last of side 2's. There is no place 64.
+fn taken_marks(s: State, side: u32) {
+    compare(b" taken 31", s, side, 32, 31, 32, 64);
+    compare(b" taken 32", s, side, 32, 32, 32, 64);
+    compare(b" taken 63", s, side, 32, 63, 32, 64);
+    compare(b" taken 64", s, side, 32, 64, 32, 65);
+}
+
 // Each field of a side.
 fn fields(s: State, side: u32) {
     particle_fields(s, side);
@@ -68,4 +76,6 @@ fn main() {
     let s = states::piped();
     fields(s, 1);
     fields(s, 2);
+    taken_marks(s, 1);
+    taken_marks(s, 2);
 }

@@ -1,15 +1,17 @@
 -- What a side's own step is given, and the model's step by the parts that the functions have.
 use mathlib.Core.Path.{_≡_}
-use mathlib.Core.Bool.{Bool, true}
+use mathlib.Core.Bool.{Bool, true, cond}
 use mathlib.Core.List.{List}
 use mathlib.Core.Logic.{_⊎_}
 use Prim.Native.Nat.{ℕ}
 use lib.Dec.{eqb}
-use Rattle.model.specs.Basics.{choose, Res, refuse, need}
+use lib.ListN.{length}
+use Rattle.model.specs.Basics.{_&_, choose, Res, refuse, need}
 use Rattle.model.specs.Side.{Core}
+use Rattle.model.specs.Wrapper.{filter, pipeline}
 use Rattle.model.specs.Load.{Setting}
 use Rattle.model.specs.WellFormed.{Counts, wfCore}
-use Rattle.model.specs.Step.{Step, Moved, goDown, up, pass, leave, descend, meet}
+use Rattle.model.specs.Step.{Step, Moved, goDown, up, pass, leave, descend, meet, enter, takes, inner}
 use Rattle.tables.specs.Nodes.{table}
 use Rattle.tables.specs.Checks.{Passes}
 use Rattle.sides.specs.declared.Side.{Side}
@@ -17,7 +19,7 @@ use Rattle.sides.specs.Views.{viewCore, fitsSide}
 
 -- what a side is run with, by its slices
 abbrev pub settingOf : ℕ → Bool → (nodes pool : List ℕ) → Setting
-settingOf i p ns ws = record { side = i; pipeline = p; table = table ns ws }
+settingOf i p ns ws = record { wrapper = cond p pipeline filter; side = i; table = table ns ws }
 
 -- the step asked for
 abbrev pub asked : (kind side i j : ℕ) → List ℕ → Step
@@ -31,6 +33,16 @@ onePlace c s k i =
 -- kinds 2 to 7
 unfoldable pub twoPlaces : Setting → Core → (kind i j : ℕ) → Res Moved
 twoPlaces c s k i j = choose (eqb k 4) (descend s i j) (choose (eqb k 5) (meet c s i j) (need (eqb j 0) 10 (onePlace c s k i)))
+
+-- kinds 1 to 7: the model's `local` of a side that takes from nobody
+unfoldable pub ownLocal : Setting → (known : ℕ → Bool) → Core → Step → Res Moved
+ownLocal c known s x =
+    choose (eqb (x .kind) 1) (need (eqb (x .i) 0 & eqb (x .j) 0) 10 (enter known s (x .words))) (inner c s x)
+
+-- kinds 1 to 8: the model's `local` of side 2 under the pipeline, beside side 1's shelf
+unfoldable pub secondLocal : Setting → (known : ℕ → Bool) → (shelf : List (List ℕ)) → Core → Step → Res Moved
+secondLocal c known sh s x =
+    choose (eqb (x .kind) 8) (need (eqb (x .j) 0 & eqb (length (x .words)) 0) 10 (takes 1 sh s (x .i))) (ownLocal c known s x)
 
 -- a side that a step may act on: its table passes the checks, its counts are within their arrays, and it is well formed
 pub record OwnReady (c : Setting) (o : Side) : Type 0 where

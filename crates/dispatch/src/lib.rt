@@ -6,12 +6,12 @@ ghost use lib.Dec.{eqb};
 ghost use mathlib.Core.Bool.{Bool, true};
 ghost use Rattle.model.specs.Basics.{_&_, Res, refuse};
 ghost use Rattle.model.specs.Load.{Setting};
-ghost use Rattle.model.specs.WellFormed.{shelves};
-ghost use Rattle.model.specs.Step.{Moved, settled, local, local2};
+ghost use Rattle.model.specs.Wrapper.{shelves};
+ghost use Rattle.model.specs.Step.{Moved, settled};
 ghost use Rattle.sides.specs.Views.{viewCore, viewShelf, fitsShelf};
 ghost use Rattle.steps.specs.Asked.{knownBy};
 ghost use Rattle.steps.specs.StepIs.{Sane, StepIs};
-ghost use Rattle.dispatch.specs.Stepping.{settingOf, asked, onePlace, twoPlaces, OwnReady};
+ghost use Rattle.dispatch.specs.Stepping.{settingOf, asked, onePlace, twoPlaces, ownLocal, secondLocal, OwnReady};
 use meeting::meet;
 use sides::Shelf;
 use sides::Side;
@@ -48,7 +48,7 @@ fn shelving(side: u32, pipeline: bool) -> bool
 // Kinds 2, 3, 6 and 7: the steps that name one place.
 fn one_place(shelved: bool, o: Side, kind: u32, i: usize) -> SideStep
     requires { ⌜ Sane o ⌝ }
-    ensures { λ r. ⌜ ((c : Setting) → shelves c ≡ shelved → StepIs (settled (onePlace c (viewCore o) kind i)) o r) ⌝ }
+    ensures { λ r. ⌜ ((c : Setting) → shelves (c .wrapper) (c .side) ≡ shelved → StepIs (settled (onePlace c (viewCore o) kind i)) o r) ⌝ }
 {
     if kind == 2 {
         return down(o, i);
@@ -101,7 +101,7 @@ fn entering(
     words: &[u32],
 ) -> SideStep
     requires { ⌜ Sane o ⌝ }
-    ensures { λ r. ⌜ ((c : Setting) (n : ℕ) → StepIs (settled (local c (knownBy left1 left2) (viewCore o) (asked 1 n i j (now (words .entry))))) o r) ⌝ }
+    ensures { λ r. ⌜ ((c : Setting) (n : ℕ) → StepIs (settled (ownLocal c (knownBy left1 left2) (viewCore o) (asked 1 n i j (now (words .entry))))) o r) ⌝ }
 {
     if i == 0 {
         if j == 0 {
@@ -127,7 +127,7 @@ pub fn own_step(
     words: &[u32],
 ) -> SideStep
     requires { ⌜ OwnReady (settingOf side pipeline (now nodes) (now pool)) o ⌝ }
-    ensures { λ r. ⌜ ((n : ℕ) → StepIs (settled (local (settingOf side pipeline (now (nodes .entry)) (now (pool .entry))) (knownBy left1 left2) (viewCore o) (asked kind n i j (now (words .entry))))) o r) ⌝ }
+    ensures { λ r. ⌜ ((n : ℕ) → StepIs (settled (ownLocal (settingOf side pipeline (now (nodes .entry)) (now (pool .entry))) (knownBy left1 left2) (viewCore o) (asked kind n i j (now (words .entry))))) o r) ⌝ }
 {
     if kind == 1 {
         return entering(o, left1, left2, i, j, words);
@@ -141,7 +141,7 @@ pub fn own_step(
 // Kind 8: unused j must be 0, and there are no value words.
 fn taking(o: Side, shelf: Shelf, i: usize, j: usize, words: &[u32]) -> SideStep
     requires { ⌜ (Sane o) × (fitsShelf shelf ≡ true) ⌝ }
-    ensures { λ r. ⌜ ((c : Setting) (known : ℕ → Bool) (n : ℕ) → StepIs (settled (local2 c known (viewShelf shelf) (viewCore o) (asked 8 n i j (now (words .entry))))) o r) ⌝ }
+    ensures { λ r. ⌜ ((c : Setting) (known : ℕ → Bool) (n : ℕ) → StepIs (settled (secondLocal c known (viewShelf shelf) (viewCore o) (asked 8 n i j (now (words .entry))))) o r) ⌝ }
 {
     if j == 0 {
         if words.len() == 0 {
@@ -167,7 +167,7 @@ pub fn second_step(
     words: &[u32],
 ) -> SideStep
     requires { ⌜ (OwnReady (settingOf 2 pipeline (now nodes) (now pool)) o) × (fitsShelf shelf ≡ true) ⌝ }
-    ensures { λ r. ⌜ ((n : ℕ) → StepIs (settled (local2 (settingOf 2 pipeline (now (nodes .entry)) (now (pool .entry))) (knownBy left1 left2) (viewShelf shelf) (viewCore o) (asked kind n i j (now (words .entry))))) o r) ⌝ }
+    ensures { λ r. ⌜ ((n : ℕ) → StepIs (settled (secondLocal (settingOf 2 pipeline (now (nodes .entry)) (now (pool .entry))) (knownBy left1 left2) (viewShelf shelf) (viewCore o) (asked kind n i j (now (words .entry))))) o r) ⌝ }
 {
     if kind == 8 {
         return taking(o, shelf, i, j, words);

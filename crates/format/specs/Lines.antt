@@ -1,13 +1,14 @@
 -- What `bench` reads: lines of tab-parted fields, each line ended by a newline.
 use mathlib.Core.Bool.{Bool, true, false}
-use mathlib.Core.List.{List, [], _∷_, _++_}
+use mathlib.Core.List.{List, [], _∷_, _++_, map}
 use mathlib.Core.Option.{Option, none, some}
-use Prim.Native.Nat.{ℕ, suc, _+_, _-_, _*_}
+use Prim.Native.Nat.{ℕ, zero, suc, _+_, _-_, _*_}
 use lib.Dec.{leb, ltb, eqb}
-use lib.ListN.{length, getD, drop}
+use lib.ListN.{length, getD, set, drop}
 use Rattle.model.specs.Basics.{_&_, choose, every}
 use Rattle.model.specs.Table.{Table}
-use Rattle.model.specs.Load.{Composition}
+use Rattle.model.specs.Wrapper.{allSides}
+use Rattle.model.specs.Load.{Composition, noTable, table}
 use Rattle.model.specs.Step.{Step}
 
 -- FIELDS
@@ -64,7 +65,7 @@ lineOf l = elim (pieces tab l) [
 
 -- WHAT THE LINES GIVE
 
--- what the lines so far give: the last letter's rank (W, N, V, S: 1 to 4; 0 before all), the wrapper with both tables,
+-- what the lines so far give: the last letter's rank (W, N, V, S: 1 to 4; 0 before all), the wrapper with the tables,
 -- and the steps
 pub record Input : Type 0 where
   pub rank : ℕ
@@ -72,7 +73,7 @@ pub record Input : Type 0 where
   pub steps : List Step
 
 abbrev pub noInput : Input
-noInput = record { rank = 0; loads = record { wrapper = 0; table1 = record { nodes = []; pool = [] }; table2 = record { nodes = []; pool = [] } }; steps = [] }
+noInput = record { rank = 0; loads = record { wrapper = 0; tables = map (λ n. noTable) allSides }; steps = [] }
 
 abbrev pub when : {A : Type 0} → Bool → A → Option A
 when t a = choose t (some a) none
@@ -80,24 +81,22 @@ when t a = choose t (some a) none
 abbrev pub between : ℕ → ℕ → ℕ → Bool
 between a b n = leb a n & leb n b
 
--- a side's table by the side's number, 1 or else 2, and a composition with it put anew
-abbrev pub tableOf : Composition → ℕ → Table
-tableOf b k = choose (eqb k 1) (b .table1) (b .table2)
-
+-- a composition with side n's table put anew, from 1 on
 abbrev pub withTable : Composition → ℕ → Table → Composition
-withTable b k t = record { wrapper = b .wrapper; table1 = choose (eqb k 1) t (b .table1); table2 = choose (eqb k 1) (b .table2) t }
+withTable b zero t = b
+withTable b (suc n) t = record { wrapper = b .wrapper; tables = set (b .tables) n t }
 
 -- W: the first line, and one number
 unfoldable pub onW : Input → List ℕ → Option Input
 onW i ns =
     when (eqb (i .rank) 0 & eqb (length ns) 1)
-    (record { rank = 1; loads = record { wrapper = getD ns 0 0; table1 = i .loads .table1; table2 = i .loads .table2 }; steps = i .steps })
+    (record { rank = 1; loads = record { wrapper = getD ns 0 0; tables = i .loads .tables }; steps = i .steps })
 
 -- N: after W, before V and S; a side, 1 or 2, and five words; at most 257 a side
 unfoldable pub onN : Input → List ℕ → Option Input
 onN i ns =
     let k = getD ns 0 0 in
-    let t = tableOf (i .loads) k in
+    let t = table (i .loads) k in
     when (between 1 2 (i .rank) & (eqb (length ns) 6 & (between 1 2 k & ltb (length (t .nodes)) (5 * 257))))
     (record { rank = 2; loads = withTable (i .loads) k (record { nodes = t .nodes ++ drop 1 ns; pool = t .pool }); steps = i .steps })
 
@@ -105,7 +104,7 @@ onN i ns =
 unfoldable pub onV : Input → List ℕ → Option Input
 onV i ns =
     let k = getD ns 0 0 in
-    let t = tableOf (i .loads) k in
+    let t = table (i .loads) k in
     when (between 1 3 (i .rank) & (eqb (length ns) 2 & (between 1 2 k & ltb (length (t .pool)) 1025)))
     (record { rank = 3; loads = withTable (i .loads) k (record { nodes = t .nodes; pool = t .pool ++ drop 1 ns }); steps = i .steps })
 

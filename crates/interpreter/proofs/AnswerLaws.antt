@@ -1,23 +1,27 @@
 -- The answer to a step, and the state beside it.
 use mathlib.Core.Path.{_≡_, refl, sym, ap, subst, _∙_}
-use mathlib.Core.Bool.{Bool, true, false, _&&_, cond, false≢true}
+use mathlib.Core.Bool.{Bool, true, false, _&&_, false≢true}
 use mathlib.Core.List.{List, [], _∷_, _++_}
 use mathlib.Core.Logic.{inl, inr}
 use mathlib.Core.Option.{Option, none, some}
 use Prim.Native.Nat.{ℕ, zero, suc, _+_, _-_, _<_}
 use native.Mathlib.Omega.{arith}
 use native.Mathlib.Numerals.{add-one}
-use borrow.Author.Tests.{eq-eqb, ne-eqb, eqb-true}
+use borrow.Author.Tests.{eqb-true}
 use lib.Dec.{eqb}
 use lib.ListN.{length, take, getD, set, replicate}
 use Rattle.model.specs.Basics.{_&_, Res, refuse, done}
-use Rattle.model.specs.Side.{Core}
+use Rattle.model.specs.Side.{Core, side}
+use Rattle.model.specs.Side.{putSide as putMSide}
 use Rattle.model.specs.Side.{Side as MSide, State as MState}
-use Rattle.model.specs.Load.{Composition, isPipeline, setting1, setting2, Loaded, refused, ok, isOk, load}
-use Rattle.model.specs.WellFormed.{counts, wfSide, wfState, ready}
-use Rattle.model.specs.Step.{Label, silent, enters, leaves, Step, Moved, settled, local, local2, known, Answer, labelled, refusal, answerOf, sideAfter, Result, step, answerTo, afterStep}
+use Rattle.model.specs.Wrapper.{Wrapper, isWrapper, described, hasSide}
+use Rattle.model.specs.Load.{Composition, wrapperOf, setting, Loaded, refused, ok, isOk, load}
+use Rattle.model.specs.Load.{table as tableOf}
+use Rattle.model.specs.WellFormed.{counts, wfCore, wfSide, wfState, shelfOf, ready}
+use Rattle.model.specs.Step.{Label, silent, enters, leaves, Step, Moved, settled, local, known, Answer, labelled, refusal, answerOf, sideAfter, Result, step, answerTo, afterStep}
 use Rattle.model.specs.Answer.{Said as MSaid, label, saidBy, sideBy, valueBy, Given, given}
-use Rattle.model.proofs.Tests.{fst, snd, both}
+use Rattle.model.proofs.Tests.{fst, both}
+use Rattle.model.proofs.Invariant.{side-wf}
 use Rattle.values.specs.declared.Value.{Value}
 use Rattle.values.specs.Env.{viewValue}
 use Rattle.values.proofs.Lists.{take-count}
@@ -34,10 +38,12 @@ use Rattle.steps.proofs.Settling.{no-left, no-right}
 use Rattle.interpreter.specs.declared.Outcome.the-variants as outcome
 use Rattle.interpreter.specs.declared.Stepped.{Stepped}
 use Rattle.interpreter.specs.Loading.{outcomeOf}
-use Rattle.dispatch.specs.Stepping.{OwnReady}
+use Rattle.dispatch.specs.Stepping.{ownLocal, secondLocal, OwnReady}
 use Rattle.interpreter.specs.Answers.{Padded, Answered, saidOf, givenOf, givenFor, isRefusal, ResultIs, RefusedTen, StepAnswered}
 use Rattle.interpreter.proofs.LoadLaws.{Taken1, taken}
-use Rattle.dispatch.proofs.StepLaws.{and-on}
+use Rattle.wellformed.specs.Clauses.{testedFor}
+use Rattle.interpreter.proofs.WrapperLaws.{tested-known, isPipeline, piped, settingFor, piped-is, has-first, has-second, has-none, takes-none}
+use Rattle.dispatch.proofs.StepLaws.{and-on, local-own, local-second}
 
 -- ZEROS PAST THE LENGTH
 pub copy-more : (ws : List ℕ) (k m : ℕ) → k < length ws → set (take k ws ++ replicate (suc m) 0) k (getD ws k 0) ≡ take (suc k) ws ++ replicate m 0
@@ -96,27 +102,7 @@ module _ (o : Side) (d : SideStep) where
   step-kept k (refuse n) h e = h .is .kept
   step-kept k (done v) h e = absurd (false≢true e)
 
--- A STEP OF THE MODEL, BY THE SIDE THAT IS ASKED
-abbrev pub firstMove : Composition → MState → Step → Res Moved
-firstMove b s x = settled (local (setting1 b) (known s) (s .one .core) x)
-
-abbrev pub secondMove : Composition → MState → Step → Res Moved
-secondMove b s x = settled (local2 (setting2 b) (known s) (s .one .core .shelf) (s .two .core) x)
-
-module _ (b : Composition) (s : MState) (x : Step) (e : ready b s ≡ true) where
-  pub first-asked : x .side ≡ 1 → step b s x ≡ record { answer = answerOf 1 (firstMove b s x); after = record { one = sideAfter (s .one) (firstMove b s x); two = s .two } }
-  unfolding step
-  first-asked p = rw (e, eq-eqb (x .side) 1 p, step)
-
-  pub second-asked : (x .side ≡ 1 → ⊥) → eqb (x .side) 2 && isPipeline b ≡ true → step b s x ≡ record { answer = answerOf 2 (secondMove b s x); after = record { one = s .one; two = sideAfter (s .two) (secondMove b s x) } }
-  unfolding step
-  second-asked p q = rw (e, ne-eqb (x .side) 1 p, q, step)
-
-  pub none-asked : (x .side ≡ 1 → ⊥) → eqb (x .side) 2 && isPipeline b ≡ false → step b s x ≡ record { answer = refusal 10 (x .side); after = s }
-  unfolding step
-  none-asked p q = rw (e, ne-eqb (x .side) 1 p, q, step)
-
--- A STEP
+-- WHETHER LOAD TAKES THE TABLES
 pub ok-outcome : (l : Loaded) → isOk l ≡ true → outcomeOf l ≡ outcome.Ok
 ok-outcome (refused x) e = absurd (false≢true e)
 ok-outcome (ok s) e = refl
@@ -129,35 +115,83 @@ pub outcome-not : (l : Loaded) (a : Rattle.interpreter.specs.declared.Ou
 outcome-not (refused x) a i j k e z = refl
 outcome-not (ok s) a i j k e z = let m : _≡_ {A = ℕ} 0 1 = cc in absurd (omega arith)
 
+-- A STEP OF THE MODEL, BY THE SIDE THAT IS ASKED
+abbrev pub firstMove : Composition → MState → Step → Res Moved
+firstMove b s x = settled (ownLocal (settingFor b 1) (known s) (side s 1 .core) x)
+
+abbrev pub secondMove : Composition → MState → Step → Res Moved
+secondMove b s x = settled (secondLocal (settingFor b 2) (known s) (side s 1 .core .shelf) (side s 2 .core) x)
+
+-- what a side's move makes of the state
+abbrev resultOf : MState → ℕ → Res Moved → Result
+resultOf s n r = record { answer = answerOf n r; after = putMSide s n (sideAfter (side s n) r) }
+
+-- load takes the tables of a state that is ready
+pub wrapper-known : (b : Composition) (s : MState) → ready b s ≡ true → isWrapper (b .wrapper) ≡ true
+unfolding ready
+wrapper-known b s e = taken b (ok-outcome (load b) (fst _ _ e)) .wrapper
+
+right-true : (x y : Bool) → x && y ≡ true → y ≡ true
+right-true true y h = h
+right-true false y h = absurd (false≢true h)
+
+left-true : (x y : Bool) → x && y ≡ true → x ≡ true
+left-true true y h = refl
+left-true false y h = absurd (false≢true h)
+
+module _ (b : Composition) (s : MState) (x : Step) (e : ready b s ≡ true) where
+  step-at : hasSide (wrapperOf b) (x .side) ≡ true → step b s x ≡ resultOf s (x .side) (settled (local (setting b (x .side)) (known s) (shelfOf s) (side s (x .side) .core) x))
+  unfolding step _&_
+  step-at h = rw (e, h, step)
+
+  first-is : local (setting b 1) (known s) (shelfOf s) (side s 1 .core) x ≡ ownLocal (settingFor b 1) (known s) (side s 1 .core) x
+  first-is =
+      ap (λ (w : Wrapper). local (record { wrapper = w; side = 1; table = tableOf b 1 }) (known s) (shelfOf s) (side s 1 .core) x) (piped-is (b .wrapper) (wrapper-known b s e)) ∙
+      local-own (settingFor b 1) (known s) (shelfOf s) (side s 1 .core) (x .side) (x .i) (x .j) (x .words) (takes-none (b .wrapper)) (x .kind)
+
+  pub first-asked : x .side ≡ 1 → step b s x ≡ record { answer = answerOf 1 (firstMove b s x); after = putMSide s 1 (sideAfter (side s 1) (firstMove b s x)) }
+  first-asked p =
+      step-at (ap (hasSide (wrapperOf b)) p ∙ has-first (b .wrapper) (wrapper-known b s e)) ∙
+      ap (λ (n : ℕ). resultOf s n (settled (local (setting b n) (known s) (shelfOf s) (side s n .core) x))) p ∙
+      ap (λ (m : Res Moved). resultOf s 1 (settled m)) first-is
+
+  second-is : b .wrapper ≡ 2 → local (setting b 2) (known s) (shelfOf s) (side s 2 .core) x ≡ secondLocal (settingFor b 2) (known s) (side s 1 .core .shelf) (side s 2 .core) x
+  second-is w =
+      ap (λ (v : ℕ). local (record { wrapper = described v; side = 2; table = tableOf b 2 }) (known s) (shelfOf s) (side s 2 .core) x) w ∙
+      local-second (tableOf b 2) (known s) (shelfOf s) (side s 2 .core) (x .side) (x .i) (x .j) (x .words) (x .kind) ∙
+      sym (ap (λ (v : ℕ). secondLocal (record { wrapper = piped v; side = 2; table = tableOf b 2 }) (known s) (side s 1 .core .shelf) (side s 2 .core) x) w)
+
+  pub second-asked : (x .side ≡ 1 → ⊥) → eqb (x .side) 2 && isPipeline b ≡ true → step b s x ≡ record { answer = answerOf 2 (secondMove b s x); after = putMSide s 2 (sideAfter (side s 2) (secondMove b s x)) }
+  second-asked p q =
+      let w : b .wrapper ≡ 2 = eqb-true (b .wrapper) 2 (right-true (eqb (x .side) 2) (isPipeline b) q) in
+      let n : x .side ≡ 2 = eqb-true (x .side) 2 (left-true (eqb (x .side) 2) (isPipeline b) q) in
+      step-at (ap (hasSide (wrapperOf b)) n ∙ has-second (b .wrapper) w) ∙
+      ap (λ (n : ℕ). resultOf s n (settled (local (setting b n) (known s) (shelfOf s) (side s n .core) x))) n ∙
+      ap (λ (m : Res Moved). resultOf s 2 (settled m)) (second-is w)
+
+  pub none-asked : (x .side ≡ 1 → ⊥) → eqb (x .side) 2 && isPipeline b ≡ false → step b s x ≡ record { answer = refusal 10 (x .side); after = s }
+  unfolding step _&_
+  none-asked p q = rw (e, has-none (b .wrapper) (x .side) p q, step)
+
 -- both sides may be acted on
 module _ (b : Composition) (s : State) (f : fitsArrays s ≡ true) (e : ready b (viewState s) ≡ true) where
   loads : Taken1 b
   unfolding ready
   loads = taken b (ok-outcome (load b) (fst _ _ e))
 
-  pub own-one : OwnReady (setting1 b) (s .one)
-  unfolding ready wfState wfSide
-  own-one = record { side = inl refl; passes = loads .one .passes; arrays = fits-one s f; counts = counts (viewState s); formed = fst _ _ (fst _ _ (snd _ _ e)) }
+  formed : (n : ℕ) → hasSide (wrapperOf b) n ≡ true → wfCore (settingFor b n) (counts (viewState s)) (side (viewState s) n .core) ≡ true
+  unfolding wfSide
+  formed n h =
+      subst (λ (w : Wrapper). wfCore (record { wrapper = w; side = n; table = tableOf b n }) (counts (viewState s)) (side (viewState s) n .core) ≡ true) (piped-is (b .wrapper) (loads .wrapper))
+      (fst _ _ (side-wf b (viewState s) e n h))
 
-  pub own-second : (n : ℕ) → eqb n 2 && isPipeline b ≡ true → OwnReady (setting2 b) (s .two)
-  unfolding ready wfState wfSide
+  pub own-one : OwnReady (settingFor b 1) (s .one)
+  own-one = record { side = inl refl; passes = loads .one .passes; arrays = fits-one s f; counts = counts (viewState s); formed = formed 1 (has-first (b .wrapper) (loads .wrapper)) }
+
+  pub own-second : (n : ℕ) → eqb n 2 && isPipeline b ≡ true → OwnReady (settingFor b 2) (s .two)
   own-second n q =
-      let w : isPipeline b ≡ true = right (eqb n 2) (isPipeline b) q in
-      record {
-        side = inr refl;
-        passes = loads .pipeline (eqb-true (b .wrapper) 2 w) .0 .passes;
-        arrays = fits-two s f;
-        counts = counts (viewState s);
-        formed = fst _ _ (second (isPipeline b) _ _ w (snd _ _ (snd _ _ (snd _ _ e))));
-      }
-    where
-      right : (x y : Bool) → x && y ≡ true → y ≡ true
-      right true y h = h
-      right false y h = absurd (false≢true h)
-
-      second : (t x y : Bool) → t ≡ true → cond t x y ≡ true → x ≡ true
-      second true x y p h = h
-      second false x y p h = absurd (false≢true p)
+      let w : b .wrapper ≡ 2 = eqb-true (b .wrapper) 2 (right-true (eqb n 2) (isPipeline b) q) in
+      record { side = inr refl; passes = loads .pipeline w .0 .passes; arrays = fits-two s f; counts = counts (viewState s); formed = formed 2 (has-second (b .wrapper) w) }
 
   pub shelf-one : fitsShelf (s .one .shelf) ≡ true
   shelf-one = side-shelf (s .one) (fits-one s f)
@@ -169,7 +203,7 @@ module _ (b : Composition) (s : State) (f : fitsArrays s ≡ true) (e : ready b 
       first-given = step-given (s .one) d 1 _ is ∙ ap (λ (y : Result). given (y .answer)) (sym (first-asked b (viewState s) x e p))
 
       pub first-after : viewState (record { one = d .side; two = s .two }) ≡ step b (viewState s) x .after
-      first-after = ap (λ (o : MSide). record { one = o; two = viewSide (s .two) }) (step-after (s .one) d _ is) ∙ ap (λ (y : Result). y .after) (sym (first-asked b (viewState s) x e p))
+      first-after = ap (λ (o : MSide). record { sides = o ∷ viewSide (s .two) ∷ [] }) (step-after (s .one) d _ is) ∙ ap (λ (y : Result). y .after) (sym (first-asked b (viewState s) x e p))
 
       pub first-fits : fitsArrays (record { one = d .side; two = s .two }) ≡ true
       first-fits = fits-put-side s 1 (d .side) f (step-fits (s .one) d (fits-one s f) _ is)
@@ -180,7 +214,7 @@ module _ (b : Composition) (s : State) (f : fitsArrays s ≡ true) (e : ready b 
       second-given = step-given (s .two) d 2 _ is ∙ ap (λ (y : Result). given (y .answer)) (sym (second-asked b (viewState s) x e p q))
 
       pub second-after : viewState (record { one = s .one; two = d .side }) ≡ step b (viewState s) x .after
-      second-after = ap (λ (o : MSide). record { one = viewSide (s .one); two = o }) (step-after (s .two) d _ is) ∙ ap (λ (y : Result). y .after) (sym (second-asked b (viewState s) x e p q))
+      second-after = ap (λ (o : MSide). record { sides = viewSide (s .one) ∷ o ∷ [] }) (step-after (s .two) d _ is) ∙ ap (λ (y : Result). y .after) (sym (second-asked b (viewState s) x e p q))
 
       pub second-fits : fitsArrays (record { one = s .one; two = d .side }) ≡ true
       second-fits = fits-put-side s 2 (d .side) f (step-fits (s .two) d (fits-two s f) _ is)
@@ -244,6 +278,10 @@ step-refused b s x r e h = go (fitsArrays s) refl (ready b (viewState s)) refl
 pub unready-is : (b : Composition) (s : State) (a : Rattle.interpreter.specs.declared.Outcome.Outcome) (i j k : ℕ) → a ≡ outcomeOf (load b) → a ≡ outcome.Refused i j k → false ≡ fitsArrays s & ready b (viewState s)
 unfolding ready
 unready-is b s a i j k e z = sym (no-right (fitsArrays s) (isOk (load b) & wfState b (viewState s)) (no-left (isOk (load b)) (wfState b (viewState s)) (outcome-not (load b) a i j k e z)))
+
+-- a known wrapper is the one that a state is tested for
+pub tested-is : (b : Composition) (s : State) → isWrapper (b .wrapper) ≡ true → fitsArrays s & wfState (record { wrapper = testedFor (b .wrapper); tables = b .tables }) (viewState s) ≡ fitsArrays s & wfState b (viewState s)
+tested-is b s h = ap (λ (n : ℕ). fitsArrays s & wfState (record { wrapper = n; tables = b .tables }) (viewState s)) (tested-known (b .wrapper) h)
 
 pub ready-is : (b : Composition) (s : State) (a : Rattle.interpreter.specs.declared.Outcome.Outcome) (q : Bool) → a ≡ outcomeOf (load b) → a ≡ outcome.Ok → q ≡ fitsArrays s & wfState b (viewState s) → q ≡ fitsArrays s & ready b (viewState s)
 unfolding ready

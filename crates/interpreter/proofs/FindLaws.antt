@@ -1,11 +1,11 @@
 -- What `stranded` answers.
 use mathlib.Core.Path.{_≡_, refl, sym, ap, subst, _∙_}
-use mathlib.Core.Bool.{Bool, true, false, not, false≢true}
+use mathlib.Core.Bool.{Bool, true, false, not, _&&_, false≢true}
 use mathlib.Core.List.{List, [], _∷_, map}
 use mathlib.Core.Option.{Option, none, some}
 use Prim.Native.Nat.{ℕ, zero, suc, _+_, _≤_, _<_}
 use native.Mathlib.Omega.{arith}
-use borrow.Author.Tests.{eq-eqb, ne-eqb}
+use borrow.Author.Tests.{ne-eqb}
 use lib.Dec.{eqb}
 use lib.ListN.{length, take, getD, getElem?}
 use Rattle.model.specs.Basics.{_&_, every}
@@ -22,6 +22,8 @@ use Rattle.sides.specs.Views.{viewMessage, viewLobby, viewState, stateOf, fitsA
 use Rattle.sides.proofs.Lists.{every-more}
 use Rattle.sides.proofs.Sides.{lobby-at, lobby-short, side-lobby, fits-one, fits-two, state-some, state-none}
 use Rattle.interpreter.specs.Finding.{rightIn}
+use Rattle.interpreter.proofs.WrapperLaws.{has-first, has-second, has-none}
+use Rattle.interpreter.proofs.AnswerLaws.{wrapper-known}
 
 -- A LOBBY
 -- a message that is not stranded
@@ -70,22 +72,29 @@ pub right-none : rightIn [] none ≡ true
 unfolding rightIn
 right-none = refl
 
+and-no-left : (x y : Bool) → x ≡ false → x && y ≡ false
+and-no-left x y e = rw e
+
+and-no-right : (x y : Bool) → y ≡ false → x && y ≡ false
+and-no-right true y e = e
+and-no-right false y e = refl
+
 module _ (b : Composition) (s : State) (n : ℕ) (f : fitsArrays s ≡ true) (e : ready b (viewState s) ≡ true) where
   pub asked-one : n ≡ 1 → lobbyAsked b (stateOf s) n ≡ viewLobby (s .one .lobby)
   unfolding lobbyAsked _&_
-  asked-one p = ap (λ (o : Option MState). lobbyAsked b o n) (state-some s f) ∙ rw (e, eq-eqb n 1 p)
+  asked-one p = ap (λ (o : Option MState). lobbyAsked b o n) (state-some s f) ∙ ap (lobbyAsked b (some (viewState s))) p ∙ rw (e, has-first (b .wrapper) (wrapper-known b (viewState s) e))
 
   pub asked-two : n ≡ 2 → b .wrapper ≡ 2 → lobbyAsked b (stateOf s) n ≡ viewLobby (s .two .lobby)
   unfolding lobbyAsked _&_
-  asked-two p q = ap (λ (o : Option MState). lobbyAsked b o n) (state-some s f) ∙ rw (e, ne-eqb n 1 (λ z. omega arith), eq-eqb n 2 p, eq-eqb (b .wrapper) 2 q)
+  asked-two p q = ap (λ (o : Option MState). lobbyAsked b o n) (state-some s f) ∙ ap (lobbyAsked b (some (viewState s))) p ∙ rw (e, has-second (b .wrapper) q)
 
   pub asked-filter : n ≡ 2 → (b .wrapper ≡ 2 → ⊥) → lobbyAsked b (stateOf s) n ≡ []
   unfolding lobbyAsked _&_
-  asked-filter p q = ap (λ (o : Option MState). lobbyAsked b o n) (state-some s f) ∙ rw (e, ne-eqb n 1 (λ z. omega arith), eq-eqb n 2 p, ne-eqb (b .wrapper) 2 q)
+  asked-filter p q = ap (λ (o : Option MState). lobbyAsked b o n) (state-some s f) ∙ rw (e, has-none (b .wrapper) n (λ z. omega arith) (and-no-right (eqb n 2) (eqb (b .wrapper) 2) (ne-eqb (b .wrapper) 2 q)))
 
   pub asked-other : (n ≡ 1 → ⊥) → (n ≡ 2 → ⊥) → lobbyAsked b (stateOf s) n ≡ []
   unfolding lobbyAsked _&_
-  asked-other p q = ap (λ (o : Option MState). lobbyAsked b o n) (state-some s f) ∙ rw (e, ne-eqb n 1 p, ne-eqb n 2 q)
+  asked-other p q = ap (λ (o : Option MState). lobbyAsked b o n) (state-some s f) ∙ rw (e, has-none (b .wrapper) n p (and-no-left (eqb n 2) (eqb (b .wrapper) 2) (ne-eqb n 2 q)))
 
   pub lobby-one : s .one .lobby .len ≤ 16
   lobby-one = lobby-short (s .one .lobby) (side-lobby (s .one) (fits-one s f))

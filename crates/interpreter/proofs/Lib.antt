@@ -1,3 +1,4 @@
+pub mod WrapperLaws
 pub mod LoadLaws
 pub mod AnswerLaws
 pub mod FindLaws

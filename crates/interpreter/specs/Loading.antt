@@ -1,13 +1,11 @@
 -- What load is lent, and what it says, as the structs hold it.
 use mathlib.Core.Path.{_≡_}
-use mathlib.Core.Bool.{true, false}
-use mathlib.Core.List.{List}
+use mathlib.Core.Bool.{true}
+use mathlib.Core.List.{List, [], _∷_}
 use mathlib.Core.Logic.{_⊎_}
 use mathlib.Core.Option.{some}
 use Prim.Native.Nat.{ℕ}
-use Rattle.model.specs.Basics.{Res, refuse, done}
 use Rattle.model.specs.Table.{Table}
-use Rattle.model.specs.Checks.{Fault, fault}
 use Rattle.model.specs.Side.{withinLimits, noSide}
 use Rattle.model.specs.Side.{State as MState}
 use Rattle.model.specs.Load.{Composition, start, Loaded, refused, ok}
@@ -22,14 +20,7 @@ use Rattle.interpreter.specs.declared.LoadAnswer.{LoadAnswer}
 
 -- the composition of what is lent: the wrapper, and each side's nodes and pool
 abbrev pub composition : ℕ → (nodes1 pool1 nodes2 pool2 : List ℕ) → Composition
-composition w n1 p1 n2 p2 = record { wrapper = w; table1 = table n1 p1; table2 = table n2 p2 }
-
--- a side's fault, 1 to 6, then 7 with node 0
-unfoldable pub sideFault : ℕ → Table → Res Fault
-sideFault i t = elim (fault t) [
-  | done f ↦ done f
-  | refuse e ↦ elim (withinLimits (start i t)) [ true ↦ refuse e | false ↦ done (record { number = 7; node = 0 }) ]
-]
+composition w n1 p1 n2 p2 = record { wrapper = w; tables = table n1 p1 ∷ table n2 p2 ∷ [] }
 
 -- a side's fault as load says it
 abbrev pub atSide : Verdict → ℕ → Outcome
@@ -43,7 +34,7 @@ outcomeOf (ok s) = Ok
 
 -- the state beside it: two empty sides where load refuses
 abbrev pub stateLoaded : Loaded → MState
-stateLoaded (refused x) = record { one = noSide; two = noSide }
+stateLoaded (refused x) = record { sides = noSide ∷ noSide ∷ [] }
 stateLoaded (ok s) = s
 
 -- r is what load answers

@@ -2,7 +2,7 @@
 use mathlib.Core.Path.{_≡_, refl, sym, ap, ap₂, subst, _∙_}
 use mathlib.Core.Bool.{Bool, true, false}
 use mathlib.Core.List.{List, [], _++_}
-use mathlib.Core.Logic.{_⊎_, ⊎-elim}
+use mathlib.Core.Logic.{⊎-elim}
 use Prim.Native.Nat.{ℕ, zero, suc, _+_, _<_, _≤_}
 use native.Mathlib.Omega.{arith}
 use borrow.Author.Tests.{leb-true, le-leb, eqb-true, eqb-false, eq-eqb, ne-eqb}
@@ -84,8 +84,8 @@ unfolding wfValue isValue
 bound-each k p v m pp w e = matches-wf k p 1 v m e pp (shaped-items v (snd _ _ (fst _ _ w))) (leb-true (length v) 16 (fst _ _ (fst _ _ w))) (snd _ _ w) .0
 
 -- a setting by its table
-pub set-table : (c : Setting) (t : Table) → c .table ≡ t → c ≡ record { side = c .side; pipeline = c .pipeline; table = t }
-set-table c t e = ap (λ (u : Table). record { side = c .side; pipeline = c .pipeline; table = u }) e
+pub set-table : (c : Setting) (t : Table) → c .table ≡ t → c ≡ record { wrapper = c .wrapper; side = c .side; table = t }
+set-table c t e = ap (λ (u : Table). record { wrapper = c .wrapper; side = c .side; table = u }) e
 
 module _ (t : Table) (p q : Particle) (J : Joinable t p q) where
   abbrev n : ℕ
@@ -105,10 +105,10 @@ module _ (t : Table) (p q : Particle) (J : Joinable t p q) where
 
   -- the model's answer, for any setting with the table
   pub for-all : (i j : ℕ) (c : Setting) (e : c .table ≡ t) (s : Core) →
-      settled (meetParticles c s i j (viewParticle p) (viewParticle q)) ≡ settled (meetParticles (record { side = c .side; pipeline = c .pipeline; table = t }) s i j (viewOutput p) (viewInput q))
+      settled (meetParticles c s i j (viewParticle p) (viewParticle q)) ≡ settled (meetParticles (record { wrapper = c .wrapper; side = c .side; table = t }) s i j (viewOutput p) (viewInput q))
   for-all i j c e s =
       ap (λ (d : Setting). settled (meetParticles d s i j (viewParticle p) (viewParticle q))) (set-table c t e) ∙
-      ap₂ (λ (a b : MParticle). settled (meetParticles (record { side = c .side; pipeline = c .pipeline; table = t }) s i j a b)) (view-output p (J .out)) (view-input q (J .inp))
+      ap₂ (λ (a b : MParticle). settled (meetParticles (record { wrapper = c .wrapper; side = c .side; table = t }) s i j a b)) (view-output p (J .out)) (view-input q (J .inp))
 
   module _ (e : dec.Env) (ev : EnvIs t q e) (f : Bool) (fe : f ≡ test (viewEnv e)) where
     tested : f ≡ test ρ
@@ -117,13 +117,13 @@ module _ (t : Table) (p q : Particle) (J : Joinable t p q) where
     pub join-13 : f ≡ false → (π : Env) → Joining t p q π (Refused 13)
     join-13 z π c ct s i j =
         for-all i j c ct s ∙
-        meet-13 (record { side = c .side; pipeline = c .pipeline; table = t }) s i j _ _ _ _ _ n (valuesOf q) n (eqb (kind t n) 6) _ _ pat _ the-term (sym tested ∙ z)
+        meet-13 (record { wrapper = c .wrapper; side = c .side; table = t }) s i j _ _ _ _ _ n (valuesOf q) n (eqb (kind t n) 6) _ _ pat _ the-term (sym tested ∙ z)
 
     module _ (y : f ≡ true) (b : Binding) (bi : BindingIs pat (viewValue (p .value)) (viewEnv e) b) where
       pub join-14 : b .fits ≡ false → (π : Env) → Joining t p q π (Refused 14)
       join-14 z π c ct s i j =
           for-all i j c ct s ∙
-          meet-14 (record { side = c .side; pipeline = c .pipeline; table = t }) s i j _ _ _ _ _ n (valuesOf q) n (eqb (kind t n) 6) _ _ pat _ the-term (sym tested ∙ y) (bi .no z)
+          meet-14 (record { wrapper = c .wrapper; side = c .side; table = t }) s i j _ _ _ _ _ n (valuesOf q) n (eqb (kind t n) 6) _ _ pat _ the-term (sym tested ∙ y) (bi .no z)
 
       module _ (z : b .fits ≡ true) where
         room : length (ρ .names) + length (binders pat) ≤ 8
@@ -167,8 +167,8 @@ module _ (t : Table) (p q : Particle) (J : Joinable t p q) where
         }
         answered (Refused x) a = λ c ct s i j. for-all i j c ct s ∙
             ⊎-elim
-            (λ w. meet-15 (record { side = c .side; pipeline = c .pipeline; table = t }) s i j _ _ _ _ _ n (valuesOf q) n (eqb (kind t n) 6) _ _ pat _ the-term (sym tested ∙ y) (got .0) (got .1) (w .1) ∙ ap refuse (sym (w .0)))
-            (λ w. meet-16 (record { side = c .side; pipeline = c .pipeline; table = t }) s i j _ _ _ _ _ n (valuesOf q) n (eqb (kind t n) 6) _ _ pat _ the-term (sym tested ∙ y) (got .0) (got .1) (w .1 .0) paired (w .1 .1) ∙ ap refuse (sym (w .0)))
+            (λ w. meet-15 (record { wrapper = c .wrapper; side = c .side; table = t }) s i j _ _ _ _ _ n (valuesOf q) n (eqb (kind t n) 6) _ _ pat _ the-term (sym tested ∙ y) (got .0) (got .1) (w .1) ∙ ap refuse (sym (w .0)))
+            (λ w. meet-16 (record { wrapper = c .wrapper; side = c .side; table = t }) s i j _ _ _ _ _ n (valuesOf q) n (eqb (kind t n) 6) _ _ pat _ the-term (sym tested ∙ y) (got .0) (got .1) (w .1 .0) paired (w .1 .1) ∙ ap refuse (sym (w .0)))
             a
 
         pub join-body : (k : ℕ) → k ≡ field t n 4 → (a : Offer) → BodyIs t k (viewEnv (b .env)) a → Joining t p q (viewEnv (b .env)) a

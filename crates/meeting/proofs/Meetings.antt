@@ -2,7 +2,7 @@
 use mathlib.Core.Path.{_≡_, refl, sym, ap, ap₂, subst, _∙_}
 use mathlib.Core.Bool.{Bool, true, false, cond}
 use mathlib.Core.List.{List}
-use mathlib.Core.Logic.{_⊎_, ⊎-elim}
+use mathlib.Core.Logic.{⊎-elim}
 use Prim.Native.Nat.{ℕ, _+_, _-_, _<_, _≤_}
 use native.Mathlib.Omega.{arith}
 use borrow.Author.Tests.{leb-true, ltb-true, ltb-false, eqb-true}
@@ -219,7 +219,7 @@ module _ (t : Table) (side : ℕ) (o : Side) (i j : ℕ) (p q : Particle) (M : M
 
   module _ (c : Setting) (cs : c .side ≡ side) (ct : c .table ≡ t) (r : SideStep) where
     abbrev c′ : Setting
-    c′ = record { side = c .side; pipeline = c .pipeline; table = t }
+    c′ = record { wrapper = c .wrapper; side = c .side; table = t }
 
     pub pair-full : room ≡ false → Says (said.Refused 17) o r → StepIs (settled (meetParticles c (viewCore o) i j (viewParticle p) (viewParticle q))) o r
     pair-full e says =

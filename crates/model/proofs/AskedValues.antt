@@ -15,13 +15,14 @@ use Rattle.model.specs.Basics.{_&_, _or_, every}
 use Rattle.model.specs.Values.{items, isTuple, isName, isMinted, isValue, arity}
 use Rattle.model.specs.Side.{State}
 use Rattle.model.specs.Load.{Composition}
-use Rattle.model.specs.WellFormed.{Counts, wfState, wfValue, held}
+use Rattle.model.specs.WellFormed.{Counts, wfValue, held, ready}
 use Rattle.model.specs.Step.{Label as Said, silent, enters, leaves, labelled, known}
-use Rattle.model.specs.Process.{vwords, vswords, vcount, upto, valOf, keep, knownOf, mintedOf, inwards, outwards}
+use Rattle.model.specs.Wrapper.{Wrapper}
+use Rattle.model.specs.Process.{vwords, vswords, vcount, upto, valOf, keep, knownOf, mintedOf}
 use Rattle.model.specs.Agreement.{foreign, someName, enterable, mintedNumber, Says, says-tau, says-in, says-out}
 use Rattle.calculus.proofs.Renaming.{AllV-map}
 use Rattle.calculus.proofs.FreeNames.{mem-left, mem-right}
-use Rattle.model.proofs.Tests.{fst, snd, both, alt, alt-left, alt-right, append-nil, or-true}
+use Rattle.model.proofs.Tests.{fst, snd, both, alt, alt-left, alt-right, append-nil, or-true, or-none, one-fails, or-cases}
 use Rattle.model.proofs.Keeping.{Spoken, shaped-words}
 use Rattle.model.proofs.Invariant.{known-held}
 use Rattle.model.proofs.KnownNames.{keep-in, held-minted, in-upto}
@@ -45,18 +46,14 @@ name-enterable x e = ⊎-elim (λ p. let a = leb-true x 63 p in low (lt-ltb x 64
     high : ltb x 131072 ≡ false → ltb x 131328 ≡ true → enterable x ≡ true
     high p q = ap₂ (λ (c d : Bool). (ltb x 64 || (not (ltb x 65536) && ltb x 65792)) || (not c && d)) p q ∙ or-true (ltb x 64 || (not (ltb x 65536) && ltb x 65792))
 
-enterable-name : (x : ℕ) → enterable x ≡ true → isName x ≡ true
+pub enterable-name : (x : ℕ) → enterable x ≡ true → isName x ≡ true
 enterable-name x e = ⊎-elim
     (λ a. ⊎-elim (λ c. let q = ltb-true x 64 c in alt-left _ _ (le-leb x 63 (omega arith)))
     (λ c. let r = and2 (ltb x 65536) (ltb x 65792) c in let l = ltb-false x 65536 (r .0) in let h = ltb-true x 65792 (r .1) in alt-right _ _ (alt-left _ _ (both _ _ (le-leb 65536 x (omega arith)) (le-leb x 65791 (omega arith)))))
-    (or-split (ltb x 64) (not (ltb x 65536) && ltb x 65792) a))
+    (or-cases (ltb x 64) (not (ltb x 65536) && ltb x 65792) a))
     (λ c. let r = and2 (ltb x 131072) (ltb x 131328) c in let l = ltb-false x 131072 (r .0) in let h = ltb-true x 131328 (r .1) in alt-right _ _ (alt-right _ _ (both _ _ (le-leb 131072 x (omega arith)) (le-leb x 131327 (omega arith)))))
-    (or-split (ltb x 64 || (not (ltb x 65536) && ltb x 65792)) (not (ltb x 131072) && ltb x 131328) e)
+    (or-cases (ltb x 64 || (not (ltb x 65536) && ltb x 65792)) (not (ltb x 131072) && ltb x 131328) e)
   where
-    or-split : (a b : Bool) → a || b ≡ true → (a ≡ true) ⊎ (b ≡ true)
-    or-split true b e = inl refl
-    or-split false b e = inr e
-
     and2 : (a b : Bool) → not a && b ≡ true → (a ≡ false) × (b ≡ true)
     and2 true b e = absurd (false≢true e)
     and2 false b e = (refl, e)
@@ -82,11 +79,6 @@ mutual
   wordss-all f (vcons v vs) e = (words-all f v (every-front f (vwords v) (vswords vs) e), wordss-all f vs (every-back f (vwords v) (vswords vs) e))
 
 -- a word that fails a test which tuple words pass is a name of the value
-and-false : (a b : Bool) → a & b ≡ false → (a ≡ false) ⊎ (b ≡ false)
-unfolding _&_
-and-false true b e = inr e
-and-false false b e = inl refl
-
 no-and : (c : Bool) → false & c ≡ false
 unfolding _&_
 no-and c = refl
@@ -98,7 +90,7 @@ and-no false = refl
 
 every-apart : (f : ℕ → Bool) (l m : List ℕ) → every f (l ++ m) ≡ false → (every f l ≡ false) ⊎ (every f m ≡ false)
 every-apart f [] m e = inr e
-every-apart f (x ∷ l) m e = ⊎-elim (λ p. inl (ap (λ (c : Bool). c & every f l) p ∙ no-and (every f l))) (λ p. ⊎-elim (λ q. inl (ap (λ (c : Bool). f x & c) q ∙ and-no (f x))) (λ q. inr q) (every-apart f l m p)) (and-false (f x) (every f (l ++ m)) e)
+every-apart f (x ∷ l) m e = ⊎-elim (λ p. inl (ap (λ (c : Bool). c & every f l) p ∙ no-and (every f l))) (λ p. ⊎-elim (λ q. inl (ap (λ (c : Bool). f x & c) q ∙ and-no (f x))) (λ q. inr q) (every-apart f l m p)) (one-fails (f x) (every f (l ++ m)) e)
 
 some-app : (f : ℕ → Bool) (l m : List ℕ) → (someName f l ≡ true) ⊎ (someName f m ≡ true) → someName f (l ++ m) ≡ true
 some-app f [] m (inl p) = absurd (false≢true p)
@@ -112,8 +104,8 @@ some-app f (x ∷ l) m h = go (f x) h (some-app f l m)
 module _ (f g : ℕ → Bool) (big : (k : ℕ) → f (4000000 + k) ≡ true) (fails : (x : ℕ) → f x ≡ false → g x ≡ true) where
   mutual
     pub some-fails : (v : Val ℕ) → every f (vwords v) ≡ false → someName g (names v) ≡ true
-    some-fails (nm x) e = ap (λ (c : Bool). c || false) (fails x (⊎-elim (λ p. p) (λ p. absurd (false≢true (sym p))) (and-false (f x) true e)))
-    some-fails (tup vs) e = somes-fail vs (⊎-elim (λ p. absurd (false≢true (sym p ∙ big (vcount vs)))) (λ p. p) (and-false (f (4000000 + vcount vs)) (every f (vswords vs)) e))
+    some-fails (nm x) e = ap (λ (c : Bool). c || false) (fails x (⊎-elim (λ p. p) (λ p. absurd (false≢true (sym p))) (one-fails (f x) true e)))
+    some-fails (tup vs) e = somes-fail vs (⊎-elim (λ p. absurd (false≢true (sym p ∙ big (vcount vs)))) (λ p. p) (one-fails (f (4000000 + vcount vs)) (every f (vswords vs)) e))
 
     pub somes-fail : (v : Vals ℕ) → every f (vswords v) ≡ false → someName g (namess v) ≡ true
     somes-fail vnil e = absurd (false≢true (sym e))
@@ -185,11 +177,7 @@ unknown-name s v e = is-T _ (some-fails (λ w. not (isMinted w) or known s w) (�
 -- A VALUE THAT PASSES 11
 none-app : (f : ℕ → Bool) (l m : List ℕ) → someName f l ≡ false → someName f m ≡ false → someName f (l ++ m) ≡ false
 none-app f [] m p q = q
-none-app f (x ∷ l) m p q = let a = or2 (f x) (someName f l) p in ap₂ (λ (c d : Bool). c || d) (a .0) (none-app f l m (a .1) q)
-  where
-    or2 : (a b : Bool) → a || b ≡ false → (a ≡ false) × (b ≡ false)
-    or2 true b e = absurd (false≢true (sym e))
-    or2 false b e = (refl, e)
+none-app f (x ∷ l) m p q = let a = or-none (f x) (someName f l) p in ap₂ (λ (c d : Bool). c || d) (a .0) (none-app f l m (a .1) q)
 
 mutual
   pub all-none : (f : ℕ → Bool) (v : Val ℕ) → AllV v (λ x. f x ≡ false) → someName f (names v) ≡ false
@@ -217,10 +205,10 @@ pub not-strange : (k : Counts) (v : List ℕ) → wfValue k v ≡ true → T (no
 not-strange k v e = usual-names (valOf v) (wfVal-all (λ x. isName x ≡ true) k (held-name k) (alt-left _ _ refl) v e)
 
 -- such a value has a label, and so has a silent answer without a value
-pub spoken-says : (w n : ℕ) (k : Counts) (l : Said) (v : List ℕ) → Spoken k l v → (L : Label) × Says w (labelled l n v) L
+pub spoken-says : (w : Wrapper) (n : ℕ) (k : Counts) (l : Said) (v : List ℕ) → Spoken k l v → (L : Label) × Says w (labelled l n v) L
 spoken-says w n k silent v h = subst (λ (u : List ℕ). (L : Label) × Says w (labelled silent n u) L) (sym h) (tau, says-tau)
-spoken-says w n k enters v h = (recv (inwards w n) (plain parent) (valOf v), says-in (value-written k v h) (not-strange k v h))
-spoken-says w n k leaves v h = (send (outwards w n) (plain parent) (valOf v), says-out (value-written k v h) (not-strange k v h))
+spoken-says w n k enters v h = (recv (w .inlet n) (plain parent) (valOf v), says-in (value-written k v h) (not-strange k v h))
+spoken-says w n k leaves v h = (send (w .outlet n) (plain parent) (valOf v), says-out (value-written k v h) (not-strange k v h))
 
 module _ (v : Val ℕ) (wr : T (not (someName isTuple (names v)))) (iv : isValue (vwords v) ≡ true) where
   words-ok : every worded (vwords v) ≡ true
@@ -234,14 +222,14 @@ module _ (v : Val ℕ) (wr : T (not (someName isTuple (names v)))) (iv : isValue
   same-value = val-back v words-ok (none-all isTuple v (T-not (someName isTuple (names v)) wr))
 
   -- and 12: its names are known
-  module _ (b : Composition) (s : State) (wf : wfState b s ≡ true) (kv : every (λ w. not (isMinted w) or known s w) (vwords v) ≡ true) where
+  module _ (b : Composition) (s : State) (wf : ready b s ≡ true) (kv : every (λ w. not (isMinted w) or known s w) (vwords v) ≡ true) where
     name-known : (x : ℕ) → isName x ≡ true → not (isMinted x) or known s x ≡ true → In (knownOf s) x
     unfolding knownOf held
     name-known x n k = ⊎-elim
-        (λ p. let l = leb-true x 63 p in mem-left x (upto 64 (λ i. i)) ((65 ∷ 66 ∷ 67 ∷ 68 ∷ []) ++ keep (known s) (mintedOf s)) (in-upto 64 x (λ i. i) (omega arith)))
+        (λ p. let l = leb-true x 63 p in mem-left x (upto 81 (λ i. i)) (keep (known s) (mintedOf s)) (in-upto 81 x (λ i. i) (omega arith)))
         (λ m. ⊎-elim (λ z. absurd (false≢true (sym (ap not m) ∙ z)))
-        (λ y. mem-right x (upto 64 (λ i. i)) ((65 ∷ 66 ∷ 67 ∷ 68 ∷ []) ++ keep (known s) (mintedOf s)) (mem-right x (65 ∷ 66 ∷ 67 ∷ 68 ∷ []) (keep (known s) (mintedOf s)) (keep-in (known s) (mintedOf s) x
-        (⊎-elim (λ q. absurd (apart (leb-true x 63 q) (alt _ _ m))) (λ q. held-minted b s x q) (alt _ _ (known-held b s wf x y m))) y))) (alt _ _ k)) (alt _ _ n)
+        (λ y. mem-right x (upto 81 (λ i. i)) (keep (known s) (mintedOf s)) (keep-in (known s) (mintedOf s) x
+        (⊎-elim (λ q. absurd (apart (leb-true x 63 q) (alt _ _ m))) (λ q. held-minted b s x q) (alt _ _ (known-held b s wf x y m))) y)) (alt _ _ k)) (alt _ _ n)
       where
         apart : x ≤ 63 → (leb 65536 x & leb x 65791 ≡ true) ⊎ (leb 131072 x & leb x 131327 ≡ true) → ⊥
         apart l (inl q) = let h = leb-true 65536 x (fst _ _ q) in omega arith

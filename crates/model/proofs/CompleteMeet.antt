@@ -1,30 +1,32 @@
 -- Demand 2, second half, for the meetings in the boxes: each has a step of kind 5 at its place, and that step is silent and leads where it leads, or is refused with 16 or 17 for their causes.
-use mathlib.Core.Path.{_≡_, refl, sym, ap, ap₂, _∙_, subst, subst₂}
-use mathlib.Core.Bool.{Bool, true, false, false≢true}
-use mathlib.Core.List.{List, [], _∷_, _++_}
-use mathlib.Core.Logic.{_≢_, _⊎_, inl, inr, ⊎-elim}
-use mathlib.Core.Option.{none, some}
-use Prim.Native.Nat.{ℕ, _+_, _-_, _*_, _/_, _%_, _<_, _≤_}
+use mathlib.Core.Path.{_≡_, refl, sym, ap, ap₂, _∙_, subst}
+use mathlib.Core.Bool.{Bool, true, false, cond, false≢true}
+use mathlib.Core.List.{List, [], _∷_, _++_, map}
+use mathlib.Core.Logic.{_≢_, _⊎_}
+use mathlib.Core.Option.{some}
+use Prim.Native.Nat.{ℕ, suc, _<_, _≤_}
 use native.Mathlib.Omega.{arith}
-use borrow.Author.Tests.{ltb-true, ltb-false, eqb-true, eqb-false, ne-eqb}
-use lib.Dec.{ltb, eqb}
+use borrow.Author.Tests.{ltb-true, ltb-false}
+use lib.Dec.{ltb}
 use lib.ListN.{length, getElem?, set}
 use Rattle.calculus.specs.Syntax.{Val, Pat, Vars, ITag, Tag, plain, Mode, Proc, comp, match, remark, theName, iren}
 use Rattle.calculus.specs.Syntax.{par as ppar, box as pbox, new as pnew, nil as pnil, out as pout, inp as pinp}
 use Rattle.calculus.specs.Congruence.{_≋_, symm, trans}
-use Rattle.calculus.specs.Transitions.{tau, Participants, two, InstOk, inst, In}
+use Rattle.calculus.specs.Transitions.{tau, Participants, joint, InstOk, inst, In}
 use Rattle.calculus.specs.Transitions.{Step as Trans}
 use Rattle.calculus.specs.Parallel.{parallel}
 use Rattle.calculus.specs.Tree.{Place, upd, fill}
 use Rattle.calculus.specs.Tree.{Item, select}
 use Rattle.calculus.specs.Named.{proc, shape, underPat}
+use Rattle.model.specs.Basics.{has}
 use Rattle.model.specs.Values.{binders, extend}
 use Rattle.model.specs.Table.{Table, Term}
-use Rattle.model.specs.Side.{Particle, output, input, Message, State, Tag as STag}
-use Rattle.model.specs.Load.{Composition, isPipeline}
+use Rattle.model.specs.Wrapper.{Wrapper, allSides, hasSide}
+use Rattle.model.specs.Side.{Particle, output, input, State, side as sideIn, Tag as STag}
+use Rattle.model.specs.Load.{Composition, wrapperOf}
 use Rattle.model.specs.WellFormed.{counts, wfParticle, envAt, ready}
 use Rattle.model.specs.Step.{Step, refusal, step, without}
-use Rattle.model.specs.Process.{Mark, part, siteOf, valOf, patOf, codeOf, envOf, itagOf, tagOut, modeOf, numbered, partItem, msgItem, sideItems, forwarders, shelfItems, confAs, confOf, newOf, knownOf}
+use Rattle.model.specs.Process.{Mark, part, siteOf, valOf, patOf, codeOf, envOf, itagOf, tagOut, modeOf, isGone, partItem, enters, passes, takes, forwarders, shelfItem, shelfItems, confOf, newOf, knownOf}
 use Rattle.model.specs.Agreement.{At, Asks, asks-tau, Met, Excused, enter, goDown, goUp, descend, meet, pass, leave, take}
 use Rattle.calculus.proofs.Trees.{Reach}
 use Rattle.calculus.proofs.Inversion.{after}
@@ -33,22 +35,24 @@ use Rattle.calculus.proofs.Restriction.{known as allOf}
 use Rattle.calculus.proofs.Bags.{item, at, Bag, bag-eq, bag-trans, ritem, ritems}
 use Rattle.model.proofs.KnownNames.{held-in, low-in, All}
 use Rattle.model.proofs.ItemFacts.{InputAt, input-node}
-use Rattle.model.proofs.StateTree.{reach1, remark-proc, two-none}
+use Rattle.model.proofs.StateTree.{reach-boxes, remark-proc}
 use Rattle.model.proofs.ItemMoves.{ids, forget, plainP, plain-part, target}
-use Rattle.model.proofs.SideViews.{View, view1, view2}
-use Rattle.model.proofs.BoxOrder.{Orient, Away, away-app, away-side, away-shelf, away-forwarders, z2, orient1, orient2}
+use Rattle.model.proofs.SideViews.{View, view}
+use Rattle.model.proofs.BoxOrder.{Orient, orient}
 use Rattle.model.proofs.ParticlePairs.{leaves, before-bag, behind-bag}
 use Rattle.model.proofs.MeetMoves.{after-is, body-is}
-use Rattle.model.proofs.Sound.{reach2}
+use Rattle.model.proofs.Invariant.{which, positive}
 use Rattle.model.proofs.StateInversion.{item-at}
-use Rattle.model.proofs.Completing.{Completed, Answers, answers1, answers2, isOut, tagIn, chanIn, valIn, markIn, what-eq, site-eq}
-use Rattle.model.proofs.TwoItems.{not-away, set-swap, two-at, two-changed, two-parts, pair-of}
+use Rattle.model.proofs.Completing.{Completed, Answers, answers, isOut, tagIn, chanIn, valIn, markIn, what-eq, site-eq}
+use Rattle.model.proofs.ItemOwners.{Stands, forwarder, shelved, message, particle, stands-of}
+use Rattle.model.proofs.WrapperLevel.{Every, every-app, every-mid, every-has, every-get}
+use Rattle.model.proofs.TwoItems.{set-swap, two-at, two-changed, two-parts, pair-of}
 use Rattle.model.proofs.MatchingBack.{MatchedBack}
 use Rattle.model.proofs.MeetAnswer.{meet-step, mb, same-σ, answered}
 use Rattle.model.proofs.Tests.{get-every}
 
 -- the step at the place of two particles of one side
-parts-step : {k : Step} {w : Participants Mark} → At k w → (σ i j : ℕ) → w ≡ two (part σ i) (part σ j) → k ≡ meet-step σ i j
+parts-step : {W : Wrapper} {k : Step} {w : Participants Mark} → At W k w → (σ i j : ℕ) → w ≡ joint (part σ i) (part σ j) → k ≡ meet-step σ i j
 parts-step enter σ i j e = absurd (let z : _≡_ {A = ℕ} 0 1 = cc in omega arith)
 parts-step goDown σ i j e = absurd (let z : _≡_ {A = ℕ} 0 1 = cc in omega arith)
 parts-step goUp σ i j e = absurd (let z : _≡_ {A = ℕ} 0 1 = cc in omega arith)
@@ -56,7 +60,7 @@ parts-step descend σ i j e = absurd (let z : _≡_ {A = ℕ} 0 1 = cc in omega 
 parts-step (meet {side = side} {i = a} {j = c}) σ i j e = let p : side ≡ σ = cc in let q : a ≡ i = cc in let r : c ≡ j = cc in λ t. record { kind = 5; side = p t; i = q t; j = r t; words = [] }
 parts-step pass σ i j e = absurd (let z : _≡_ {A = ℕ} 0 1 = cc in omega arith)
 parts-step leave σ i j e = absurd (let z : _≡_ {A = ℕ} 0 1 = cc in omega arith)
-parts-step take σ i j e = absurd (let z : _≡_ {A = ℕ} 0 1 = cc in omega arith)
+parts-step (take n q) σ i j e = absurd (let z : _≡_ {A = ℕ} 0 1 = cc in omega arith)
 
 asks-meet : (σ i j : ℕ) → Asks (meet-step σ i j) tau
 asks-meet σ i j = asks-tau (λ z. let y : _≡_ {A = ℕ} 5 1 = z in omega arith) (λ z. let y : _≡_ {A = ℕ} 5 7 = z in omega arith)
@@ -102,7 +106,7 @@ module _ (b : Composition) (s : State) (e : ready b s ≡ true) where
     pub to : fill bs (upd (λ k. parallel (sel k)) site (parallel (set (set (sel site) i pnil) j (after m u x g p P σ)))) ≋ N
 
   module _ (vw : View b s) (ori : Orient b s vw)
-      (own : ((vw .c .side ≡ 1) × (vw .core .contents .minted ≡ s .one .core .contents .minted)) ⊎ ((vw .c .side ≡ 2) × (vw .core .contents .minted ≡ s .two .core .contents .minted)))
+      (own : (has (vw .c .side) allSides ≡ true) × (vw .core .contents .minted ≡ sideIn s (vw .c .side) .core .contents .minted))
       (reach : (p : ℕ) → p < length (vw .core .contents .boxes) → Reach (confOf b s .boxes) (siteOf (vw .c .side) p)) (ac : Answers b s vw) where
     abbrev side : ℕ
     side = vw .c .side
@@ -114,10 +118,10 @@ module _ (b : Composition) (s : State) (e : ready b s ≡ true) where
     parts = vw .core .contents .particles
 
     abbrev aim : List Particle → List (Item (Unit {0}))
-    aim l = target (b .wrapper) (vw .c .side) (vw .c .table) (vw .C) (vw .D) (vw .core) (vw .core .lobby) l
+    aim l = target (wrapperOf b) (vw .c .side) (vw .c .table) (vw .C) (vw .D) (vw .core) (vw .core .lobby) l
 
     pos : 1 ≤ side
-    pos = ⊎-elim (λ q. omega (arith, q)) (λ q. omega (arith, q)) (vw .which)
+    pos = positive (vw .c .side) (own .0) .0
 
     -- two elements of a site of the side, as two of its particles
     record Couple (k i j : ℕ) (P Q : Proc Mark []) : Type 0 where
@@ -140,7 +144,7 @@ module _ (b : Composition) (s : State) (e : ready b s ≡ true) where
         go true lt =
             let r = two-at I (siteOf side k) i j P Q (ltb-true i j lt) gi gj in
             let w = sym (vw .items-now) ∙ r .is in
-            let a = two-parts (b .wrapper) side Tb (vw .C) (vw .D) (vw .core) (ori .awayC) (ori .awayD) pos (r .X) k P (r .Y) Q (r .Z) w in
+            let a = two-parts (wrapperOf b) side Tb (vw .C) (vw .D) (vw .core) (ori .awayC) (ori .awayD) pos (r .X) k P (r .Y) Q (r .Z) w in
             record {
               i' = a .i;
               j' = a .j;
@@ -152,13 +156,13 @@ module _ (b : Composition) (s : State) (e : ready b s ≡ true) where
               is-q = a .is-j;
               J = λ Q'. r .X ++ item (siteOf side k) pnil ∷ (r .Y ++ item (siteOf side k) Q' ∷ r .Z);
               changed = λ Q'. two-changed bs I (siteOf side k) (set (set (sel (siteOf side k)) i pnil) j Q') (r .X) (r .Y) (r .Z) P Q pnil Q' (r .is) (r .put pnil Q');
-              bag = λ again Q B h. before-bag (b .wrapper) side Tb (vw .C) (vw .D) (vw .core) again (siteOf side k) Q B (a .p) (a .q) (a .i) (a .j) h (a .before) (pair-of (b .wrapper) side Tb (vw .C) (vw .D) (vw .core) (ori .awayC) (ori .awayD) pos w a);
+              bag = λ again Q B h. before-bag (wrapperOf b) side Tb (vw .C) (vw .D) (vw .core) again (siteOf side k) Q B (a .p) (a .q) (a .i) (a .j) h (a .before) (pair-of (wrapperOf b) side Tb (vw .C) (vw .D) (vw .core) (ori .awayC) (ori .awayD) pos w a);
             }
         go false ge =
             let lt : j < i = (let z = ltb-false i j ge in omega (arith, z, ne)) in
             let r = two-at I (siteOf side k) j i Q P lt gj gi in
             let w = sym (vw .items-now) ∙ r .is in
-            let a = two-parts (b .wrapper) side Tb (vw .C) (vw .D) (vw .core) (ori .awayC) (ori .awayD) pos (r .X) k Q (r .Y) P (r .Z) w in
+            let a = two-parts (wrapperOf b) side Tb (vw .C) (vw .D) (vw .core) (ori .awayC) (ori .awayD) pos (r .X) k Q (r .Y) P (r .Z) w in
             record {
               i' = a .j;
               j' = a .i;
@@ -170,7 +174,7 @@ module _ (b : Composition) (s : State) (e : ready b s ≡ true) where
               is-q = a .is-i;
               J = λ Q'. r .X ++ item (siteOf side k) Q' ∷ (r .Y ++ item (siteOf side k) pnil ∷ r .Z);
               changed = λ Q'. two-changed bs I (siteOf side k) (set (set (sel (siteOf side k)) i pnil) j Q') (r .X) (r .Y) (r .Z) Q P Q' pnil (r .is) (set-swap (sel (siteOf side k)) i j pnil Q' ne ∙ r .put Q' pnil);
-              bag = λ again Q B h. behind-bag (b .wrapper) side Tb (vw .C) (vw .D) (vw .core) again (siteOf side k) Q B (a .q) (a .p) (a .j) (a .i) h (a .before) (pair-of (b .wrapper) side Tb (vw .C) (vw .D) (vw .core) (ori .awayC) (ori .awayD) pos w a);
+              bag = λ again Q B h. behind-bag (wrapperOf b) side Tb (vw .C) (vw .D) (vw .core) again (siteOf side k) Q B (a .q) (a .p) (a .j) (a .i) h (a .before) (pair-of (wrapperOf b) side Tb (vw .C) (vw .D) (vw .core) (ori .awayC) (ori .awayD) pos w a);
             }
 
     zero-in : In (All b s) 0
@@ -183,7 +187,7 @@ module _ (b : Composition) (s : State) (e : ready b s ≡ true) where
     node-of i β n vs g = input-node ids (All b s) (counts s) (held-in b s) zero-in Tb (vw .checked) (length (vw .core .contents .boxes)) side β n vs (part-ok i (input β n vs) g)
 
     -- a meeting in a box of the side
-    module _ {R : Proc Mark []} {t u : Mark} (k : ℕ) (vv : Inv R (two t u)) (h : MeetsAt (vv .next) t u (siteOf (vw .c .side) k)) where
+    module _ {R : Proc Mark []} {t u : Mark} (k : ℕ) (vv : Inv R (joint t u)) (h : MeetsAt (vv .next) t u (siteOf (vw .c .side) k)) where
       abbrev K : Proc Mark [] → Type 0
       K Q' = fill (confOf b s .boxes) (upd (λ n. parallel (select (confOf b s .items) n)) (siteOf (vw .c .side) k) (parallel (set (set (select (confOf b s .items) (siteOf (vw .c .side) k)) (h .i) pnil) (h .j) Q'))) ≋ vv .next
 
@@ -235,10 +239,10 @@ module _ (b : Composition) (s : State) (e : ready b s ≡ true) where
         out-is : out-there ≡ pout (part side (c .i')) ch (tagOut g) (valOf v)
         out-is = what-eq p-is
 
-        who : two t u ≡ two (part side (c .i')) (part side (c .j'))
-        who = ap₂ two (ap markIn out-is) (sym (taken .0))
+        who : joint t u ≡ joint (part side (c .i')) (part side (c .j'))
+        who = ap₂ joint (ap markIn out-is) (sym (taken .0))
 
-        vv' : Inv R (two (part side (c .i')) (part side (c .j')))
+        vv' : Inv R (joint (part side (c .i')) (part side (c .j')))
         vv' = record { perm = vv .perm; keeps = vv .keeps; next = vv .next; step = subst (λ (y : Participants Mark). Trans (allOf (newOf b s) (knownOf s)) (fill bs (at I)) tau y (vv .next)) who (vv .step); target = vv .target }
 
         fits : match (shape (patOf (node .pat))) (valOf v) ≡ some (taken .3)
@@ -268,13 +272,13 @@ module _ (b : Composition) (s : State) (e : ready b s ≡ true) where
         unfolding mb' vv'
         answer-here = answered b s e vw ori own reach ac (c .i') (c .j') β ch g v n vs gp gq node (part-ok (c .i') (output β ch g v) gp) (part-ok (c .j') (input β n vs) gq) (taken .3) fits (taken .5) (taken .1 ∙ ap chanIn out-is) (taken .2 ∙ ap tagIn out-is) R vv' J' leads bag-now
 
-        with-node : Completed b s tau (two t u) R
+        with-node : Completed b s tau (joint t u) R
         with-node = (
-          (meet-step (vw .c .side) (c .i') (c .j'), subst (At (meet-step (vw .c .side) (c .i') (c .j'))) (sym who) meet, asks-meet side (c .i') (c .j')),
+          (meet-step (vw .c .side) (c .i') (c .j'), subst (At (wrapperOf b) (meet-step (vw .c .side) (c .i') (c .j'))) (sym who) meet, asks-meet side (c .i') (c .j')),
           λ z atz ask. subst (λ (y : Step). Met b s tau R y ⊎ ((a : ℕ) × (step b s y .answer ≡ refusal a (y .side)) × Excused b s y tau a)) (sym (parts-step atz side (c .i') (c .j') who)) answer-here,
         )
 
-      sorted : (c : Pair) (p q : Particle) → c .p ≡ p → c .q ≡ q → Completed b s tau (two t u) R
+      sorted : (c : Pair) (p q : Particle) → c .p ≡ p → c .q ≡ q → Completed b s tau (joint t u) R
       unfolding proc codeOf
       sorted c (output β ch g v) (input γ n vs) ep eq =
           let z1 : siteOf side k ≡ siteOf side β = site-eq (c .is-p ∙ ap (partItem ids Tb side (c .i')) ep) in
@@ -286,46 +290,49 @@ module _ (b : Composition) (s : State) (e : ready b s ≡ true) where
           let node = node-of (c .i') γ n vs (c .get-p ∙ ap some ep) in
           absurd (false≢true (sym (ap isOut (what-eq (c .is-p ∙ ap (partItem ids Tb side (c .i')) ep) ∙ ap (λ (a : Term). proc [] (part side (c .i')) (codeOf a) (envOf (envAt Tb n vs))) (node .is)))))
 
-      pub in-box : Completed b s tau (two t u) R
+      pub in-box : Completed b s tau (joint t u) R
       in-box = let c = couple k (h .i) (h .j) out-there in-there (h .ne) (h .get-i) (h .get-j) in sorted c (c .p) (c .q) refl refl
 
-  -- the sites of side 2 are empty where there is no side 2
-  none-two : isPipeline b ≡ false → Away 2 I
-  unfolding confAs
-  none-two p =
-      let F = forwarders ids (isPipeline b) (b .wrapper) in
-      let SH = shelfItems ids (s .two .core .taken) 0 (s .one .core .shelf) in
-      let S1 = sideItems ids (b .wrapper) 1 (b .table1) (s .one .core) in
-      let S2 = sideItems ids (b .wrapper) 2 (b .table2) (s .two .core) in
-      away-app 2 F (SH ++ (S1 ++ S2)) (away-forwarders b s e ids 2 (z2 b s e) (isPipeline b) (b .wrapper))
-      (away-app 2 SH (S1 ++ S2) (away-shelf b s e ids 2 (z2 b s e) (s .two .core .taken) 0 (s .one .core .shelf))
-      (away-app 2 S1 S2 (away-side b s e ids 2 1 (b .wrapper) (b .table1) (s .one .core) (λ j k. ne-eqb (siteOf 2 k) (siteOf 1 j) (λ q. omega arith)) (z2 b s e)) none))
+  -- an item in a box is a particle of a side
+  abbrev AtTop : Item Mark → Type 0
+  AtTop i = i .site ≡ 0
+
+  top-forwarders : (w : Wrapper) → Every AtTop (forwarders ids w)
+  top-forwarders w = every-app AtTop (map (enters ids w) (w .sides)) _ (every-has AtTop (enters ids w) (w .sides) (λ n h. refl))
+      (every-app AtTop (map (passes ids w) (w .sides)) _ (every-has AtTop (passes ids w) (w .sides) (λ n h. refl)) (every-get AtTop (takes ids) (w .routes) (λ k r g. refl)))
+
+  top-shelf : (gone : ℕ → Bool) (n i : ℕ) (l : List (List ℕ)) → Every AtTop (shelfItems ids gone n i l)
+  top-shelf gone n i [] = tt
+  top-shelf gone n i (v ∷ l) = every-app AtTop (cond (gone i) [] (shelfItem ids n i v ∷ [])) (shelfItems ids gone n (suc i) l) (go (gone i)) (top-shelf gone n (suc i) l)
     where
-      none : Away 2 (sideItems ids (b .wrapper) 2 (b .table2) (s .two .core))
-      none = let z = two-none b s e p in subst₂ (λ (l : List Message) (q : List Particle). Away 2 (numbered (msgItem ids (b .wrapper) 2) 0 l ++ numbered (partItem ids (b .table2) 2) 0 q)) (sym (z .2)) (sym (z .0)) tt
+      go : (t : Bool) → Every AtTop (cond t [] (shelfItem ids n i v ∷ []))
+      go true = tt
+      go false = (refl, tt)
 
-  module _ {R : Proc Mark []} {t u : Mark} (vv : Inv R (two t u)) where
-    side-one : (k : ℕ) → MeetsAt (vv .next) t u (siteOf 1 k) → Completed b s tau (two t u) R
-    unfolding view1
-    side-one k h = in-box (view1 b s e) (orient1 b s e) (inl (refl, refl)) (reach1 b s e ids) (answers1 b s e) k vv h
+  boxed-side : (site : ℕ) (P : Proc Mark []) (X Y : List (Item Mark)) → (site ≡ 0 → ⊥) → Stands b s X (item site P) Y → (n : ℕ) × (hasSide (wrapperOf b) n ≡ true) × (k : ℕ) × (site ≡ siteOf n k)
+  boxed-side site P X Y nz (forwarder Y1 q) = absurd (nz (every-mid AtTop X (item site P) Y1 (subst (Every AtTop) q (top-forwarders (wrapperOf b)))))
+  boxed-side site P X Y nz (shelved n h X1 Y1 q ex ey) = absurd (nz (every-mid AtTop X1 (item site P) Y1 (subst (Every AtTop) q (top-shelf (isGone s n) n 0 (sideIn s n .core .shelf)))))
+  boxed-side site P X Y nz (message vw ac j m g is gone put) = absurd (nz (site-eq is))
+  boxed-side site P X Y nz (particle vw ac j p g is gone put) = let r = part-site p in (vw .c .side, vw .is-side, r .0, site-eq is ∙ r .1)
+    where
+      part-site : (p : Particle) → (k : ℕ) × (partItem ids (vw .c .table) (vw .c .side) j p .site ≡ siteOf (vw .c .side) k)
+      part-site (output β ch g v) = (β, refl)
+      part-site (input β n vs) = (β, refl)
 
-    side-two : (k : ℕ) → MeetsAt (vv .next) t u (siteOf 2 k) → Completed b s tau (two t u) R
-    unfolding view2
-    side-two k h = go (isPipeline b) refl
-      where
-        go : (c : Bool) → isPipeline b ≡ c → Completed b s tau (two t u) R
-        go true p = in-box (view2 b s e p) (orient2 b s e p) (inr (refl, refl)) (reach2 b s e) (answers2 b s e p) k vv h
-        go false p = let a = item-at I (siteOf 2 k) (h .i) (pout t (h .x) (comp (plain (h .g))) (h .v)) (h .get-i) in absurd (not-away 2 k I (a .X) (pout t (h .x) (comp (plain (h .g))) (h .v)) (a .Y) (none-two p) (a .is))
+  module _ {R : Proc Mark []} {t u : Mark} (vv : Inv R (joint t u)) where
+    in-side : (n : ℕ) → hasSide (wrapperOf b) n ≡ true → (k : ℕ) → MeetsAt (vv .next) t u (siteOf n k) → Completed b s tau (joint t u) R
+    unfolding view
+    in-side n g k h = in-box (view b s e n g) (orient b s e n g) (which (b .wrapper) n g, refl) (reach-boxes b s e ids n g) (answers b s e n g) k vv h
 
-    by-site : (site : ℕ) → (site ≡ 0 → ⊥) → MeetsAt (vv .next) t u site → Completed b s tau (two t u) R
-    by-site site nz h = go (eqb (site % 2) 1) refl
-      where
-        go : (c : Bool) → eqb (site % 2) 1 ≡ c → Completed b s tau (two t u) R
-        go true q = let z = eqb-true (site % 2) 1 q in side-one (site / 2) (subst (MeetsAt (vv .next) t u) (let y : site ≡ 2 * (site / 2) + 1 = omega arith in y) h)
-        go false q = let z = eqb-false (site % 2) 1 q in side-two (site / 2 - 1) (subst (MeetsAt (vv .next) t u) (let y : site ≡ 2 * (site / 2 - 1) + 2 = omega (arith, z, nz) in y) h)
+    by-site : (site : ℕ) → (site ≡ 0 → ⊥) → MeetsAt (vv .next) t u site → Completed b s tau (joint t u) R
+    by-site site nz h =
+        let P = pout t (h .x) (comp (plain (h .g))) (h .v) in
+        let a = item-at I site (h .i) P (h .get-i) in
+        let r = boxed-side site P (a .X) (a .Y) nz (stands-of b s e (a .X) (item site P) (a .Y) (a .is)) in
+        in-side (r .0) (r .1) (r .2) (subst (MeetsAt (vv .next) t u) (r .3) h)
 
     -- COMPLETE, for the meetings in the boxes: what `meets` gives, at a site that is not the environment
     pub complete-meeting : (site i j : ℕ) (x : ℕ) (g : ITag ℕ) (v : Val ℕ) (m : Mode) (p : Pat) (P : Proc Mark (p ∷ [])) (σ : Vars p → Val ℕ) → i ≢ j → getElem? (select (confOf b s .items) site) i ≡ some (pout t x (comp (plain g)) v)
         → getElem? (select (confOf b s .items) site) j ≡ some (pinp m u x g p P) → match p v ≡ some σ → InstOk P σ
-        → fill (confOf b s .boxes) (upd (λ k. parallel (select (confOf b s .items) k)) site (parallel (set (set (select (confOf b s .items) site) i pnil) j (after m u x g p P σ)))) ≋ vv .next → (site ≡ 0 → ⊥) → Completed b s tau (two t u) R
+        → fill (confOf b s .boxes) (upd (λ k. parallel (select (confOf b s .items) k)) site (parallel (set (set (select (confOf b s .items) site) i pnil) j (after m u x g p P σ)))) ≋ vv .next → (site ≡ 0 → ⊥) → Completed b s tau (joint t u) R
     complete-meeting site i j x g v m p P σ ne gi gj fi ok to nz = by-site site nz (record { i = i; j = j; x = x; g = g; v = v; m = m; p = p; P = P; σ = σ; ne = ne; get-i = gi; get-j = gj; fits = fi; ok = ok; to = to })

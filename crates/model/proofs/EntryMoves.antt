@@ -1,30 +1,27 @@
 -- What the environment says: the input that takes the value is a side's entry.
 use mathlib.Core.Path.{_≡_, refl, sym, ap, _∙_, subst}
-use mathlib.Core.Bool.{Bool, true, false, cond}
-use mathlib.Core.List.{List, [], _∷_}
-use mathlib.Core.Logic.{_⊎_, inl, inr, ⊎-elim}
+use mathlib.Core.Bool.{true, false}
+use mathlib.Core.List.{[]}
 use mathlib.Core.Option.{some}
-use Prim.Native.Nat.{ℕ, suc, _≤_}
-use native.Mathlib.Omega.{arith}
-use lib.Dec.{eqb}
+use Prim.Native.Nat.{ℕ}
 use lib.ListN.{getElem?, set}
 use Rattle.calculus.specs.Syntax.{Val, Vars, Tag, plain, Proc, AllT, tren, vren}
 use Rattle.calculus.specs.Syntax.{inp as pinp, parent as iparent}
 use Rattle.calculus.specs.Congruence.{_≋_}
-use Rattle.calculus.specs.Transitions.{Label, recv, Participants, two, In}
+use Rattle.calculus.specs.Transitions.{Label, recv, Participants, joint, In}
 use Rattle.calculus.specs.Transitions.{Step as Trans}
 use Rattle.calculus.specs.Tree.{Place, fill, upd}
 use Rattle.calculus.specs.Parallel.{parallel}
 use Rattle.calculus.specs.Tree.{select}
 use Rattle.calculus.specs.Tree.{process}
-use Rattle.model.specs.Side.{State, Box}
-use Rattle.model.specs.Load.{Composition}
+use Rattle.model.specs.Side.{State}
+use Rattle.model.specs.Load.{Composition, wrapperOf}
 use Rattle.model.specs.WellFormed.{ready}
-use Rattle.model.specs.Process.{Mark, ownName, siteOf, inwards, confAs, confOf, knownOf, placeOf, placesOf, enters as entering-item}
+use Rattle.model.specs.Process.{Mark, confOf, knownOf, enters as entering-item}
 use Rattle.calculus.proofs.Renaming.{AllT-map, AllT-ren}
 use Rattle.calculus.proofs.FreeNames.{step-tag}
 use Rattle.calculus.proofs.Inversion.{after}
-use Rattle.calculus.proofs.Trees.{Has, here, there}
+use Rattle.calculus.proofs.Trees.{Has}
 use Rattle.calculus.proofs.TreeMoves.{Move, receives, entering}
 use Rattle.model.proofs.KnownNames.{All}
 use Rattle.model.proofs.ItemMoves.{ids}
@@ -32,30 +29,13 @@ use Rattle.model.proofs.StateMoves.{wf-all}
 use Rattle.model.proofs.SideViews.{View}
 use Rattle.model.proofs.StateInversion.{transitions, item-at, ItemAt, atoms-at, items-atoms, fn-sel}
 use Rattle.model.proofs.Completing.{Inv, on-some, Answers, own-unknown, tagIn, chanIn, markIn, isOut, received}
-use Rattle.model.proofs.WrapperLevel.{Input, enters-of, passes-of, takes-of, input-is}
-
--- a box in the environment is a side's own
-has-cases : {M : Type 0} {c d : Place M} {bs : List (Place M)} → Has c (d ∷ bs) → (c ≡ d) ⊎ Has c bs
-has-cases here = inl refl
-has-cases (there h) = inr h
-
-own-place : {c : Place Mark} (side : ℕ) → 1 ≤ side → (j : ℕ) (bs : List Box) (acc : List (Place Mark)) → Has c (placesOf ids side j bs acc) → c .parent ≡ 0 → (c .name ≡ ownName side) ⊎ Has c acc
-own-place side l j [] acc h z = inr h
-own-place {c} side l j (b ∷ bs) acc h z = ⊎-elim (λ q. inl q) (λ h'. ⊎-elim (λ q. inl (first q (eqb j 0) refl)) (λ r. inr r) (has-cases h')) (own-place side l (suc j) bs (placeOf ids side j b ∷ acc) h z)
-  where
-    first : c ≡ placeOf ids side j b → (t : Bool) → eqb j 0 ≡ t → c .name ≡ ownName side
-    first q true p = ap (λ (y : Place Mark). y .name) q ∙ ap (λ (t : Bool). cond t (ownName side) (b .name)) p
-    first q false p = absurd (let r : 0 ≡ siteOf side (b .parent) = sym z ∙ ap (λ (y : Place Mark). y .parent) q ∙ ap (λ (t : Bool). cond t 0 (siteOf side (b .parent))) p in omega arith)
+use Rattle.model.proofs.WrapperLevel.{Input, enters-of, passes-of, takes-of, source-in, input-is}
+use Rattle.model.proofs.ItemSides.{root-of}
 
 module _ (b : Composition) (s : State) (e : ready b s ≡ true) where
+  -- a box in the environment is a side's own
   no-box : (c : Place Mark) → Has c (confOf b s .boxes) → c .parent ≡ 0 → In (knownOf s) (c .name) → ⊥
-  unfolding confAs
-  no-box c h z k = ⊎-elim (λ q. own-unknown b s 2 (inr refl) (subst (In (knownOf s)) q k))
-      (λ h'. ⊎-elim (λ q. own-unknown b s 1 (inl refl) (subst (In (knownOf s)) q k)) nowhere (own-place 1 (omega arith) 0 (s .one .core .contents .boxes) [] h' z))
-      (own-place 2 (omega arith) 0 (s .two .core .contents .boxes) (placesOf ids 1 0 (s .one .core .contents .boxes) []) h z)
-    where
-      nowhere : Has c [] → ⊥
-      nowhere h = elim h [ ]
+  no-box c h z k = let r = root-of b s e c h z in own-unknown b s (r .side) (r .is-side) (subst (In (knownOf s)) (r .name-is) k)
 
   -- the input that takes the value
   pub record Taken (N : Proc Mark []) (x' : ℕ) (o' : Tag ℕ) (v' : Val ℕ) (w : Participants Mark) : Type 0 where
@@ -63,7 +43,7 @@ module _ (b : Composition) (s : State) (e : ready b s ≡ true) where
     pub i : ℕ
     pub P : Proc Mark []
     pub Q : Proc Mark []
-    pub who : w ≡ two u (markIn P)
+    pub who : w ≡ joint u (markIn P)
     pub get : getElem? (select (confOf b s .items) 0) i ≡ some P
     pub not-out : isOut P ≡ false
     pub chan : chanIn P ≡ x'
@@ -96,8 +76,8 @@ module _ (b : Composition) (s : State) (e : ready b s ≡ true) where
     pub an : Answers b s vw
     pub by : Taken (vv .next) (vv .perm .to x) (tren o (vv .perm .to)) (vren v (vv .perm .to)) w
     pub place : ItemAt (confOf b s .items) 0 (by .i) (by .P)
-    pub is : by .P ≡ entering-item ids (b .wrapper) (vw .c .side) .what
-    pub on : vv .perm .to x ≡ inwards (b .wrapper) (vw .c .side)
+    pub is : by .P ≡ entering-item ids (wrapperOf b) (vw .c .side) .what
+    pub on : vv .perm .to x ≡ wrapperOf b .inlet (vw .c .side)
     pub tagged : tren o (vv .perm .to) ≡ plain iparent
 
   pub entry-of : {x : ℕ} {o : Tag ℕ} {v : Val ℕ} {R : Proc Mark []} {w : Participants Mark} → Trans (knownOf s) (process (confOf b s)) (recv x o v) w R → (vv : Inv b s R (recv x o v) w) × Entry vv
@@ -112,5 +92,5 @@ module _ (b : Composition) (s : State) (e : ready b s ≡ true) where
       by-input : (vv : Inv b s R (recv x o v) w) → AllT (tren o (vv .perm .to)) (In (knownOf s)) → (r : Taken (vv .next) (vv .perm .to x) (tren o (vv .perm .to)) (vren v (vv .perm .to)) w)
           → ItemAt (confOf b s .items) 0 (r .i) (r .P) → Input b s (r .P) → Entry vv
       by-input vv tg r a (enters-of vw an q) = record { vw = vw; an = an; by = r; place = a; is = q; on = sym (r .chan) ∙ ap chanIn q; tagged = sym (r .tag) ∙ ap tagIn q }
-      by-input vv tg r a (passes-of vw an q) = absurd (own-unknown b s (vw .c .side) (vw .which) (subst (λ (y : Tag ℕ). AllT y (In (knownOf s))) (sym (r .tag) ∙ ap tagIn q) tg))
-      by-input vv tg r a (takes-of p q) = absurd (own-unknown b s 1 (inl refl) (subst (λ (y : Tag ℕ). AllT y (In (knownOf s))) (sym (r .tag) ∙ ap tagIn q) tg))
+      by-input vv tg r a (passes-of vw an q) = absurd (own-unknown b s (vw .c .side) (vw .is-side) (subst (λ (y : Tag ℕ). AllT y (In (knownOf s))) (sym (r .tag) ∙ ap tagIn q) tg))
+      by-input vv tg r a (takes-of n p g q) = absurd (own-unknown b s (p .source) (source-in b n p g) (subst (λ (y : Tag ℕ). AllT y (In (knownOf s))) (sym (r .tag) ∙ ap tagIn q) tg))

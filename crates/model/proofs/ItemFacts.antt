@@ -18,7 +18,8 @@ use Rattle.model.specs.Values.{items, isTuple, isName, isPublic, isPatte
 use Rattle.model.specs.Table.{Table, Term, inp, term, count, kind, scope, build}
 use Rattle.model.specs.Side.{Particle, output, input, Message, down, arrived, leaving, Status as SPlace, Tag as STag, within, toParent, fromParent, toChild, fromChild}
 use Rattle.model.specs.WellFormed.{Counts, held, wfValue, wfTag, wfParticle, wfMessage, envAt}
-use Rattle.model.specs.Process.{Mark, part, ownName, outwards, valOf, headV, codeOf, envOf, tagOut, numbered, partItem, msgProc, msgItem, shelfItem, shelfItems}
+use Rattle.model.specs.Wrapper.{Wrapper}
+use Rattle.model.specs.Process.{Mark, part, ownName, valOf, headV, codeOf, envOf, tagOut, numbered, partItem, msgProc, msgItem, shelfItem, shelfItems}
 use Rattle.calculus.proofs.Bags.{at}
 use Rattle.calculus.proofs.Unfolding.{proc-all}
 use Rattle.calculus.proofs.Parallels.{beyond-none, each-names}
@@ -154,7 +155,7 @@ module _ {M : Type 0} (mk : Mark → M) (A : List ℕ) (k : Counts) (heldIn : (w
     part-atom i (output b ch g v) e = tt
     part-atom i (input b n vs) e = subst (λ (a : Term). Atom (proc [] (mk (part side i)) (codeOf a) (envOf (envAt t n vs)))) (sym (input-node b n vs e .is)) tt
 
-  pub msg-in : (wrapper side : ℕ) (sh : Bool) → In A (ownName side) → In A (outwards wrapper side) → (i : ℕ) (m : Message) → wfMessage sh k m ≡ true → Fn⊆ (msgItem mk wrapper side i m .what) A
+  pub msg-in : (wrapper : Wrapper) (side : ℕ) (sh : Bool) → In A (ownName side) → In A (wrapper .outlet side) → (i : ℕ) (m : Message) → wfMessage sh k m ≡ true → Fn⊆ (msgItem mk wrapper side i m .what) A
   unfolding AllN wfMessage
   msg-in wrapper side sh own ow i m e = go (m .status)
     where
@@ -163,11 +164,11 @@ module _ {M : Type 0} (mk : Mark → M) (A : List ℕ) (k : Counts) (heldIn : (w
       go arrived = (heldIn (m .chan) (fst _ _ (snd _ _ e)), own, val-in (m .val) (fst _ _ e))
       go leaving = (ow, tt, val-in (m .val) (fst _ _ e))
 
-  pub shelf-in : In A 2 → In A (ownName 1) → (tk : List Bool) (i : ℕ) (l : List (List ℕ)) → every (wfValue k) l ≡ true → Each A (shelfItems mk tk i l)
+  pub shelf-in : (side : ℕ) → In A 2 → In A (ownName side) → (gone : ℕ → Bool) (i : ℕ) (l : List (List ℕ)) → every (wfValue k) l ≡ true → Each A (shelfItems mk gone side i l)
   unfolding AllN
-  shelf-in two own tk i [] e = tt
-  shelf-in two own tk i (v ∷ l) e = each-app A (cond (getD tk i false) [] (shelfItem mk i v ∷ [])) (shelfItems mk tk (suc i) l) (go (getD tk i false)) (shelf-in two own tk (suc i) l (snd _ _ e))
+  shelf-in side joint own gone i [] e = tt
+  shelf-in side joint own gone i (v ∷ l) e = each-app A (cond (gone i) [] (shelfItem mk side i v ∷ [])) (shelfItems mk gone side (suc i) l) (go (gone i)) (shelf-in side joint own gone (suc i) l (snd _ _ e))
     where
-      go : (b : Bool) → Each A (cond b [] (shelfItem mk i v ∷ []))
+      go : (b : Bool) → Each A (cond b [] (shelfItem mk side i v ∷ []))
       go true = tt
-      go false = ((two, own, val-in v (fst _ _ e)), tt)
+      go false = ((joint, own, val-in v (fst _ _ e)), tt)

@@ -8,7 +8,7 @@ use lib.Dec.{T}
 use lib.ListN.{set, getElem?}
 use Rattle.calculus.specs.Syntax.{Val, AllN, Proc, Tag, plain, receivedParent, receivedChild, replicated, Defined, sub, remark, comp, ITag}
 use Rattle.calculus.specs.Syntax.{nil as pnil, par as ppar, out as pout, within as iwithin, parent as iparent, child as ichild}
-use Rattle.calculus.specs.Transitions.{Fn⊆, Label, tau, send, recv, Participants, one, two, Out}
+use Rattle.calculus.specs.Transitions.{Fn⊆, Label, tau, send, recv, Participants, lone, joint, Out}
 use Rattle.calculus.specs.Transitions.{Step as Trans}
 use Rattle.calculus.specs.Tree.{Place, fill}
 use Rattle.calculus.specs.Tree.{Item}
@@ -16,6 +16,7 @@ use Rattle.calculus.specs.Wrappers.{forward}
 use Rattle.model.specs.Basics.{remove}
 use Rattle.model.specs.Table.{Table}
 use Rattle.model.specs.Side.{Particle, output, input, Message, down, arrived, leaving, Core, Status as SPlace}
+use Rattle.model.specs.Wrapper.{Wrapper}
 use Rattle.model.specs.Process.{Mark, lobby, inert, numbered, partItem, msgProc, msgItem, sideItems}
 use Rattle.calculus.proofs.Trees.{Wf, Reach, Has}
 use Rattle.calculus.proofs.Moves.{Rooted}
@@ -31,7 +32,7 @@ ids m = m
 abbrev pub forget : Mark → Unit {0}
 forget m = tt
 
-abbrev pub plainM : (w side : ℕ) → Message → Item (Unit {0})
+abbrev pub plainM : (w : Wrapper) (side : ℕ) → Message → Item (Unit {0})
 plainM w side m = msgItem forget w side 0 m
 
 abbrev pub plainP : (T : Table) (side : ℕ) → Particle → Item (Unit {0})
@@ -44,7 +45,7 @@ plain-part T side i p = part-marks ids forget T side i p ∙ go p
     go (output b c g v) = refl
     go (input b n vs) = refl
 
-pub plain-msg : (w side i : ℕ) (m : Message) → ritem forget (msgItem ids w side i m) ≡ plainM w side m
+pub plain-msg : (w : Wrapper) (side i : ℕ) (m : Message) → ritem forget (msgItem ids w side i m) ≡ plainM w side m
 plain-msg w side i m = msg-marks ids forget w side i m ∙ ap (λ (P : Proc (Unit {0}) []). item 0 P) (go (m .status))
   where
     go : (p : SPlace) → msgProc forget w side i p (m .chan) (m .val) ≡ msgProc forget w side 0 p (m .chan) (m .val)
@@ -112,40 +113,40 @@ module _ (A : List ℕ) (bs : List (Place Mark)) (wf : Wf A bs) (ro : Rooted bs)
   gone-of X Y b = bag-trans (bag-eq (ritems-app forget X (item b pnil ∷ Y))) (gone-bag (ritems forget X) b (ritems forget Y))
 
   -- an output goes to the environment
-  pub go-out : {I : List (Item Mark)} {t : Mark} {x : ℕ} {o : Tag ℕ} {v : Val ℕ} {rest : List (Item (Unit {0}))} → Each A I → Found I 0 (pout t x o v) rest → Moves A bs I (send x o v) (one t) rest
+  pub go-out : {I : List (Item Mark)} {t : Mark} {x : ℕ} {o : Tag ℕ} {v : Val ℕ} {rest : List (Item (Unit {0}))} → Each A I → Found I 0 (pout t x o v) rest → Moves A bs I (send x o v) (lone t) rest
   go-out {I} {t} {x} {o} {v} {rest} each f =
       let e : Each A (f .X ++ item 0 (pout t x o v) ∷ f .Y) = subst (λ (L : List (Item Mark)). Each A L) (f .is) each in
       record {
         J = f .X ++ item 0 pnil ∷ f .Y;
-        step = subst (λ (L : List (Item Mark)). Trans A (fill bs (at L)) (send x o v) (one t) (fill bs (at (f .X ++ item 0 pnil ∷ f .Y)))) (sym (f .is))
+        step = subst (λ (L : List (Item Mark)). Trans A (fill bs (at L)) (send x o v) (lone t) (fill bs (at (f .X ++ item 0 pnil ∷ f .Y)))) (sym (f .is))
             (move-root A bs wf (f .X) (f .Y) (each-at A (f .X ++ item 0 (pout t x o v) ∷ f .Y) e) (Out (each-mid A (f .X) (item 0 (pout t x o v)) (f .Y) e)));
         bag = bag-trans (gone-of (f .X) (f .Y) 0) (bag-eq (f .rest-is));
       }
 
   -- an output rises out of the box c
   pub go-up : {I : List (Item Mark)} {t : Mark} {x : ℕ} {v : Val ℕ} {rest : List (Item (Unit {0}))} (c : Place Mark) → Has c bs → Each A I → Found I (c .site) (pout t x (plain iparent) v) rest
-      → Moves A bs I tau (one t) (item (c .parent) (pout tt x (receivedChild (c .name)) v) ∷ rest)
+      → Moves A bs I tau (lone t) (item (c .parent) (pout tt x (receivedChild (c .name)) v) ∷ rest)
   unfolding AllN remark
   go-up {I} {t} {x} {v} {rest} c has each f =
       let e : Each A (f .X ++ item (c .site) (pout t x (plain iparent) v) ∷ f .Y) = subst (λ (L : List (Item Mark)). Each A L) (f .is) each in
       let fo = each-mid A (f .X) (item (c .site) (pout t x (plain iparent) v)) (f .Y) e in
       record {
         J = item (c .parent) (pout t x (receivedChild (c .name)) v) ∷ (f .X ++ item (c .site) pnil ∷ f .Y);
-        step = subst (λ (L : List (Item Mark)). Trans A (fill bs (at L)) tau (one t) (fill bs (at (item (c .parent) (pout t x (receivedChild (c .name)) v) ∷ (f .X ++ item (c .site) pnil ∷ f .Y))))) (sym (f .is))
+        step = subst (λ (L : List (Item Mark)). Trans A (fill bs (at L)) tau (lone t) (fill bs (at (item (c .parent) (pout t x (receivedChild (c .name)) v) ∷ (f .X ++ item (c .site) pnil ∷ f .Y))))) (sym (f .is))
             (move-rise A bs wf ro c has (f .X) (f .Y) (each-at A (f .X ++ item (c .site) (pout t x (plain iparent) v) ∷ f .Y) e) (out-beyond A x v (fo .0) (fo .2)) (Out fo));
         bag = bag-cons (item (c .parent) (pout tt x (receivedChild (c .name)) v)) (bag-trans (gone-of (f .X) (f .Y) (c .site)) (bag-eq (f .rest-is)));
       }
 
   -- an output goes into the box c
   pub go-into : {I : List (Item Mark)} {t : Mark} {x : ℕ} {v : Val ℕ} {rest : List (Item (Unit {0}))} (c : Place Mark) → Has c bs → Each A I → Found I (c .parent) (pout t x (plain (ichild (c .name))) v) rest
-      → Moves A bs I tau (two t (c .mark)) (item (c .site) (pout tt x receivedParent v) ∷ rest)
+      → Moves A bs I tau (joint t (c .mark)) (item (c .site) (pout tt x receivedParent v) ∷ rest)
   unfolding AllN remark
   go-into {I} {t} {x} {v} {rest} c has each f =
       let e : Each A (f .X ++ item (c .parent) (pout t x (plain (ichild (c .name))) v) ∷ f .Y) = subst (λ (L : List (Item Mark)). Each A L) (f .is) each in
       let fo = each-mid A (f .X) (item (c .parent) (pout t x (plain (ichild (c .name))) v)) (f .Y) e in
       record {
         J = item (c .site) (pout t x receivedParent v) ∷ (f .X ++ item (c .parent) pnil ∷ f .Y);
-        step = subst (λ (L : List (Item Mark)). Trans A (fill bs (at L)) tau (two t (c .mark)) (fill bs (at (item (c .site) (pout t x receivedParent v) ∷ (f .X ++ item (c .parent) pnil ∷ f .Y))))) (sym (f .is))
+        step = subst (λ (L : List (Item Mark)). Trans A (fill bs (at L)) tau (joint t (c .mark)) (fill bs (at (item (c .site) (pout t x receivedParent v) ∷ (f .X ++ item (c .parent) pnil ∷ f .Y))))) (sym (f .is))
             (move-descend A bs wf ro c has (f .X) (f .Y) (each-at A (f .X ++ item (c .parent) (pout t x (plain (ichild (c .name))) v) ∷ f .Y) e) (out-beyond A x v (fo .0) (fo .2)) (Out fo));
         bag = bag-cons (item (c .site) (pout tt x receivedParent v)) (bag-trans (gone-of (f .X) (f .Y) (c .parent)) (bag-eq (f .rest-is)));
       }
@@ -154,7 +155,7 @@ module _ (A : List ℕ) (bs : List (Place Mark)) (wf : Wf A bs) (ro : Rooted bs)
   abbrev pub fwd : Mark → ℕ → ITag ℕ → ℕ → ITag ℕ → Proc Mark []
   fwd t x i z o = forward [] t inert x i z o
 
-  sent-on : {t : Mark} {x : ℕ} {i : ITag ℕ} {z : ℕ} {v : Val ℕ} {u : Mark} (o : ITag ℕ) → Fn⊆ (fwd t x i z o) A → Trans A (fwd t x i z o) (recv x (plain i) v) (two u t) (ppar (fwd t x i z o) (pout inert z (plain o) v))
+  sent-on : {t : Mark} {x : ℕ} {i : ITag ℕ} {z : ℕ} {v : Val ℕ} {u : Mark} (o : ITag ℕ) → Fn⊆ (fwd t x i z o) A → Trans A (fwd t x i z o) (recv x (plain i) v) (joint u t) (ppar (fwd t x i z o) (pout inert z (plain o) v))
   unfolding sub Defined
   sent-on {v = v} iwithin h = recv-of replicated {σ = λ y. v} h refl (tt, tt)
   sent-on {v = v} iparent h = recv-of replicated {σ = λ y. v} h refl (tt, tt)
@@ -171,19 +172,19 @@ module _ (A : List ℕ) (bs : List (Place Mark)) (wf : Wf A bs) (ro : Rooted bs)
       (bag-cons (item b (remark forget Q)) (bag-trans (bag-sym (bag-mid (ritems forget X) (item b (remark forget P)) (ritems forget Y))) (bag-eq (sym (ritems-app forget X (item b P ∷ Y)))))))))
 
   pub go-in : {I : List (Item Mark)} {t : Mark} {x : ℕ} {i : ITag ℕ} {z : ℕ} {o : ITag ℕ} {v : Val ℕ} (u : Mark) (X Y : List (Item Mark)) → I ≡ X ++ item 0 (fwd t x i z o) ∷ Y → Each A I
-      → Moves A bs I (recv x (plain i) v) (two u t) (item 0 (pout tt z (plain o) v) ∷ ritems forget I)
+      → Moves A bs I (recv x (plain i) v) (joint u t) (item 0 (pout tt z (plain o) v) ∷ ritems forget I)
   unfolding remark
   go-in {I} {t} {x} {i} {z} {o} {v} u X Y is each =
       let e : Each A (X ++ item 0 (fwd t x i z o) ∷ Y) = subst (λ (L : List (Item Mark)). Each A L) is each in
       record {
         J = X ++ item 0 (ppar (fwd t x i z o) (pout inert z (plain o) v)) ∷ Y;
-        step = subst (λ (L : List (Item Mark)). Trans A (fill bs (at L)) (recv x (plain i) v) (two u t) (fill bs (at (X ++ item 0 (ppar (fwd t x i z o) (pout inert z (plain o) v)) ∷ Y)))) (sym is)
+        step = subst (λ (L : List (Item Mark)). Trans A (fill bs (at L)) (recv x (plain i) v) (joint u t) (fill bs (at (X ++ item 0 (ppar (fwd t x i z o) (pout inert z (plain o) v)) ∷ Y)))) (sym is)
             (move-root A bs wf X Y (each-at A (X ++ item 0 (fwd t x i z o) ∷ Y) e) (sent-on o (each-mid A X (item 0 (fwd t x i z o)) Y e)));
         bag = bag-trans (par-of X Y 0 (fwd t x i z o) (pout inert z (plain o) v)) (bag-eq (ap (λ (L : List (Item Mark)). item 0 (pout tt z (plain o) v) ∷ ritems forget L) (sym is)));
       }
 
   pub go-on : {I : List (Item Mark)} {t s : Mark} {z : ℕ} {o : ITag ℕ} {v : Val ℕ} (x : ℕ) (i : ITag ℕ) (r : Reach bs 0) (X Y Z : List (Item Mark)) → I ≡ X ++ item 0 (fwd t x i z o) ∷ (Y ++ item 0 (pout s x (comp (plain i)) v) ∷ Z) → Each A I
-      → Moves A bs I tau (two s t) (item 0 (pout tt z (plain o) v) ∷ ritems forget (X ++ item 0 (fwd t x i z o) ∷ (Y ++ Z)))
+      → Moves A bs I tau (joint s t) (item 0 (pout tt z (plain o) v) ∷ ritems forget (X ++ item 0 (fwd t x i z o) ∷ (Y ++ Z)))
   unfolding remark AllN
   go-on {I} {t} {s} {z} {o} {v} x i r X Y Z is each =
       let F = fwd t x i z o in
@@ -191,7 +192,7 @@ module _ (A : List ℕ) (bs : List (Place Mark)) (wf : Wf A bs) (ro : Rooted bs)
       let fo = each-mid A (X ++ item 0 F ∷ Y) (item 0 (pout s x (comp (plain i)) v)) Z (subst (λ (L : List (Item Mark)). Each A L) (sym (append-assoc X (item 0 F ∷ Y) (item 0 (pout s x (comp (plain i)) v) ∷ Z))) e) in
       record {
         J = X ++ item 0 (ppar F (pout inert z (plain o) v)) ∷ (Y ++ item 0 pnil ∷ Z);
-        step = subst (λ (L : List (Item Mark)). Trans A (fill bs (at L)) tau (two s t) (fill bs (at (X ++ item 0 (ppar F (pout inert z (plain o) v)) ∷ (Y ++ item 0 pnil ∷ Z))))) (sym is)
+        step = subst (λ (L : List (Item Mark)). Trans A (fill bs (at L)) tau (joint s t) (fill bs (at (X ++ item 0 (ppar F (pout inert z (plain o) v)) ∷ (Y ++ item 0 pnil ∷ Z))))) (sym is)
             (move-teem A bs wf {g = plain i} X Y Z 0 r (each-at A (X ++ item 0 F ∷ (Y ++ item 0 (pout s x (comp (plain i)) v) ∷ Z)) e) (out-beyond A x v (fo .0) (fo .2)) (Out fo) (sent-on o (each-mid A X (item 0 F) (Y ++ item 0 (pout s x (comp (plain i)) v) ∷ Z) e)));
         bag = bag-trans (par-of X (Y ++ item 0 pnil ∷ Z) 0 F (pout inert z (plain o) v))
             (bag-cons (item 0 (pout tt z (plain o) v)) (without X Y Z F));
@@ -203,7 +204,7 @@ module _ (A : List ℕ) (bs : List (Place Mark)) (wf : Wf A bs) (ro : Rooted bs)
           (bag-trans (gone-of (X ++ item 0 F ∷ Y) Z 0) (bag-eq (sym (ritems-app forget (X ++ item 0 F ∷ Y) Z) ∙ ap (ritems forget) (append-assoc X (item 0 F ∷ Y) Z))))
 
 -- one side's items among the others
-module _ (w side : ℕ) (T : Table) (C D : List (Item Mark)) (s : Core) where
+module _ (w : Wrapper) (side : ℕ) (T : Table) (C D : List (Item Mark)) (s : Core) where
   abbrev pub whole : List (Item Mark)
   whole = C ++ (sideItems ids w side T s ++ D)
 

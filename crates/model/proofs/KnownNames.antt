@@ -1,24 +1,26 @@
 -- The names of a state: each one held is known outside or new; the new ones are told apart from each other and from the known.
 use mathlib.Core.Path.{_≡_, refl, sym, ap, _∙_, subst}
-use mathlib.Core.Bool.{Bool, true, false, not, _||_, cond, false≢true}
-use mathlib.Core.List.{List, [], _∷_, _++_}
+use mathlib.Core.Bool.{Bool, true, false, not, cond, false≢true}
+use mathlib.Core.List.{List, [], _∷_, _++_, map}
 use mathlib.Core.Logic.{_⊎_, inl, inr, ⊎-elim}
 use Prim.Native.Nat.{ℕ, zero, suc, _<_, _≤_}
 use native.Mathlib.Omega.{arith}
-use borrow.Author.Tests.{leb-true, ltb-true, eqb-true, eqb-false, eq-eqb, ne-eqb}
+use borrow.Author.Tests.{leb-true, ltb-true, eqb-true, eqb-false, eq-eqb}
 use lib.Dec.{ltb, eqb, T, eqb-refl}
 use Rattle.calculus.specs.Transitions.{mem, In, Out∉}
-use Rattle.model.specs.Basics.{_&_}
+use Rattle.model.specs.Basics.{_&_, _or_, has}
 use Rattle.model.specs.Values.{isMinted, serial, sideOf as mintSide}
-use Rattle.model.specs.Side.{State}
-use Rattle.model.specs.Load.{Composition, isPipeline}
-use Rattle.model.specs.WellFormed.{counts, held}
+use Rattle.model.specs.Side.{State, side}
+use Rattle.model.specs.Wrapper.{allSides, described, hasSide}
+use Rattle.model.specs.Load.{Composition, wrapperOf}
+use Rattle.model.specs.WellFormed.{counts, countOf, held}
 use Rattle.model.specs.Step.{known}
-use Rattle.model.specs.Process.{upto, mintOf, keep, mintedOf, ownNames, newOf, knownOf}
+use Rattle.model.specs.Process.{upto, mintOf, keep, bySide, mintedOf, ownName, NamesDistinct, newOf, knownOf}
 use Rattle.calculus.proofs.Restriction.{Good}
 use Rattle.calculus.proofs.Restriction.{known as allOf}
 use Rattle.calculus.proofs.FreeNames.{mem-cases, mem-left, mem-right, or-cases, or-left, or-right}
-use Rattle.model.proofs.Tests.{fst, snd, alt}
+use Rattle.model.proofs.Tests.{fst, snd, alt, or-cases as bool-cases, or-right as bool-right, or-first}
+use Rattle.model.proofs.Invariant.{which, positive, count-is}
 
 -- f i is among f 0 .. f (n - 1)
 pub in-upto : (n i : ℕ) (f : ℕ → ℕ) → i < n → T (mem (f i) (upto n f))
@@ -109,43 +111,84 @@ pub in-new : (N A : List ℕ) (y : ℕ) → T (mem y N) → In (allOf N A) y
 in-new [] A y h = absurd h
 in-new (x ∷ N) A y h = ⊎-elim (λ a. in-old N (x ∷ A) y (or-left (eqb y x) (mem y A) a)) (λ a. in-new N (x ∷ A) y a) (or-cases (eqb y x) (mem y N) h)
 
+-- numbers that are different
+abbrev pub Distinct : List ℕ → Type 0
+Distinct [] = Unit {0}
+Distinct (n ∷ ns) = (has n ns ≡ true → ⊥) × Distinct ns
+
+-- a minted number, its side and its serial
+minted-side : (w : ℕ) → isMinted w ≡ true → (has (mintSide w) allSides ≡ true) × (mintOf (mintSide w) (serial w) ≡ w)
+minted-side w e = ⊎-elim
+    (λ p. let a = leb-true 65536 w (fst _ _ p) in let b = leb-true w 65791 (snd _ _ p) in let q : mintSide w ≡ 1 = omega arith in (or-first _ _ (eq-eqb (mintSide w) 1 q), omega arith))
+    (λ p. let a = leb-true 131072 w (fst _ _ p) in let b = leb-true w 131327 (snd _ _ p) in let q : mintSide w ≡ 2 = omega arith in (bool-right (eqb (mintSide w) 1) _ (or-first _ _ (eq-eqb (mintSide w) 2 q)), omega arith))
+    (alt _ _ e)
+
+-- what each side has
+pub by-in : (f : ℕ → List ℕ) (ns : List ℕ) (n x : ℕ) → has n ns ≡ true → T (mem x (f n)) → T (mem x (bySide f ns))
+by-in f [] n x h m = absurd (false≢true h)
+by-in f (k ∷ ns) n x h m = ⊎-elim (λ q. mem-left x (f k) (bySide f ns) (subst (λ (z : ℕ). T (mem x (f z))) (eqb-true n k q) m)) (λ q. mem-right x (f k) (bySide f ns) (by-in f ns n x q m)) (bool-cases (eqb n k) (has n ns) h)
+
+pub by-out : (f : ℕ → List ℕ) (ns : List ℕ) (x : ℕ) → T (mem x (bySide f ns)) → (n : ℕ) × (has n ns ≡ true) × T (mem x (f n))
+by-out f [] x h = absurd h
+by-out f (k ∷ ns) x h = ⊎-elim (λ q. (k, or-first (eqb k k) (has k ns) (eq-eqb k k refl), q)) (λ q. let r = by-out f ns x q in (r .0, bool-right (eqb (r .0) k) (has (r .0) ns) (r .1), r .2)) (mem-cases x (f k) (bySide f ns) h)
+
+pub apart-by : (f : ℕ → List ℕ) (ns : List ℕ) → Distinct ns → ((n : ℕ) → Apart (f n)) → ((n m x : ℕ) → has n ns ≡ true → has m ns ≡ true → T (mem x (f n)) → T (mem x (f m)) → n ≡ m) → Apart (bySide f ns)
+apart-by f [] d a h = tt
+apart-by f (k ∷ ns) d a h = apart-app (f k) (bySide f ns) (a k) (apart-by f ns (d .1) a (λ n m x p q u v. h n m x (bool-right (eqb n k) (has n ns) p) (bool-right (eqb m k) (has m ns) q) u v))
+    (λ x u v. let r = by-out f ns x v in let e : k ≡ r .0 = h k (r .0) x (or-first (eqb k k) (has k ns) (eq-eqb k k refl)) (bool-right (eqb (r .0) k) (has (r .0) ns) (r .1)) u (r .2) in d .0 (subst (λ (z : ℕ). has z ns ≡ true) (sym e) (r .1)))
+
+pub map-out : (f : ℕ → ℕ) (ns : List ℕ) (x : ℕ) → T (mem x (map f ns)) → (n : ℕ) × (has n ns ≡ true) × (x ≡ f n)
+map-out f [] x h = absurd h
+map-out f (k ∷ ns) x h = ⊎-elim (λ q. (k, or-first (eqb k k) (has k ns) (eq-eqb k k refl), T-eqb x (f k) q)) (λ q. let r = map-out f ns x q in (r .0, bool-right (eqb (r .0) k) (has (r .0) ns) (r .1), r .2)) (or-cases (eqb x (f k)) (mem x (map f ns)) h)
+
+pub map-in : (f : ℕ → ℕ) (ns : List ℕ) (n : ℕ) → has n ns ≡ true → T (mem (f n) (map f ns))
+map-in f [] n h = absurd (false≢true h)
+map-in f (k ∷ ns) n h = ⊎-elim (λ q. or-left (eqb (f n) (f k)) (mem (f n) (map f ns)) (is-true _ (eq-eqb (f n) (f k) (ap f (eqb-true n k q))))) (λ q. or-right (eqb (f n) (f k)) (mem (f n) (map f ns)) (map-in f ns n q)) (bool-cases (eqb n k) (has n ns) h)
+
+pub apart-map : (f : ℕ → ℕ) (ns : List ℕ) → Distinct ns → ((n m : ℕ) → f n ≡ f m → n ≡ m) → Apart (map f ns)
+apart-map f [] d h = tt
+apart-map f (k ∷ ns) d h = (λ q. let r = map-out f ns (f k) q in d .0 (subst (λ (z : ℕ). has z ns ≡ true) (sym (h k (r .0) (r .2))) (r .1)), apart-map f ns (d .1) h)
+
+-- the sides of a wrapper are different
+pub sides-distinct : (w : ℕ) → Distinct (described w .sides)
+sides-distinct w = go (eqb w 1) (eqb w 2)
+  where
+    go : (t u : Bool) → Distinct (cond t (described 1) (cond u (described 2) (described 0)) .sides)
+    go true u = (false≢true, tt)
+    go false true = (false≢true, (false≢true, tt))
+    go false false = tt
+
 module _ (b : Composition) (s : State) where
   -- the names that the state's process may have
   abbrev pub All : List ℕ
   All = allOf (newOf b s) (knownOf s)
 
-  pub low-in : (y : ℕ) → y < 64 → In All y
+  -- public names, and those towards the environment
+  pub low-known : (y : ℕ) → y < 81 → In (knownOf s) y
   unfolding knownOf
-  low-in y h = in-old (newOf b s) (knownOf s) y (mem-left y (upto 64 (λ i. i)) ((65 ∷ 66 ∷ 67 ∷ 68 ∷ []) ++ keep (known s) (mintedOf s)) (in-upto 64 y (λ i. i) h))
+  low-known y h = mem-left y (upto 81 (λ i. i)) (keep (known s) (mintedOf s)) (in-upto 81 y (λ i. i) h)
 
-  pub outer-known : (y : ℕ) → T (mem y (65 ∷ 66 ∷ 67 ∷ 68 ∷ [])) → In (knownOf s) y
-  unfolding knownOf
-  outer-known y h = mem-right y (upto 64 (λ i. i)) ((65 ∷ 66 ∷ 67 ∷ 68 ∷ []) ++ keep (known s) (mintedOf s)) (mem-left y (65 ∷ 66 ∷ 67 ∷ 68 ∷ []) (keep (known s) (mintedOf s)) h)
+  pub low-in : (y : ℕ) → y < 81 → In All y
+  low-in y h = in-old (newOf b s) (knownOf s) y (low-known y h)
 
-  pub outer-in : (y : ℕ) → T (mem y (65 ∷ 66 ∷ 67 ∷ 68 ∷ [])) → In All y
-  outer-in y h = in-old (newOf b s) (knownOf s) y (outer-known y h)
-
-  pub own-in : (y : ℕ) → T (mem y (ownNames (isPipeline b))) → In All y
+  pub own-in : (n : ℕ) → hasSide (wrapperOf b) n ≡ true → In All (ownName n)
   unfolding newOf
-  own-in y h = in-new (newOf b s) (knownOf s) y (mem-left y (ownNames (isPipeline b)) (keep (λ x. not (known s x)) (mintedOf s)) h)
+  own-in n h = in-new (newOf b s) (knownOf s) (ownName n) (mem-left (ownName n) (map ownName (wrapperOf b .sides)) (keep (λ x. not (known s x)) (mintedOf s)) (map-in ownName (wrapperOf b .sides) n h))
 
   pub minted-in : (y : ℕ) → T (mem y (mintedOf s)) → In All y
   unfolding newOf knownOf
   minted-in y h = go (known s y) refl
     where
       go : (t : Bool) → known s y ≡ t → In (allOf (newOf b s) (knownOf s)) y
-      go true e = in-old (newOf b s) (knownOf s) y (mem-right y (upto 64 (λ i. i)) ((65 ∷ 66 ∷ 67 ∷ 68 ∷ []) ++ keep (known s) (mintedOf s)) (mem-right y (65 ∷ 66 ∷ 67 ∷ 68 ∷ []) (keep (known s) (mintedOf s)) (keep-in (known s) (mintedOf s) y h e)))
-      go false e = in-new (newOf b s) (knownOf s) y (mem-right y (ownNames (isPipeline b)) (keep (λ x. not (known s x)) (mintedOf s)) (keep-in (λ x. not (known s x)) (mintedOf s) y h (ap not e)))
+      go true e = in-old (newOf b s) (knownOf s) y (mem-right y (upto 81 (λ i. i)) (keep (known s) (mintedOf s)) (keep-in (known s) (mintedOf s) y h e))
+      go false e = in-new (newOf b s) (knownOf s) y (mem-right y (map ownName (wrapperOf b .sides)) (keep (λ x. not (known s x)) (mintedOf s)) (keep-in (λ x. not (known s x)) (mintedOf s) y h (ap not e)))
 
-  pub held-minted : (w : ℕ) → isMinted w & ltb (serial w) (cond (eqb (mintSide w) 1) (counts s .c1) (counts s .c2)) ≡ true → T (mem w (mintedOf s))
-  held-minted w e = ⊎-elim
-      (λ p. let a = leb-true 65536 w (fst _ _ p) in let b = leb-true w 65791 (snd _ _ p) in
-      let l : serial w < s .one .core .contents .minted = ltb-true (serial w) (s .one .core .contents .minted) (rw (eq-eqb (mintSide w) 1 (omega arith)) at (snd _ _ e)) in
-      mem-left w (upto (s .one .core .contents .minted) (mintOf 1)) (upto (s .two .core .contents .minted) (mintOf 2)) (subst (λ (z : ℕ). T (mem z (upto (s .one .core .contents .minted) (mintOf 1)))) (omega arith) (in-upto (s .one .core .contents .minted) (serial w) (mintOf 1) l)))
-      (λ p. let a = leb-true 131072 w (fst _ _ p) in let b = leb-true w 131327 (snd _ _ p) in
-      let l : serial w < s .two .core .contents .minted = ltb-true (serial w) (s .two .core .contents .minted) (rw (ne-eqb (mintSide w) 1 (λ z. omega arith)) at (snd _ _ e)) in
-      mem-right w (upto (s .one .core .contents .minted) (mintOf 1)) (upto (s .two .core .contents .minted) (mintOf 2)) (subst (λ (z : ℕ). T (mem z (upto (s .two .core .contents .minted) (mintOf 2)))) (omega arith) (in-upto (s .two .core .contents .minted) (serial w) (mintOf 2) l)))
-      (alt _ _ (fst _ _ e))
+  -- a minted number is its side's with its serial
+  pub held-minted : (w : ℕ) → isMinted w & ltb (serial w) (countOf (counts s) (mintSide w)) ≡ true → T (mem w (mintedOf s))
+  held-minted w e =
+      let l : serial w < side s (mintSide w) .core .contents .minted = ltb-true (serial w) (side s (mintSide w) .core .contents .minted) (ap (ltb (serial w)) (sym (count-is s (mintSide w))) ∙ snd _ _ e) in
+      by-in (λ n. upto (side s n .core .contents .minted) (mintOf n)) allSides (mintSide w) w (minted-side w (fst _ _ e) .0)
+      (subst (λ (z : ℕ). T (mem z (upto (side s (mintSide w) .core .contents .minted) (mintOf (mintSide w))))) (minted-side w (fst _ _ e) .1) (in-upto (side s (mintSide w) .core .contents .minted) (serial w) (mintOf (mintSide w)) l))
 
   -- a name that is held is known outside or new
   pub held-in : (w : ℕ) → held (counts s) w ≡ true → In All w
@@ -153,44 +196,35 @@ module _ (b : Composition) (s : State) where
   held-in w e = ⊎-elim (λ p. let l = leb-true w 63 p in low-in w (omega arith)) (λ p. minted-in w (held-minted w p)) (alt _ _ e)
 
   pub minted-high : (w : ℕ) → T (mem w (mintedOf s)) → 65536 ≤ w
-  minted-high w h = ⊎-elim (λ a. let r = upto-out (s .one .core .contents .minted) (mintOf 1) w a in omega (arith, r .2)) (λ a. let r = upto-out (s .two .core .contents .minted) (mintOf 2) w a in omega (arith, r .2))
-      (mem-cases w (upto (s .one .core .contents .minted) (mintOf 1)) (upto (s .two .core .contents .minted) (mintOf 2)) h)
+  minted-high w h =
+      let r = by-out (λ n. upto (side s n .core .contents .minted) (mintOf n)) allSides w h in
+      let t = upto-out (side s (r .0) .core .contents .minted) (mintOf (r .0)) w (r .2) in
+      omega (arith, positive (r .0) (r .1) .0, t .2)
 
-  pub own-low : (w : ℕ) → T (mem w (ownNames (isPipeline b))) → (w ≡ 70) ⊎ (w ≡ 71)
-  own-low w h = go (isPipeline b) h
-    where
-      go : (t : Bool) → T (mem w (ownNames t)) → (w ≡ 70) ⊎ (w ≡ 71)
-      go true h = ⊎-elim (λ a. inl (T-eqb w 70 a)) (λ a. ⊎-elim (λ c. inr (T-eqb w 71 c)) (λ c. absurd c) (or-cases (eqb w 71) false a)) (or-cases (eqb w 70) (eqb w 71 || false) h)
-      go false h = ⊎-elim (λ a. inl (T-eqb w 70 a)) (λ c. absurd c) (or-cases (eqb w 70) false h)
+  pub own-low : (w : ℕ) → T (mem w (map ownName (wrapperOf b .sides))) → (81 ≤ w) × (w ≤ 88)
+  own-low w h = let r = map-out ownName (wrapperOf b .sides) w h in let p = positive (r .0) (which (b .wrapper) (r .0) (r .1)) in (omega (arith, p .0, r .2), omega (arith, p .1, r .2))
 
-  pub known-where : (w : ℕ) → In (knownOf s) w → (w < 64) ⊎ (((65 ≤ w) × (w ≤ 68)) ⊎ (T (mem w (mintedOf s)) × (known s w ≡ true)))
+  pub known-where : (w : ℕ) → In (knownOf s) w → (w < 81) ⊎ (T (mem w (mintedOf s)) × (known s w ≡ true))
   unfolding knownOf
-  known-where w h = ⊎-elim (λ a. let r = upto-out 64 (λ i. i) w a in inl (omega (arith, r .1, r .2)))
-      (λ a. inr (⊎-elim (λ c. inl (env c)) (λ c. inr (keep-out (known s) (mintedOf s) w c)) (mem-cases w (65 ∷ 66 ∷ 67 ∷ 68 ∷ []) (keep (known s) (mintedOf s)) a)))
-      (mem-cases w (upto 64 (λ i. i)) ((65 ∷ 66 ∷ 67 ∷ 68 ∷ []) ++ keep (known s) (mintedOf s)) h)
-    where
-      env : T (mem w (65 ∷ 66 ∷ 67 ∷ 68 ∷ [])) → (65 ≤ w) × (w ≤ 68)
-      env c = ⊎-elim (λ a. let q = T-eqb w 65 a in (omega arith, omega arith)) (λ c. ⊎-elim (λ a. let q = T-eqb w 66 a in (omega arith, omega arith)) (λ c. ⊎-elim (λ a. let q = T-eqb w 67 a in (omega arith, omega arith))
-          (λ c. ⊎-elim (λ a. let q = T-eqb w 68 a in (omega arith, omega arith)) (λ c. absurd c) (or-cases (eqb w 68) false c)) (or-cases (eqb w 67) (eqb w 68 || false) c)) (or-cases (eqb w 66) (eqb w 67 || (eqb w 68 || false)) c)) (or-cases (eqb w 65) (eqb w 66 || (eqb w 67 || (eqb w 68 || false))) c)
+  known-where w h = ⊎-elim (λ a. let r = upto-out 81 (λ i. i) w a in inl (omega (arith, r .1, r .2))) (λ a. inr (keep-out (known s) (mintedOf s) w a)) (mem-cases w (upto 81 (λ i. i)) (keep (known s) (mintedOf s)) h)
 
-  pub apart-minted : s .one .core .contents .minted ≤ 256 → Apart (mintedOf s)
-  apart-minted l1 = apart-app (upto (s .one .core .contents .minted) (mintOf 1)) (upto (s .two .core .contents .minted) (mintOf 2))
-      (apart-upto (s .one .core .contents .minted) (mintOf 1) (λ i j e. omega arith)) (apart-upto (s .two .core .contents .minted) (mintOf 2) (λ i j e. omega arith))
-      (λ x p q. let r = upto-out (s .one .core .contents .minted) (mintOf 1) x p in let t = upto-out (s .two .core .contents .minted) (mintOf 2) x q in omega (arith, r .1, r .2, t .2))
+  pub apart-minted : ((n : ℕ) → side s n .core .contents .minted ≤ 256) → Apart (mintedOf s)
+  apart-minted few = apart-by (λ n. upto (side s n .core .contents .minted) (mintOf n)) allSides (false≢true, (false≢true, tt)) (λ n. apart-upto (side s n .core .contents .minted) (mintOf n) (λ i j e. omega arith))
+      (λ n m x p q u v. let r = upto-out (side s n .core .contents .minted) (mintOf n) x u in let t = upto-out (side s m .core .contents .minted) (mintOf m) x v in omega (arith, few n, few m, r .1, r .2, t .1, t .2))
 
   -- the new names are different, and not known outside
-  pub good : s .one .core .contents .minted ≤ 256 → Good (newOf b s) (knownOf s)
+  pub good : ((n : ℕ) → side s n .core .contents .minted ≤ 256) → Good (newOf b s) (knownOf s)
   unfolding newOf
-  good l1 = good-of (newOf b s) (knownOf s)
-      (apart-app (ownNames (isPipeline b)) (keep (λ x. not (known s x)) (mintedOf s)) (own-apart (isPipeline b)) (apart-keep (λ x. not (known s x)) (mintedOf s) (apart-minted l1))
-      (λ x p q. let h = minted-high x (keep-out (λ x. not (known s x)) (mintedOf s) x q .0) in ⊎-elim (λ e. omega arith) (λ e. omega arith) (own-low x p)))
+  good few = good-of (newOf b s) (knownOf s)
+      (apart-app (map ownName (wrapperOf b .sides)) (keep (λ x. not (known s x)) (mintedOf s)) (apart-map ownName (wrapperOf b .sides) (sides-distinct (b .wrapper)) (λ n m e. omega arith)) (apart-keep (λ x. not (known s x)) (mintedOf s) (apart-minted few))
+      (λ x p q. let h = minted-high x (keep-out (λ x. not (known s x)) (mintedOf s) x q .0) in omega (arith, own-low x p .1)))
       (λ x p q. ⊎-elim
-      (λ a. ⊎-elim (λ e. ⊎-elim (λ k. omega arith) (λ k. ⊎-elim (λ m. omega (arith, m .0, m .1)) (λ m. let h = minted-high x (m .0) in omega arith) k) (known-where x q))
-      (λ e. ⊎-elim (λ k. omega arith) (λ k. ⊎-elim (λ m. omega (arith, m .0, m .1)) (λ m. let h = minted-high x (m .0) in omega arith) k) (known-where x q)) (own-low x a))
+      (λ a. ⊎-elim (λ k. omega (arith, own-low x a .0)) (λ m. let h = minted-high x (m .0) in omega (arith, own-low x a .1)) (known-where x q))
       (λ a. let r = keep-out (λ x. not (known s x)) (mintedOf s) x a in let h = minted-high x (r .0) in
-      ⊎-elim (λ k. omega arith) (λ k. ⊎-elim (λ m. omega (arith, m .0, m .1)) (λ m. false≢true (ap not (sym (m .1)) ∙ r .1)) k) (known-where x q))
-      (mem-cases x (ownNames (isPipeline b)) (keep (λ x. not (known s x)) (mintedOf s)) p))
-    where
-      own-apart : (t : Bool) → Apart (ownNames t)
-      own-apart true = ((λ e. e), ((λ e. e), tt))
-      own-apart false = ((λ e. e), tt)
+      ⊎-elim (λ k. omega arith) (λ m. false≢true (ap not (sym (m .1)) ∙ r .1)) (known-where x q))
+      (mem-cases x (map ownName (wrapperOf b .sides)) (keep (λ x. not (known s x)) (mintedOf s)) p))
+
+-- by computation
+pub names-distinct : NamesDistinct
+unfolding NamesDistinct _&_ _or_
+names-distinct = (refl, refl)

@@ -11,27 +11,28 @@ use lib.Dec.{leb, ltb, eqb, T}
 use lib.ListN.{length, getElem?}
 use Rattle.calculus.specs.Syntax.{Val, Vars, plain, comp, Proc, theName, match, ren}
 use Rattle.calculus.specs.Congruence.{_≋_}
-use Rattle.calculus.specs.Transitions.{tau, two, InstOk}
+use Rattle.calculus.specs.Transitions.{tau, joint, InstOk}
 use Rattle.calculus.specs.Tree.{fill}
 use Rattle.calculus.specs.Tree.{Item}
 use Rattle.calculus.specs.Tree.{process}
 use Rattle.calculus.specs.Named.{proc, shape, withPat}
 use Rattle.calculus.proofs.Definedness.{Sound as CSound}
-use Rattle.model.specs.Basics.{_&_, Res, refuse, done, bind, need, choose, every, remove}
+use Rattle.model.specs.Basics.{_&_, Res, refuse, done, bind, need, choose, every, remove, has}
 use Rattle.model.specs.Values.{Fit, matches, binders, extend, word, Env}
 use Rattle.model.specs.Table.{Table, inp, term}
-use Rattle.model.specs.Side.{Particle, output, input, Contents, Core, State, limits, Tag as STag, within, toParent, fromParent, toChild, fromChild}
+use Rattle.model.specs.Wrapper.{allSides}
+use Rattle.model.specs.Side.{Particle, output, input, Contents, Core, State, limits, side as sideIn, Tag as STag, within, toParent, fromParent, toChild, fromChild}
 use Rattle.model.specs.Unfolding.{defined, unfolds, tagOf, particlesIn, boxesIn, newNamesIn}
-use Rattle.model.specs.Load.{Composition}
-use Rattle.model.specs.WellFormed.{counts, wfParticle, wfValue, envAt, ready}
+use Rattle.model.specs.Load.{Composition, wrapperOf, table}
+use Rattle.model.specs.WellFormed.{counts, wfParticle, wfValue, envAt, shelfOf, ready}
 use Rattle.model.specs.Step.{short, Step, Moved, silent, labelled, refusal, Result, settled, local, inner, meet, meetParticles, meetTerm, tagsFit, without, withContents, withParticles, step, known}
 use Rattle.model.specs.Process.{Mark, part, siteOf, valOf, patOf, codeOf, envOf, tagOut, confOf, newOf, knownOf}
-use Rattle.model.specs.Agreement.{long, plainly, Says, says-tau, Met, Over, meet-full, Excused, by-16, by-17, answerSide, stays, partsOf, tableOf}
+use Rattle.model.specs.Agreement.{long, plainly, Says, says-tau, Met, Over, meet-full, Excused, by-16, by-17, answerSide, stays, partsOf}
 use Rattle.calculus.proofs.Trees.{Reach}
 use Rattle.calculus.proofs.NamedProcesses.{inst-defined}
 use Rattle.calculus.proofs.Restriction.{RestrictInv}
 use Rattle.calculus.proofs.Bags.{item, at, Bag, ritems}
-use Rattle.model.proofs.Tests.{fst, snd, both, some-inj, length-gone}
+use Rattle.model.proofs.Tests.{fst, snd, both, some-inj, length-gone, one-fails}
 use Rattle.model.proofs.Counts.{Added, unfolds-adds}
 use Rattle.model.proofs.MeetingKeeps.{every-without}
 use Rattle.model.proofs.Invariant.{settled-is, core-short}
@@ -82,17 +83,11 @@ length-without false l i j p q n = go (ltb i j) refl
 abbrev pub meet-step : (side i j : ℕ) → Step
 meet-step side i j = record { kind = 5; side = side; i = i; j = j; words = [] }
 
--- one of two tests fails
-one-fails : (a b : Bool) → a & b ≡ false → (a ≡ false) ⊎ (b ≡ false)
-unfolding _&_
-one-fails true b e = inr e
-one-fails false b e = inl refl
-
 is-T : (b : Bool) → b ≡ true → T b
 is-T b e = subst T (sym e) tt
 
 module _ (b : Composition) (s : State) (e : ready b s ≡ true) (vw : View b s) (ori : Orient b s vw)
-    (own : ((vw .c .side ≡ 1) × (vw .core .contents .minted ≡ s .one .core .contents .minted)) ⊎ ((vw .c .side ≡ 2) × (vw .core .contents .minted ≡ s .two .core .contents .minted)))
+    (own : (has (vw .c .side) allSides ≡ true) × (vw .core .contents .minted ≡ sideIn s (vw .c .side) .core .contents .minted))
     (reach : (p : ℕ) → p < length (vw .core .contents .boxes) → Reach (confOf b s .boxes) (siteOf (vw .c .side) p)) (ac : Answers b s vw) where
   abbrev side : ℕ
   side = vw .c .side
@@ -165,7 +160,7 @@ module _ (b : Composition) (s : State) (e : ready b s ≡ true) (vw : View b s) 
         after-match : Fit → Res Moved
         after-match f = need (defined (node .body) (extend ρ (binders (node .pat)) (f .bound))) 15 (done (record { label = silent; val = []; core = withContents (vw .core) (unfolds (vw .c .side) (node .body) (extend ρ (binders (node .pat)) (f .bound)) β (withParticles (vw .core .contents) p0)) }))
 
-    meets-so : local (vw .c) (known s) (vw .core) (meet-step (vw .c .side) i j) ≡ done m
+    meets-so : local (vw .c) (known s) (shelfOf s) (vw .core) (meet-step (vw .c .side) i j) ≡ done m
     unfolding local inner choose need meet meetParticles
     meets-so = get-pick parts i _ (output β ch g v) gp ∙ get-pick parts j _ (input β n vs) gq ∙ ap (meetTerm (vw .c) (vw .core) i j β ch g v β ρ) (node .is) ∙ at-term
 
@@ -176,7 +171,7 @@ module _ (b : Composition) (s : State) (e : ready b s ≡ true) (vw : View b s) 
     gq' : getElem? (partsOf s (vw .c .side)) j ≡ some (input β n vs)
     gq' = subst (λ (c : Core). getElem? (c .contents .particles) j ≡ some (input β n vs)) (sym (ac .core-is)) gq
 
-    node' : term (tableOf b (vw .c .side)) n ≡ inp n (node .again) (node .chan) (node .tag) (node .pat) (node .body)
+    node' : term (table b (vw .c .side)) n ≡ inp n (node .again) (node .chan) (node .tag) (node .pat) (node .body)
     node' = ap (λ (t : Table). term t n) (ac .table-is) ∙ node .is
 
     -- 16 has its cause
@@ -184,7 +179,7 @@ module _ (b : Composition) (s : State) (e : ready b s ≡ true) (vw : View b s) 
     too-long q = go (long (codeOf (node .body)) (withPat (patOf (node .pat)) σ (envOf ρ))) refl
       where
         go : (c : Bool) → long (codeOf (node .body)) (withPat (patOf (node .pat)) σ (envOf ρ)) ≡ c → Excused b s (meet-step (vw .c .side) i j) tau 16
-        go true r = by-16 gp' gq' node' fits (is-T (long (codeOf (node .body)) (withPat (patOf (node .pat)) σ (envOf (envAt (tableOf b (vw .c .side)) n vs)))) (ap (λ (t : Table). long (codeOf (node .body)) (withPat (patOf (node .pat)) σ (envOf (envAt t n vs)))) (ac .table-is) ∙ r))
+        go true r = by-16 refl gp' gq' node' fits (is-T (long (codeOf (node .body)) (withPat (patOf (node .pat)) σ (envOf (envAt (table b (vw .c .side)) n vs)))) (ap (λ (t : Table). long (codeOf (node .body)) (withPat (patOf (node .pat)) σ (envOf (envAt t n vs)))) (ac .table-is) ∙ r))
         go false r = absurd (false≢true (sym q ∙ short-unless-long (node .sits-body) ρ' (withPat (patOf (node .pat)) σ (envOf ρ)) sized-after (subst (Lengths ρ') env-after (env-lengths (counts s) ρ' vals-after)) (vw .c .side) β (withParticles (vw .core .contents) p0)
             (every-without short (node .again) parts i j (core-short (vw .c) (counts s) (vw .core) (vw .ok))) r))
 
@@ -211,26 +206,26 @@ module _ (b : Composition) (s : State) (e : ready b s ≡ true) (vw : View b s) 
         inside : (33 + 2 ≤ length parts + stays (node .again) + particlesIn (node .body)) ⊎ ((17 ≤ length (vw .core .contents .boxes) + boxesIn (node .body)) ⊎ (257 ≤ vw .core .contents .minted + newNamesIn (node .body))) → Over b s (meet-step (vw .c .side) i j)
         inside h = meet-full refl gq' node' (subst (λ (c : Core). (33 + 2 ≤ length (c .contents .particles) + stays (node .again) + particlesIn (node .body)) ⊎ ((17 ≤ length (c .contents .boxes) + boxesIn (node .body)) ⊎ (257 ≤ c .contents .minted + newNamesIn (node .body)))) (sym (ac .core-is)) h)
 
-    module _ (R : Proc Mark []) (vv : RestrictInv (newOf b s) (knownOf s) (fill (confOf b s .boxes) (at (confOf b s .items))) R tau (two (part (vw .c .side) i) (part (vw .c .side) j)))
+    module _ (R : Proc Mark []) (vv : RestrictInv (newOf b s) (knownOf s) (fill (confOf b s .boxes) (at (confOf b s .items))) R tau (joint (part (vw .c .side) i) (part (vw .c .side) j)))
         (J : List (Item Mark)) (nx : fill (confOf b s .boxes) (at J) ≋ vv .next)
-        (bag : Bag (ritems forget J) (item (siteOf (vw .c .side) β) (proc [] tt (codeOf (node .body)) (envOf ρ')) ∷ target (b .wrapper) (vw .c .side) (vw .c .table) (vw .C) (vw .D) (vw .core) (vw .core .lobby) p0)) where
+        (bag : Bag (ritems forget J) (item (siteOf (vw .c .side) β) (proc [] tt (codeOf (node .body)) (envOf ρ')) ∷ target (wrapperOf b) (vw .c .side) (vw .c .table) (vw .C) (vw .D) (vw .core) (vw .core .lobby) p0)) where
       met-here : every short (u .particles) ≡ true → limits k ≡ true → Met b s tau R (meet-step (vw .c .side) i j)
       unfolding limits
       met-here sh li = record {
         names = rename-of vv;
-        label = subst (λ (r : Result). Says (b .wrapper) (r .answer) tau) (sym there) says-tau;
+        label = subst (λ (r : Result). Says (wrapperOf b) (r .answer) tau) (sym there) says-tau;
         side = ap (λ (r : Result). answerSide (r .answer)) there;
         target = subst (λ (t : State). plainly (ren {r = []} R (vv .perm .to)) ≋ plainly (process (confOf b t))) (sym (ap (λ (r : Result). r .after) there))
-            (silent-leads b s e vv J nx (item (siteOf (vw .c .side) β) (proc [] tt (codeOf (node .body)) (envOf ρ')) ∷ target (b .wrapper) (vw .c .side) (vw .c .table) (vw .C) (vw .D) (vw .core) (vw .core .lobby) p0) bag (vw .next k (vw .left))
+            (silent-leads b s e vv J nx (item (siteOf (vw .c .side) β) (proc [] tt (codeOf (node .body)) (envOf ρ')) ∷ target (wrapperOf b) (vw .c .side) (vw .c .table) (vw .C) (vw .D) (vw .core) (vw .core .lobby) p0) bag (vw .next k (vw .left))
             (grown-cong b s e vw ori own [] tt (λ k. refl) (node .sits-body) ρ' refl sized-after vals-after ft β (lb b s e vw ori own reach i j β ch g v n vs gp gq node wp wq) p0
             (every-without (wfParticle Tb (counts s) (length (vw .core .contents .boxes))) (node .again) parts i j (vw .ok .contents .particles)) (leb-true (u .minted) 256 (snd _ _ (snd _ _ (fst _ _ li))))));
       }
         where
           there : step b s (meet-step (vw .c .side) i j) ≡ record { answer = labelled silent (vw .c .side) []; after = vw .next k (vw .left) }
-          there = ac .is-done (meet-step (vw .c .side) i j) m refl (λ z. omega arith) (settled-is _ m (record { is = meets-so; short-outputs = sh; few = li }))
+          there = ac .is-done (meet-step (vw .c .side) i j) m refl (settled-is _ m (record { is = meets-so; short-outputs = sh; few = li }))
 
       refused : (c : ℕ) → settled (done m) ≡ refuse c → step b s (meet-step (vw .c .side) i j) .answer ≡ refusal c (vw .c .side)
-      refused c q = ac .is-refused (meet-step (vw .c .side) i j) c refl (λ z. omega arith) (ap settled meets-so ∙ q)
+      refused c q = ac .is-refused (meet-step (vw .c .side) i j) c refl (ap settled meets-so ∙ q)
 
       -- the answer, by the two tests
       pub answered : Met b s tau R (meet-step (vw .c .side) i j) ⊎ ((c : ℕ) × (step b s (meet-step (vw .c .side) i j) .answer ≡ refusal c (vw .c .side)) × Excused b s (meet-step (vw .c .side) i j) tau c)

@@ -2,7 +2,6 @@
 use mathlib.Core.Path.{_≡_, refl, sym, ap, _∙_, subst, subst₂, transport}
 use mathlib.Core.Bool.{Bool, true, false}
 use mathlib.Core.List.{List, [], _∷_}
-use mathlib.Core.Logic.{_⊎_}
 use mathlib.Core.Option.{some}
 use Prim.Native.Nat.{ℕ, _<_, _≤_}
 use native.Mathlib.Omega.{arith}
@@ -11,17 +10,18 @@ use lib.ListN.{length, length-append, getElem?}
 use Rattle.calculus.specs.Syntax.{Pat}
 use Rattle.calculus.specs.Syntax.{Val, Proc, AllN, remark, Tag, plain, comp, ITag, iren, theName, Vars}
 use Rattle.calculus.specs.Syntax.{out as pout, inp as pinp, nil as pnil}
-use Rattle.calculus.specs.Transitions.{In, Fn⊆, tau, send, recv, one, two, names, Out, inst, InstOk, beyond}
+use Rattle.calculus.specs.Transitions.{In, Fn⊆, tau, send, recv, lone, joint, names, Out, inst, InstOk, beyond}
 use Rattle.calculus.specs.Transitions.{Step as Trans}
 use Rattle.calculus.specs.Tree.{Item}
 use Rattle.calculus.specs.Named.{proc, shape, underPat, withPat}
 use Rattle.calculus.proofs.Definedness.{Sound as CSound}
-use Rattle.model.specs.Basics.{_&_, done, every}
+use Rattle.model.specs.Basics.{_&_, done, every, has}
 use Rattle.model.specs.Values.{items, isName, Fit, matches, binders, extend, word, Env, isNameIn, isValue}
 use Rattle.model.specs.Table.{Table, Term, inp, term, scope}
-use Rattle.model.specs.Side.{Particle, output, input, State, limits, Tag as STag}
+use Rattle.model.specs.Side.{Particle, output, input, State, limits, side as sideIn, Tag as STag}
 use Rattle.model.specs.Unfolding.{defined, unfolds, tagOf, tagDefined, anyNames}
-use Rattle.model.specs.Load.{Composition}
+use Rattle.model.specs.Wrapper.{allSides}
+use Rattle.model.specs.Load.{Composition, wrapperOf}
 use Rattle.model.specs.WellFormed.{counts, wfParticle, wfValue, heldWord, envAt, ready}
 use Rattle.model.specs.Step.{Moved, silent, meet, meetParticles, meetTerm, tagsFit, without, withContents, withParticles}
 use Rattle.model.specs.Process.{Mark, part, siteOf, valOf, patOf, codeOf, envOf, itagOf, tagOut, modeOf, partItem, confOf}
@@ -57,7 +57,7 @@ after-is true t x ι p B σ = refl
 after-is false t x ι p B σ = refl
 
 module _ (b : Composition) (s : State) (e : ready b s ≡ true) (vw : View b s) (ori : Orient b s vw)
-    (own : ((vw .c .side ≡ 1) × (vw .core .contents .minted ≡ s .one .core .contents .minted)) ⊎ ((vw .c .side ≡ 2) × (vw .core .contents .minted ≡ s .two .core .contents .minted)))
+    (own : (has (vw .c .side) allSides ≡ true) × (vw .core .contents .minted ≡ sideIn s (vw .c .side) .core .contents .minted))
     (reach : (p : ℕ) → p < length (vw .core .contents .boxes) → Reach (confOf b s .boxes) (siteOf (vw .c .side) p)) where
   abbrev side : ℕ
   side = vw .c .side
@@ -175,30 +175,30 @@ module _ (b : Composition) (s : State) (e : ready b s ≡ true) (vw : View b s) 
         tag-is : tagOut g ≡ comp (plain ι)
         tag-is = fit-comp g (tagOf (envAt Tb n vs) (node .tag)) tf ∙ ap comp (sym (tag-words (counts s) (envAt Tb n vs) vals (node .tag) (node .tag-ok) (fst _ _ (snd _ _ fits-inp))))
 
-        dP : Trans A (pout (part side i) ch (tagOut g) (valOf v)) (send ch (comp (plain ι)) (valOf v)) (one (part side i)) pnil
-        dP = subst (λ (o : Tag ℕ). Trans A (pout (part side i) ch (tagOut g) (valOf v)) (send ch o (valOf v)) (one (part side i)) pnil) tag-is (Out fP)
+        dP : Trans A (pout (part side i) ch (tagOut g) (valOf v)) (send ch (comp (plain ι)) (valOf v)) (lone (part side i)) pnil
+        dP = subst (λ (o : Tag ℕ). Trans A (pout (part side i) ch (tagOut g) (valOf v)) (send ch o (valOf v)) (lone (part side i)) pnil) tag-is (Out fP)
 
-        dQ : Trans A Q (recv ch (plain ι) (valOf v)) (two (part side i) (part side j)) (leaves (node .again) Q (inst B0 (bd .σ)))
-        dQ = subst (λ (R : Proc Mark []). Trans A Q (recv ch (plain ι) (valOf v)) (two (part side i) (part side j)) R) (after-is (node .again) (part side j) ch ι (shape (patOf (node .pat))) B0 (bd .σ)) (recv-of (modeOf (node .again)) fQ (bd .is) inst-ok)
+        dQ : Trans A Q (recv ch (plain ι) (valOf v)) (joint (part side i) (part side j)) (leaves (node .again) Q (inst B0 (bd .σ)))
+        dQ = subst (λ (R : Proc Mark []). Trans A Q (recv ch (plain ι) (valOf v)) (joint (part side i) (part side j)) R) (after-is (node .again) (part side j) ch ι (shape (patOf (node .pat))) B0 (bd .σ)) (recv-of (modeOf (node .again)) fQ (bd .is) inst-ok)
 
         beyond-none : beyond A (ch ∷ names (valOf v)) ≡ []
         unfolding AllN
         beyond-none = out-beyond A ch (valOf v) (fP .0) (fP .2)
 
-        moved : Moves A (confOf b s .boxes) (whole (b .wrapper) side Tb (vw .C) (vw .D) (vw .core)) tau (two (part side i) (part side j)) (item (siteOf side β) (remark forget (inst B0 (bd .σ))) ∷ target (b .wrapper) side Tb (vw .C) (vw .D) (vw .core) (vw .core .lobby) (without (node .again) (vw .core .contents .particles) i j))
-        moved = go-meet (b .wrapper) side Tb (vw .C) (vw .D) (vw .core) A (confOf b s .boxes) (wf-all b s e) (each-now b s e vw) (node .again) (siteOf side β) (pout (part side i) ch (tagOut g) (valOf v)) Q (inst B0 (bd .σ)) (reach β lb) (plain ι) beyond-none dP dQ
+        moved : Moves A (confOf b s .boxes) (whole (wrapperOf b) side Tb (vw .C) (vw .D) (vw .core)) tau (joint (part side i) (part side j)) (item (siteOf side β) (remark forget (inst B0 (bd .σ))) ∷ target (wrapperOf b) side Tb (vw .C) (vw .D) (vw .core) (vw .core .lobby) (without (node .again) (vw .core .contents .particles) i j))
+        moved = go-meet (wrapperOf b) side Tb (vw .C) (vw .D) (vw .core) A (confOf b s .boxes) (wf-all b s e) (each-now b s e vw) (node .again) (siteOf side β) (pout (part side i) ch (tagOut g) (valOf v)) Q (inst B0 (bd .σ)) (reach β lb) (plain ι) beyond-none dP dQ
             (output β ch g v) (input β n vs) i j refl Q-is gp gq (differ i j β ch g v β n vs gp gq)
 
-        moves-here : Moves A (confOf b s .boxes) (confOf b s .items) tau (two (part side i) (part side j)) (item (siteOf side β) (proc [] tt (codeOf (node .body)) (envOf ρ')) ∷ target (b .wrapper) side Tb (vw .C) (vw .D) (vw .core) (vw .core .lobby) (without (node .again) (vw .core .contents .particles) i j))
-        moves-here = subst₂ (λ (I : List (Item Mark)) (P : Proc (Unit {0}) []). Moves A (confOf b s .boxes) I tau (two (part side i) (part side j)) (item (siteOf side β) P ∷ target (b .wrapper) side Tb (vw .C) (vw .D) (vw .core) (vw .core .lobby) (without (node .again) (vw .core .contents .particles) i j)))
+        moves-here : Moves A (confOf b s .boxes) (confOf b s .items) tau (joint (part side i) (part side j)) (item (siteOf side β) (proc [] tt (codeOf (node .body)) (envOf ρ')) ∷ target (wrapperOf b) side Tb (vw .C) (vw .D) (vw .core) (vw .core .lobby) (without (node .again) (vw .core .contents .particles) i j))
+        moves-here = subst₂ (λ (I : List (Item Mark)) (P : Proc (Unit {0}) []). Moves A (confOf b s .boxes) I tau (joint (part side i) (part side j)) (item (siteOf side β) P ∷ target (wrapperOf b) side Tb (vw .C) (vw .D) (vw .core) (vw .core .lobby) (without (node .again) (vw .core .contents .particles) i j)))
             (sym (vw .items-now)) (ap (remark forget) body-is ∙ remark-proc forget [] (part side j) (codeOf (node .body)) (envOf ρ')) moved
 
         pub met : unfolds side (node .body) ρ' β (withParticles (vw .core .contents) (without (node .again) (vw .core .contents .particles) i j)) .minted ≤ 256
-            → Goes b s (vw .next (withContents (vw .core) (unfolds side (node .body) ρ' β (withParticles (vw .core .contents) (without (node .again) (vw .core .contents .particles) i j)))) (vw .left)) tau (two (part side i) (part side j))
+            → Goes b s (vw .next (withContents (vw .core) (unfolds side (node .body) ρ' β (withParticles (vw .core .contents) (without (node .again) (vw .core .contents .particles) i j)))) (vw .left)) tau (joint (part side i) (part side j))
         met few = grown-goes b s e vw ori own (node .sits-body) ρ' refl sized' vals' ft β lb (without (node .again) (vw .core .contents .particles) i j)
             (every-without (wfParticle Tb (counts s) nb) (node .again) (vw .core .contents .particles) i j (vw .ok .contents .particles)) few moves-here
 
-  pub meeting : (i j : ℕ) (m : Moved) → meet (vw .c) (vw .core) i j ≡ done m → limits (m .core) ≡ true → (m .label ≡ silent) × Goes b s (after b s e vw m) tau (two (part side i) (part side j))
+  pub meeting : (i j : ℕ) (m : Moved) → meet (vw .c) (vw .core) i j ≡ done m → limits (m .core) ≡ true → (m .label ≡ silent) × Goes b s (after b s e vw m) tau (joint (part side i) (part side j))
   unfolding meet meetParticles meetTerm
   meeting i j m h lim =
       let (p, gp, h1) = pick-get (vw .core .contents .particles) i _ m h in
@@ -206,14 +206,14 @@ module _ (b : Composition) (s : State) (e : ready b s ≡ true) (vw : View b s) 
       go p q gp gq (get-every (wfParticle Tb (counts s) nb) (vw .core .contents .particles) i p (vw .ok .contents .particles) gp) (get-every (wfParticle Tb (counts s) nb) (vw .core .contents .particles) j q (vw .ok .contents .particles) gq) h2
     where
       go : (p q : Particle) → getElem? (vw .core .contents .particles) i ≡ some p → getElem? (vw .core .contents .particles) j ≡ some q → wfParticle Tb (counts s) nb p ≡ true → wfParticle Tb (counts s) nb q ≡ true → meetParticles (vw .c) (vw .core) i j p q ≡ done m
-          → (m .label ≡ silent) × Goes b s (after b s e vw m) tau (two (part side i) (part side j))
+          → (m .label ≡ silent) × Goes b s (after b s e vw m) tau (joint (part side i) (part side j))
       go (output β ch g v) (output γ ch' g' v') gp gq wp wq h = absurd (clash h)
       go (input β n vs) q gp gq wp wq h = absurd (clash h)
       go (output β ch g v) (input γ n vs) gp gq wp wq h =
           let node = input-node ids A (counts s) (held-in b s) zero-in Tb (vw .checked) nb side γ n vs wq in
           at-node node (subst (λ (a : Term). meetTerm (vw .c) (vw .core) i j β ch g v γ (envAt Tb n vs) a ≡ done m) (node .is) h)
         where
-          at-node : (node : InputAt Tb n) → meetTerm (vw .c) (vw .core) i j β ch g v γ (envAt Tb n vs) (inp n (node .again) (node .chan) (node .tag) (node .pat) (node .body)) ≡ done m → (m .label ≡ silent) × Goes b s (after b s e vw m) tau (two (part side i) (part side j))
+          at-node : (node : InputAt Tb n) → meetTerm (vw .c) (vw .core) i j β ch g v γ (envAt Tb n vs) (inp n (node .again) (node .chan) (node .tag) (node .pat) (node .body)) ≡ done m → (m .label ≡ silent) × Goes b s (after b s e vw m) tau (joint (part side i) (part side j))
           at-node node h =
               let x = need-done _ _ _ _ h in
               let y = bind-done _ _ _ (x .1) in
@@ -221,5 +221,5 @@ module _ (b : Composition) (s : State) (e : ready b s ≡ true) (vw : View b s) 
               let same : γ ≡ β = sym (eqb-true β γ (fst _ _ (x .0))) in
               let gq' = subst (λ (k : ℕ). getElem? (vw .core .contents .particles) j ≡ some (input k n vs)) same gq in
               let wq' = subst (λ (k : ℕ). wfParticle Tb (counts s) nb (input k n vs) ≡ true) same wq in
-              subst (λ (k : Moved). (k .label ≡ silent) × Goes b s (after b s e vw k) tau (two (part side i) (part side j))) (done-inj (z .1))
+              subst (λ (k : Moved). (k .label ≡ silent) × Goes b s (after b s e vw k) tau (joint (part side i) (part side j))) (done-inj (z .1))
               (refl, met i j β ch g v n vs gp gq' node wp wq' (y .0) (y .1) (z .0) (eqb-true ch (word (envAt Tb n vs) (node .chan)) (fst _ _ (snd _ _ (x .0)))) (snd _ _ (snd _ _ (x .0))) (leb-true _ 256 (snd _ _ (snd _ _ (roomy-of _ (at-limits (z .1) lim))))))

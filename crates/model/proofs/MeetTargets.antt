@@ -2,28 +2,29 @@
 use mathlib.Core.Path.{_≡_, refl, sym, ap, ap₂, _∙_, subst, subst₂, transport}
 use mathlib.Core.Bool.{Bool, true, false, cond, false≢true}
 use mathlib.Core.List.{List, [], _∷_, _++_, map, append-assoc}
-use mathlib.Core.Logic.{_⊎_, ⊎-elim}
-use Prim.Native.Nat.{ℕ, _<_, _≤_}
+use mathlib.Core.Logic.{⊎-elim}
+use Prim.Native.Nat.{ℕ, zero, suc, _<_, _≤_}
 use native.Mathlib.Omega.{arith}
 use borrow.Author.Tests.{leb-true, ltb-true, eqb-true, ne-eqb}
 use lib.Dec.{eqb}
-use lib.ListN.{length}
+use lib.ListN.{length, getD, length-map}
 use Rattle.calculus.specs.Syntax.{Proc, remark, comp, receivedChild}
 use Rattle.calculus.specs.Congruence.{_≋_, rfl, symm, trans}
-use Rattle.calculus.specs.Transitions.{In, restrict, tau, Participants, one, two, names}
+use Rattle.calculus.specs.Transitions.{In, restrict, tau, Participants, names}
 use Rattle.calculus.specs.Transitions.{Step as Trans}
 use Rattle.calculus.specs.Tree.{fill}
 use Rattle.calculus.specs.Tree.{Item, select, Conf}
 use Rattle.calculus.proofs.Unfolding.{unfold′}
 use Rattle.calculus.specs.Tree.{process}
 use Rattle.calculus.specs.Named.{proc}
-use Rattle.model.specs.Basics.{every}
+use Rattle.model.specs.Basics.{every, has}
 use Rattle.model.specs.Values.{items, Env}
 use Rattle.model.specs.Table.{Table, Term}
-use Rattle.model.specs.Side.{Particle, output, input, Message, Contents, Core, State, Tag as STag, within, toParent, fromParent, toChild, fromChild}
+use Rattle.model.specs.Side.{Particle, output, input, Message, Contents, Core, State, side as sideIn, Tag as STag, within, toParent, fromParent, toChild, fromChild}
 use Rattle.model.specs.Unfolding.{defined, unfolds}
-use Rattle.model.specs.Load.{Composition}
-use Rattle.model.specs.WellFormed.{Counts, counts, wfParticle, wfValue, ready}
+use Rattle.model.specs.Wrapper.{allSides}
+use Rattle.model.specs.Load.{Composition, wrapperOf}
+use Rattle.model.specs.WellFormed.{Counts, countOf, counts, wfParticle, wfValue, ready}
 use Rattle.model.specs.Step.{tagsFit, withContents, withParticles}
 use Rattle.model.specs.Process.{Mark, siteOf, codeOf, envOf, tagOut, placesOf, confAs, confOf, newOf, knownOf}
 use Rattle.model.specs.Agreement.{plainly}
@@ -31,19 +32,20 @@ use Rattle.calculus.proofs.Marks.{remark-news, remark-all}
 use Rattle.calculus.proofs.Restriction.{under-news}
 use Rattle.calculus.proofs.Extrusion.{in-news}
 use Rattle.calculus.proofs.Bags.{item, at, Bag, bag-refl, bag-eq, bag-trans, bag-sym, bag-cons, bag-comm, bag-app, bag-fill, select-app, ritems, rplaces, remark-bag}
-use Rattle.model.proofs.Tests.{fst, snd, every-mono}
+use Rattle.model.proofs.Tests.{fst, snd, every-mono, or-cases as bool-cases}
 use Rattle.model.proofs.Growing.{Le, wfVal-mono}
 use Rattle.model.proofs.Environments.{Sized}
 use Rattle.model.proofs.Checked.{Sits}
+use Rattle.model.proofs.Invariant.{positive, size, count-is}
 use Rattle.model.proofs.MeetingKeeps.{mine, fresh-held}
 use Rattle.model.proofs.KnownNames.{All, held-in, low-in}
 use Rattle.model.proofs.HandlerTerms.{fits-sound}
 use Rattle.model.proofs.ItemFacts.{Each, each-app, part-in, env-in, env-names}
-use Rattle.model.proofs.StateTree.{few-one}
+use Rattle.model.proofs.StateTree.{few as all-few}
 use Rattle.model.proofs.ItemMoves.{forget, plainM, plainP, Moves, whole, target, whole°}
 use Rattle.model.proofs.StateMoves.{Goes, fn-all, good-all, no-names}
 use Rattle.model.proofs.SideViews.{View}
-use Rattle.model.proofs.SideSteps.{few-two, each-now}
+use Rattle.model.proofs.SideSteps.{each-now}
 use Rattle.model.proofs.UnfoldedTerms.{confS, unfolded}
 use Rattle.model.proofs.BoxOrder.{Orient, Away}
 use Rattle.model.proofs.UnfoldingGrows.{mt, mt-is, not-next, body-unfolds}
@@ -83,18 +85,19 @@ away-plain : (side : ℕ) (X : List (Item Mark)) → Away side X → (k : ℕ) �
 away-plain side [] h k = refl
 away-plain side (i ∷ X) h k = ap (λ (c : Bool). cond c (remark forget (i .what) ∷ select (ritems forget X) (siteOf side k)) (select (ritems forget X) (siteOf side k))) (h .0 k) ∙ away-plain side X (h .1) k
 
-process-is : (b : Composition) (t : State) → process (confOf b t) ≡ restrict (newOf b t) (fill (confOf b t .boxes) (at (confOf b t .items)))
-unfolding process confAs
-process-is b t = refl
-
 pub plain-items : (b : Composition) (t : State) (I : List (Item Mark)) → plainly (restrict (newOf b t) (fill (confOf b t .boxes) (at I))) ≡ restrict (newOf b t) (fill (rplaces forget (confOf b t .boxes)) (at (ritems forget I)))
 plain-items b t I = remark-news forget (newOf b t) (fill (confOf b t .boxes) (at I)) ∙ ap (restrict (newOf b t)) (remark-bag forget (confOf b t .boxes) I)
+
+-- the process of a state, by its names, boxes and items
+pub process-is : (b : Composition) (t : State) → process (confOf b t) ≡ restrict (newOf b t) (fill (confOf b t .boxes) (at (confOf b t .items)))
+unfolding process confAs
+process-is b t = refl
 
 pub plain-process : (b : Composition) (t : State) → plainly (process (confOf b t)) ≡ restrict (newOf b t) (fill (rplaces forget (confOf b t .boxes)) (at (ritems forget (confOf b t .items))))
 plain-process b t = ap plainly (process-is b t) ∙ plain-items b t (confOf b t .items)
 
 module _ (b : Composition) (s : State) (e : ready b s ≡ true) (vw : View b s) (ori : Orient b s vw)
-    (own : ((vw .c .side ≡ 1) × (vw .core .contents .minted ≡ s .one .core .contents .minted)) ⊎ ((vw .c .side ≡ 2) × (vw .core .contents .minted ≡ s .two .core .contents .minted))) where
+    (own : (has (vw .c .side) allSides ≡ true) × (vw .core .contents .minted ≡ sideIn s (vw .c .side) .core .contents .minted)) where
   abbrev side : ℕ
   side = vw .c .side
 
@@ -105,29 +108,29 @@ module _ (b : Composition) (s : State) (e : ready b s ≡ true) (vw : View b s) 
   nb = length (vw .core .contents .boxes)
 
   abbrev R0 : List (Item (Unit {0}))
-  R0 = ritems forget (vw .C) ++ (map (plainM (b .wrapper) side) (vw .core .lobby) ++ ritems forget (vw .D))
+  R0 = ritems forget (vw .C) ++ (map (plainM (wrapperOf b) side) (vw .core .lobby) ++ ritems forget (vw .D))
 
   abbrev aim : List Particle → List (Item (Unit {0}))
-  aim p = target (b .wrapper) side Tb (vw .C) (vw .D) (vw .core) (vw .core .lobby) p
+  aim p = target (wrapperOf b) side Tb (vw .C) (vw .D) (vw .core) (vw .core .lobby) p
 
   bag0 : (p : List Particle) → Bag (aim p) (R0 ++ map (plainP Tb side) p)
-  bag0 p = bag-trans (bag-eq (one (ritems forget (vw .C)) (map (plainM (b .wrapper) side) (vw .core .lobby)) (map (plainP Tb side) p) (ritems forget (vw .D))))
-      (bag-trans (bag-app {X = ritems forget (vw .C) ++ map (plainM (b .wrapper) side) (vw .core .lobby)} {X' = ritems forget (vw .C) ++ map (plainM (b .wrapper) side) (vw .core .lobby)} bag-refl (bag-comm (map (plainP Tb side) p) (ritems forget (vw .D))))
-      (bag-eq (two' (ritems forget (vw .C)) (map (plainM (b .wrapper) side) (vw .core .lobby)) (map (plainP Tb side) p) (ritems forget (vw .D)))))
+  bag0 p = bag-trans (bag-eq (regroup (ritems forget (vw .C)) (map (plainM (wrapperOf b) side) (vw .core .lobby)) (map (plainP Tb side) p) (ritems forget (vw .D))))
+      (bag-trans (bag-app {X = ritems forget (vw .C) ++ map (plainM (wrapperOf b) side) (vw .core .lobby)} {X' = ritems forget (vw .C) ++ map (plainM (wrapperOf b) side) (vw .core .lobby)} bag-refl (bag-comm (map (plainP Tb side) p) (ritems forget (vw .D))))
+      (bag-eq (regroup-back (ritems forget (vw .C)) (map (plainM (wrapperOf b) side) (vw .core .lobby)) (map (plainP Tb side) p) (ritems forget (vw .D)))))
     where
-      one : (c m p d : List (Item (Unit {0}))) → c ++ ((m ++ p) ++ d) ≡ (c ++ m) ++ (p ++ d)
-      one c m p d = simp append-assoc
+      regroup : (c m p d : List (Item (Unit {0}))) → c ++ ((m ++ p) ++ d) ≡ (c ++ m) ++ (p ++ d)
+      regroup c m p d = simp append-assoc
 
-      two' : (c m p d : List (Item (Unit {0}))) → (c ++ m) ++ (d ++ p) ≡ (c ++ (m ++ d)) ++ p
-      two' c m p d = simp append-assoc
+      regroup-back : (c m p d : List (Item (Unit {0}))) → (c ++ m) ++ (d ++ p) ≡ (c ++ (m ++ d)) ++ p
+      regroup-back c m p d = simp append-assoc
 
   plain-now : Each (All b s) (aim (vw .core .contents .particles))
-  plain-now = subst (λ (L : List (Item (Unit {0}))). Each (All b s) L) (whole° (b .wrapper) side Tb (vw .C) (vw .D) (vw .core)) (each-plain (All b s) (whole (b .wrapper) side Tb (vw .C) (vw .D) (vw .core)) (each-now b s e vw))
+  plain-now = subst (λ (L : List (Item (Unit {0}))). Each (All b s) L) (whole° (wrapperOf b) side Tb (vw .C) (vw .D) (vw .core)) (each-plain (All b s) (whole (wrapperOf b) side Tb (vw .C) (vw .D) (vw .core)) (each-now b s e vw))
 
   each-rest : Each (All b s) R0
   each-rest =
       let h = plain-now in
-      let C° = ritems forget (vw .C) in let M° = map (plainM (b .wrapper) side) (vw .core .lobby) in let P° = map (plainP Tb side) (vw .core .contents .particles) in let D° = ritems forget (vw .D) in
+      let C° = ritems forget (vw .C) in let M° = map (plainM (wrapperOf b) side) (vw .core .lobby) in let P° = map (plainP Tb side) (vw .core .contents .particles) in let D° = ritems forget (vw .D) in
       let t = each-back (All b s) C° ((M° ++ P°) ++ D°) h in
       each-app (All b s) C° (M° ++ D°) (each-front (All b s) C° ((M° ++ P°) ++ D°) h) (each-app (All b s) M° D° (each-front (All b s) M° P° (each-front (All b s) (M° ++ P°) D° t)) (each-back (All b s) (M° ++ P°) D° t))
 
@@ -142,36 +145,44 @@ module _ (b : Composition) (s : State) (e : ready b s ≡ true) (vw : View b s) 
   none-parts (input a n vs ∷ p) h k l = ap (λ (c : Bool). cond c (plainP Tb side (input a n vs) .what ∷ select (map (plainP Tb side) p) (siteOf side k)) (select (map (plainP Tb side) p) (siteOf side k))) (ne-eqb (siteOf side k) (siteOf side a) (λ q. let z = ltb-true a nb (fst _ _ (fst _ _ h)) in omega arith)) ∙ none-parts p (snd _ _ h) k l
 
   pos : 1 ≤ side
-  pos = ⊎-elim (λ q. omega (arith, q .0)) (λ q. omega (arith, q .0)) own
+  pos = positive (vw .c .side) (own .0) .0
 
   small2 : side ≤ 2
-  small2 = ⊎-elim (λ q. omega (arith, q .0)) (λ q. omega (arith, q .0)) own
+  small2 = positive (vw .c .side) (own .0) .1
 
-  none-msgs : (l : List Message) (k : ℕ) → select (map (plainM (b .wrapper) side) l) (siteOf side k) ≡ []
+  none-msgs : (l : List Message) (k : ℕ) → select (map (plainM (wrapperOf b) side) l) (siteOf side k) ≡ []
   none-msgs [] k = refl
-  none-msgs (m ∷ l) k = ap (λ (c : Bool). cond c (plainM (b .wrapper) side m .what ∷ select (map (plainM (b .wrapper) side) l) (siteOf side k)) (select (map (plainM (b .wrapper) side) l) (siteOf side k))) (ne-eqb (siteOf side k) 0 (λ q. omega (arith, pos))) ∙ none-msgs l k
+  none-msgs (m ∷ l) k = ap (λ (c : Bool). cond c (plainM (wrapperOf b) side m .what ∷ select (map (plainM (wrapperOf b) side) l) (siteOf side k)) (select (map (plainM (wrapperOf b) side) l) (siteOf side k))) (ne-eqb (siteOf side k) 0 (λ q. omega (arith, pos))) ∙ none-msgs l k
 
   none-all : (p : List Particle) → every (wfParticle Tb (counts s) nb) p ≡ true → (k : ℕ) → nb ≤ k → select (R0 ++ map (plainP Tb side) p) (siteOf side k) ≡ []
   none-all p h k l =
       select-app R0 (map (plainP Tb side) p) (siteOf side k)
-      ∙ ap₂ (λ (x y : List (Proc (Unit {0}) [])). x ++ y) (select-app (ritems forget (vw .C)) (map (plainM (b .wrapper) side) (vw .core .lobby) ++ ritems forget (vw .D)) (siteOf side k)
-      ∙ ap₂ (λ (x y : List (Proc (Unit {0}) [])). x ++ y) (away-plain side (vw .C) (ori .awayC) k) (select-app (map (plainM (b .wrapper) side) (vw .core .lobby)) (ritems forget (vw .D)) (siteOf side k)
+      ∙ ap₂ (λ (x y : List (Proc (Unit {0}) [])). x ++ y) (select-app (ritems forget (vw .C)) (map (plainM (wrapperOf b) side) (vw .core .lobby) ++ ritems forget (vw .D)) (siteOf side k)
+      ∙ ap₂ (λ (x y : List (Proc (Unit {0}) [])). x ++ y) (away-plain side (vw .C) (ori .awayC) k) (select-app (map (plainM (wrapperOf b) side) (vw .core .lobby)) (ritems forget (vw .D)) (siteOf side k)
       ∙ ap₂ (λ (x y : List (Proc (Unit {0}) [])). x ++ y) (none-msgs (vw .core .lobby) k) (away-plain side (vw .D) (ori .awayD) k))) (none-parts p h k l)
 
   abbrev top : Counts
-  top = record { c1 = 256; c2 = 256 }
+  top = 256 ∷ 256 ∷ []
 
   le-top : Le (counts s) top
-  unfolding wfParticle
-  le-top = record { le1 = few-one b s e; le2 = few-two b s e }
+  le-top n = go n (all-few b s e n)
+    where
+      past : (l : List ℕ) (i : ℕ) → length l ≤ i → getD l i 0 ≡ 0
+      past [] i h = refl
+      past (x ∷ l) zero h = absurd (omega arith)
+      past (x ∷ l) (suc i) h = past l i (omega arith)
+
+      long : length (counts s) ≡ 2
+      long = length-map (s .sides) _ ∙ size b s e
+
+      go : (n : ℕ) → sideIn s n .core .contents .minted ≤ 256 → countOf (counts s) n ≤ countOf top n
+      go zero f = omega arith
+      go (suc zero) f = omega (arith, f, count-is s 1)
+      go (suc (suc zero)) f = omega (arith, f, count-is s 2)
+      go (suc (suc (suc n))) f = let z = past (counts s) (suc (suc n)) (omega (arith, long)) in omega arith
 
   mine-top : mine (vw .c) top ≡ 256
-  unfolding wfParticle
-  mine-top = go (eqb (vw .c .side) 1)
-    where
-      go : (t : Bool) → _≡_ {A = ℕ} (cond t 256 256) 256
-      go true = refl
-      go false = refl
+  mine-top = ⊎-elim (λ q. ap (countOf top) (eqb-true (vw .c .side) 1 q)) (λ q. ⊎-elim (λ r. ap (countOf top) (eqb-true (vw .c .side) 2 r)) (λ r. absurd (false≢true r)) (bool-cases (eqb (vw .c .side) 2) false q)) (bool-cases (eqb (vw .c .side) 1) (has (vw .c .side) (2 ∷ [])) (own .0))
 
   -- a body at a box, beside other items X, is the next state beside them
   pub grown-cong : (X : List (Item (Unit {0}))) → Each (All b s) X → ((k : ℕ) → select X (siteOf side k) ≡ []) → {σ : List ℕ} {a : Term} → Sits Tb σ a → (ρ : Env) → ρ .names ≡ σ → Sized ρ → every (wfValue (counts s)) (ρ .vals) ≡ true → defined a ρ ≡ true
@@ -218,13 +229,13 @@ module _ (b : Composition) (s : State) (e : ready b s ≡ true) (vw : View b s) 
           ∙ sym (select-app R0 (map (plainP Tb side) p0) (siteOf side k)) ∙ none-all p0 wp k l
 
       s3 : restrict (C0 .names) (fill (C0 .boxes) (at (item (siteOf side β) P ∷ C0 .items))) ≋ process (unfold′ (mt side) (siteOf side) tt (codeOf a) (envOf ρ) (siteOf side β) C0)
-      s3 = body-unfolds side small2 (All b s) (vw .core .contents .minted) (not-next b s (few-one b s e) (few-two b s e) side (vw .core .contents .minted) own) C0 refl β lb (ori .wfB) (ori .reachB β lb) noneX
+      s3 = body-unfolds side small2 (All b s) (vw .core .contents .minted) (not-next b s (all-few b s e) side (vw .core .contents .minted) (own .0) (own .1)) C0 refl β lb (ori .wfB) (ori .reachB β lb) noneX
           (each-app (All b s) (X ++ R0) (map (plainP Tb side) p0) (each-app (All b s) X R0 eX each-rest) (each-parts p0 wp)) (codeOf a) (envOf ρ)
           (fits-sound si [] ρ (envOf ρ) sz (env-names forget (All b s) (counts s) (held-in b s) (low-in b s 0 (omega arith)) ρ vs) ft) (env-in forget (All b s) (counts s) (held-in b s) (low-in b s 0 (omega arith)) ρ vs)
 
       s4 : unfold′ (mt side) (siteOf side) tt (codeOf a) (envOf ρ) (siteOf side β) C0 ≡ confS Tb side (ori .Bo) (X ++ R0) (ori .Nm) u
       s4 = unfolded Tb side (ori .Bo) (X ++ R0) (ori .Nm) (mt side) top (vw .core .contents .minted) 256 (mt-is side) (λ n l h. ori .more n l h ∙ ap (λ (x : ℕ). ori .Nm n ++ x ∷ []) (sym (mt-is side n h)))
-          (λ n l. fresh-held (vw .c) top (vw .which) 256 mine-top (omega arith) n l .0) (λ n l. fresh-held (vw .c) top (vw .which) 256 mine-top (omega arith) n l .1)
+          (λ n l. fresh-held (vw .c) top (own .0) 256 mine-top (omega arith) n l .0) (λ n l. fresh-held (vw .c) top (own .0) 256 mine-top (omega arith) n l .1)
           si ρ nm sz (every-mono (wfValue (counts s)) (wfValue top) (wfVal-mono (counts s) top le-top) (ρ .vals) vs) ft β u0 (vw .ok .contents .box0) (omega arith) few
 
       s5 : process (confS Tb side (ori .Bo) (X ++ R0) (ori .Nm) u) ≋ restrict (ori .Nm (u .minted)) (fill (placesOf forget side 0 (u .boxes) (ori .Bo)) (at (X ++ ritems forget (confOf b s' .items))))

@@ -1,22 +1,23 @@
 -- Meet keeps its side well formed.
 use mathlib.Core.Path.{_≡_, refl, sym, subst}
-use mathlib.Core.Bool.{Bool, true, false, cond}
-use mathlib.Core.List.{List, [], _++_}
-use mathlib.Core.Logic.{_⊎_, inl, inr}
-use Prim.Native.Nat.{ℕ, _+_, _*_, _/_, _%_, _<_, _≤_}
+use mathlib.Core.Bool.{Bool, true, false, cond, false≢true}
+use mathlib.Core.List.{List, [], _∷_, _++_}
+use mathlib.Core.Logic.{⊎-elim}
+use Prim.Native.Nat.{ℕ, _+_, _*_, _<_, _≤_}
 use native.Mathlib.Omega.{arith}
-use borrow.Author.Tests.{leb-true, ltb-true, eqb-true, eq-eqb, ne-eqb, le-leb, lt-ltb}
+use borrow.Author.Tests.{leb-true, ltb-true, eqb-true, le-leb, lt-ltb}
 use lib.Dec.{ltb, eqb}
 use lib.ListN.{length, length-append}
-use Rattle.model.specs.Basics.{done, every, remove}
-use Rattle.model.specs.Values.{items, isPatternLeaf, isValue, Fit, matches, binders, extend, Env}
+use Rattle.model.specs.Basics.{done, every, remove, has}
+use Rattle.model.specs.Values.{isMinted, sideOf, serial, items, isPatternLeaf, isValue, Fit, matches, binders, extend, Env}
 use Rattle.model.specs.Table.{Table, count, scope, term, Term, nil, par, box, new, out, inp}
 use Rattle.model.specs.Side.{Tag, Particle, output, input, Contents, Core, limits}
 use Rattle.model.specs.Unfolding.{unfolds, defined}
+use Rattle.model.specs.Wrapper.{allSides}
 use Rattle.model.specs.Load.{Setting}
-use Rattle.model.specs.WellFormed.{Counts, held, wfValue, wfParticle, envAt}
+use Rattle.model.specs.WellFormed.{Counts, countOf, held, wfValue, wfParticle, envAt}
 use Rattle.model.specs.Step.{short, Moved, without, withParticles, withContents, silently, meet, meetParticles, meetTerm}
-use Rattle.model.proofs.Tests.{fst, snd, both, alt-left, alt-right, every-append, every-mono, every-two, every-remove, need-done, bind-done, pick-done}
+use Rattle.model.proofs.Tests.{or-cases, fst, snd, both, alt-left, alt-right, every-append, every-mono, every-two, every-remove, need-done, bind-done, pick-done}
 use Rattle.model.proofs.Growing.{Le, CoreOk, wfPart-mono, wfVal-mono, wfBoxes-mono, core-mono}
 use Rattle.model.proofs.Keeping.{Spoken, done-inj, roomy-of}
 use Rattle.model.proofs.Items.{clash, shaped-items, matches-wf}
@@ -25,7 +26,7 @@ use Rattle.model.proofs.UnfoldingKeeps.{loose, tight, loosen, ContentsF
 
 -- a side's own count
 abbrev pub mine : Setting → Counts → ℕ
-mine c k = cond (eqb (c .side) 1) (k .c1) (k .c2)
+mine c k = countOf k (c .side)
 
 -- what a side's own step leaves: well formed for any counts that have grown to its own
 pub record Kept′ (c : Setting) (k : Counts) (s : Core) (m : Moved) : Type 0 where
@@ -43,21 +44,22 @@ every-without f false l i j e = go (ltb i j)
     go true = every-remove f (remove l j) i (every-remove f l j e)
     go false = every-remove f (remove l i) j (every-remove f l i e)
 
+-- a minted number, its side and its serial
+pub minted-number : (n j : ℕ) → has n allSides ≡ true → j < 256 → (isMinted (65536 * n + j) ≡ true) × (sideOf (65536 * n + j) ≡ n) × (serial (65536 * n + j) ≡ j) × (65536 * n + j < 4000000)
+minted-number n j h l = ⊎-elim (λ q. of-side-1 (eqb-true n 1 q)) (λ p. ⊎-elim (λ q. of-side-2 (eqb-true n 2 q)) (λ q. absurd (false≢true q)) (or-cases (eqb n 2) false p)) (or-cases (eqb n 1) (has n (2 ∷ [])) h)
+  where
+    of-side-1 : n ≡ 1 → (isMinted (65536 * n + j) ≡ true) × (sideOf (65536 * n + j) ≡ n) × (serial (65536 * n + j) ≡ j) × (65536 * n + j < 4000000)
+    of-side-1 e = rw e (alt-left _ _ (both _ _ (le-leb 65536 (65536 * 1 + j) (omega arith)) (le-leb (65536 * 1 + j) 65791 (omega arith))), omega arith, omega arith, omega arith)
+
+    of-side-2 : n ≡ 2 → (isMinted (65536 * n + j) ≡ true) × (sideOf (65536 * n + j) ≡ n) × (serial (65536 * n + j) ≡ j) × (65536 * n + j < 4000000)
+    of-side-2 e = rw e (alt-right _ _ (both _ _ (le-leb 131072 (65536 * 2 + j) (omega arith)) (le-leb (65536 * 2 + j) 131327 (omega arith))), omega arith, omega arith, omega arith)
+
 -- the names that a side mints next are held once it has minted them
-pub fresh-held : (c : Setting) (k : Counts) → (c .side ≡ 1) ⊎ (c .side ≡ 2) → (N : ℕ) → mine c k ≡ N → N ≤ 256 → (j : ℕ) → j < N → (held k (65536 * c .side + j) ≡ true) × (65536 * c .side + j < 4000000)
+pub fresh-held : (c : Setting) (k : Counts) → has (c .side) allSides ≡ true → (N : ℕ) → mine c k ≡ N → N ≤ 256 → (j : ℕ) → j < N → (held k (65536 * c .side + j) ≡ true) × (65536 * c .side + j < 4000000)
 unfolding held
-fresh-held c k (inl e) N m l j h =
-    let m′ : k .c1 ≡ N = rw e at m in (
-      rw e (alt-right _ _ (both _ _ (alt-left _ _ (both _ _ (le-leb 65536 (65536 * 1 + j) (omega arith)) (le-leb (65536 * 1 + j) 65791 (omega arith))))
-          (rw (eq-eqb ((65536 * 1 + j) / 65536) 1 (omega arith)) (lt-ltb ((65536 * 1 + j) % 65536) (k .c1) (omega arith))))),
-      rw e (omega arith),
-    )
-fresh-held c k (inr e) N m l j h =
-    let m′ : k .c2 ≡ N = rw e at m in (
-      rw e (alt-right _ _ (both _ _ (alt-right _ _ (both _ _ (le-leb 131072 (65536 * 2 + j) (omega arith)) (le-leb (65536 * 2 + j) 131327 (omega arith))))
-          (rw (ne-eqb ((65536 * 2 + j) / 65536) 1 (λ q. omega arith)) (lt-ltb ((65536 * 2 + j) % 65536) (k .c2) (omega arith))))),
-      rw e (omega arith),
-    )
+fresh-held c k e N m l j h =
+    let r = minted-number (c .side) j e (omega arith) in
+    (alt-right _ _ (both _ _ (r .0) (rw (r .1, r .2) (lt-ltb j (countOf k (c .side)) (omega (arith, m))))), r .3)
 
 record Body (t : Table) (σ p : List ℕ) (a : Term) : Type 0 where
   pat : items isPatternLeaf 5 p 1 ≡ done []
@@ -66,7 +68,7 @@ record Body (t : Table) (σ p : List ℕ) (a : Term) : Type 0 where
 body-of : {t : Table} {σ : List ℕ} {n c g : ℕ} {r : Bool} {p : List ℕ} {a : Term} → Sits t σ (inp n r c g p a) → Body t σ p a
 body-of (s-inp pc pg pp pd ln kn tm sc q) = record { pat = pp; body = q }
 
-module _ (c : Setting) (k : Counts) (s : Core) (o : CoreOk c k s) (ch : Checked (c .table)) (which : (c .side ≡ 1) ⊎ (c .side ≡ 2)) where
+module _ (c : Setting) (k : Counts) (s : Core) (o : CoreOk c k s) (ch : Checked (c .table)) (which : has (c .side) allSides ≡ true) where
   settled : (a : Term) (σ p : List ℕ) (vs : List (List ℕ)) (fit : Fit) (again : Bool) (i j b : ℕ) (v : List ℕ) → Body (c .table) σ p a → length vs ≡ length σ → every (wfValue k) vs ≡ true →
       wfValue k v ≡ true → b < length (s .contents .boxes) → matches p 1 v ≡ done fit → defined a (extend (record { names = σ; vals = vs }) (binders p) (fit .bound)) ≡ true →
       (m : Moved) → silently (withContents s (unfolds (c .side) a (extend (record { names = σ; vals = vs }) (binders p) (fit .bound)) b (withParticles (s .contents) (without again (s .contents .particles) i j)))) ≡ done m →
@@ -102,7 +104,6 @@ module _ (c : Setting) (k : Counts) (s : Core) (o : CoreOk c k s) (ch : Checked 
               few-shelf = old .few-shelf;
               shelf = old .shelf;
               whose = old .whose;
-              taken = old .taken;
             });
         shelf = omega arith;
         taken = refl;

@@ -1,25 +1,27 @@
 -- The names that leave: marked, and new no more.
 use mathlib.Core.Path.{_≡_, refl, sym, ap, ap₂, _∙_, subst}
 use mathlib.Core.Bool.{Bool, true, false, not, _&&_, _||_, cond, false≢true}
-use mathlib.Core.List.{List, [], _∷_, _++_}
-use mathlib.Core.Logic.{_⊎_, ⊎-elim}
+use mathlib.Core.List.{List, [], _∷_, _++_, map}
+use mathlib.Core.Logic.{⊎-elim}
 use Prim.Native.Nat.{ℕ, _<_, _≤_}
 use native.Mathlib.Omega.{arith}
-use borrow.Author.Tests.{leb-true, eqb-true, eq-eqb, le-leb, ne-eqb, eqb-false}
+use borrow.Author.Tests.{leb-true, eqb-true, eq-eqb, ne-eqb, eqb-false}
 use lib.Dec.{leb, eqb, T}
 use lib.ListN.{length, getD, set}
 use lib.Seq.{getD-set-same, getD-set-other}
 use Rattle.calculus.specs.Transitions.{mem, names}
-use Rattle.model.specs.Basics.{_&_, _or_, done, every}
+use Rattle.model.specs.Basics.{_&_, done, every}
 use Rattle.model.specs.Values.{isMinted, isName, items}
-use Rattle.model.specs.Side.{State}
-use Rattle.model.specs.Load.{Composition, isPipeline}
+use Rattle.model.specs.Side.{State, side}
+use Rattle.model.specs.Wrapper.{allSides}
+use Rattle.model.specs.Load.{Composition, wrapperOf}
 use Rattle.model.specs.Step.{known, marked, markOf, mark1, markAll}
-use Rattle.model.specs.Process.{upto, mintOf, keep, mintedOf, ownNames, newOf, valOf}
+use Rattle.model.specs.Process.{upto, mintOf, keep, mintedOf, ownName, newOf, valOf}
 use Rattle.calculus.proofs.Restriction.{minus}
-use Rattle.calculus.proofs.FreeNames.{mem-cases, or-cases, or-left, or-right}
-use Rattle.model.proofs.Tests.{fst, snd, both, alt, alt-left, alt-right}
-use Rattle.model.proofs.KnownNames.{is-true, out-of, upto-out, own-low, minted-high}
+use Rattle.calculus.proofs.FreeNames.{or-cases, or-left, or-right}
+use Rattle.model.proofs.Tests.{fst, snd, alt}
+use Rattle.model.proofs.KnownNames.{is-true, out-of, upto-out, by-out, own-low, minted-high}
+use Rattle.model.proofs.MeetingKeeps.{minted-number}
 use Rattle.model.proofs.ValueWords.{worded, val-written, names-words}
 use Rattle.model.proofs.Invariant.{mark1-size}
 
@@ -100,48 +102,45 @@ keep-minus f g (x ∷ M) L h = go (f x) (mem x L) refl (h x (or-left (eqb x x) (
     go false b q e r = ap (λ (t : Bool). cond t (x ∷ keep g M) (keep g M)) e ∙ r
 
 -- what a state with these counts has minted are numbers of minted names
-pub minted-is : (s : State) → s .one .core .contents .minted ≤ 256 → s .two .core .contents .minted ≤ 256 → (x : ℕ) → T (mem x (mintedOf s)) → isMinted x ≡ true
-minted-is s l1 l2 x h = ⊎-elim
-    (λ a. let r = upto-out (s .one .core .contents .minted) (mintOf 1) x a in alt-left _ _ (both _ _ (le-leb 65536 x (omega (arith, r .2))) (le-leb x 65791 (omega (arith, r .1, r .2)))))
-    (λ a. let r = upto-out (s .two .core .contents .minted) (mintOf 2) x a in alt-right _ _ (both _ _ (le-leb 131072 x (omega (arith, r .2))) (le-leb x 131327 (omega (arith, r .1, r .2)))))
-    (mem-cases x (upto (s .one .core .contents .minted) (mintOf 1)) (upto (s .two .core .contents .minted) (mintOf 2)) h)
+pub minted-is : (s : State) → ((n : ℕ) → side s n .core .contents .minted ≤ 256) → (x : ℕ) → T (mem x (mintedOf s)) → isMinted x ≡ true
+minted-is s few x h =
+    let r = by-out (λ n. upto (side s n .core .contents .minted) (mintOf n)) allSides x h in
+    let t = upto-out (side s (r .0) .core .contents .minted) (mintOf (r .0)) x (r .2) in
+    subst (λ (z : ℕ). isMinted z ≡ true) (sym (t .2)) (minted-number (r .0) (t .0) (r .1) (omega (arith, few (r .0), t .1)) .0)
 
-pub own-unworded : (worded 70 ≡ false) × (worded 71 ≡ false)
-unfolding _&_ _or_
-own-unworded = (refl, refl)
+-- a name of the wrapper's own stands in no value
+pub no-word : (x : ℕ) → 64 ≤ x → x < 65536 → worded x ≡ true → ⊥
+no-word x l u h = ⊎-elim (λ p. ⊎-elim (λ q. let z = leb-true x 63 q in omega arith) (λ q. ⊎-elim (λ r. let z = leb-true 65536 x (fst _ _ r) in omega arith) (λ r. let z = leb-true 131072 x (fst _ _ r) in omega arith) (alt _ _ q)) (alt _ _ p)) (λ p. let z = leb-true 4000000 x (fst _ _ p) in omega arith) (alt _ _ h)
 
 -- the new names after a value has left
-pub new-left : (b : Composition) (s s' : State) (y : ℕ) (v : List ℕ) → s .one .core .contents .minted ≤ 256 → s .two .core .contents .minted ≤ 256 → y < 70 → items isName 11 v 1 ≡ done [] → every worded v ≡ true
+pub new-left : (b : Composition) (s s' : State) (y : ℕ) (v : List ℕ) → ((n : ℕ) → side s n .core .contents .minted ≤ 256) → y < 81 → items isName 11 v 1 ≡ done [] → every worded v ≡ true
     → mintedOf s' ≡ mintedOf s → ((x : ℕ) → isMinted x ≡ true → known s' x ≡ known s x || mem x v) → newOf b s' ≡ minus (newOf b s) (y ∷ names (valOf v))
 unfolding newOf
-new-left b s s' y v l1 l2 ly iv hv em hk =
-    sym (minus-app (ownNames (isPipeline b)) (keep (λ x. not (known s x)) (mintedOf s)) (y ∷ names (valOf v)) ∙ ap₂ (λ (p q : List ℕ). p ++ q) (minus-none (ownNames (isPipeline b)) (y ∷ names (valOf v)) own-out) (sym kept))
+new-left b s s' y v few ly iv hv em hk =
+    sym (minus-app (map ownName (wrapperOf b .sides)) (keep (λ x. not (known s x)) (mintedOf s)) (y ∷ names (valOf v)) ∙ ap₂ (λ (p q : List ℕ). p ++ q) (minus-none (map ownName (wrapperOf b .sides)) (y ∷ names (valOf v)) own-out) (sym kept))
   where
     small : (x : ℕ) → x < 4000000 → mem x (names (valOf v)) ≡ mem x v
     small x l = names-words x l (valOf v) ∙ ap (mem x) (val-written v iv)
 
-    own-out : (x : ℕ) → T (mem x (ownNames (isPipeline b))) → mem x (y ∷ names (valOf v)) ≡ false
-    own-out x m = out-of x (y ∷ names (valOf v)) (λ t. ⊎-elim (λ a. let q = eqb-true x y (T-true (eqb x y) a) in ⊎-elim (λ e. omega arith) (λ e. omega arith) (own-low b s x m))
-        (λ a. no-own x (own-low b s x m) v hv (subst (λ (c : Bool). T c) (small x (⊎-elim (λ e. omega arith) (λ e. omega arith) (own-low b s x m))) a)) (or-cases (eqb x y) (mem x (names (valOf v))) t))
+    own-out : (x : ℕ) → T (mem x (map ownName (wrapperOf b .sides))) → mem x (y ∷ names (valOf v)) ≡ false
+    own-out x m = let o = own-low b s x m in
+        out-of x (y ∷ names (valOf v)) (λ t. ⊎-elim (λ a. let q = eqb-true x y (T-true (eqb x y) a) in omega (arith, o .0)) (λ a. no-own v hv (subst (λ (c : Bool). T c) (small x (omega (arith, o .1))) a)) (or-cases (eqb x y) (mem x (names (valOf v))) t))
       where
         T-true : (c : Bool) → T c → c ≡ true
         T-true true h = refl
         T-true false h = absurd h
 
-        no-own : (x : ℕ) → (x ≡ 70) ⊎ (x ≡ 71) → (v : List ℕ) → every worded v ≡ true → T (mem x v) → ⊥
-        no-own x o [] h t = t
-        no-own x o (w ∷ v) h t = ⊎-elim (λ a. bad (subst (λ (z : ℕ). worded z ≡ true) (sym (eqb-true x w (T-true (eqb x w) a))) (fst _ _ h))) (λ a. no-own x o v (snd _ _ h) a) (or-cases (eqb x w) (mem x v) t)
-          where
-            bad : worded x ≡ true → ⊥
-            bad p = ⊎-elim (λ e. false≢true (sym (own-unworded .0) ∙ subst (λ (z : ℕ). worded z ≡ true) e p)) (λ e. false≢true (sym (own-unworded .1) ∙ subst (λ (z : ℕ). worded z ≡ true) e p)) o
+        no-own : (v : List ℕ) → every worded v ≡ true → T (mem x v) → ⊥
+        no-own [] h t = t
+        no-own (w ∷ v) h t = ⊎-elim (λ a. no-word x (omega (arith, own-low b s x m .0)) (omega (arith, own-low b s x m .1)) (subst (λ (z : ℕ). worded z ≡ true) (sym (eqb-true x w (T-true (eqb x w) a))) (fst _ _ h))) (λ a. no-own v (snd _ _ h) a) (or-cases (eqb x w) (mem x v) t)
 
     kept : keep (λ x. not (known s' x)) (mintedOf s') ≡ minus (keep (λ x. not (known s x)) (mintedOf s)) (y ∷ names (valOf v))
     kept = ap (keep (λ x. not (known s' x))) em ∙ keep-minus (λ x. not (known s x)) (λ x. not (known s' x)) (mintedOf s) (y ∷ names (valOf v))
-        (λ x m. ap not (hk x (minted-is s l1 l2 x m)) ∙ nor (known s x) (mem x v) ∙ ap (λ (c : Bool). not (known s x) && not c) (sym (ap (λ (c : Bool). c || mem x (names (valOf v))) (ne-eqb x y (λ q. let h = minted-high b s x m in omega arith)) ∙ small x (high x m))))
+        (λ x m. ap not (hk x (minted-is s few x m)) ∙ nor (known s x) (mem x v) ∙ ap (λ (c : Bool). not (known s x) && not c) (sym (ap (λ (c : Bool). c || mem x (names (valOf v))) (ne-eqb x y (λ q. let h = minted-high b s x m in omega arith)) ∙ small x (high x m))))
       where
         nor : (a c : Bool) → not (a || c) ≡ not a && not c
         nor true c = refl
         nor false c = refl
 
         high : (x : ℕ) → T (mem x (mintedOf s)) → x < 4000000
-        high x m = ⊎-elim (λ a. let q = leb-true x 65791 (snd _ _ a) in omega arith) (λ a. let q = leb-true x 131327 (snd _ _ a) in omega arith) (alt _ _ (minted-is s l1 l2 x m))
+        high x m = ⊎-elim (λ a. let q = leb-true x 65791 (snd _ _ a) in omega arith) (λ a. let q = leb-true x 131327 (snd _ _ a) in omega arith) (alt _ _ (minted-is s few x m))

@@ -10,7 +10,7 @@ use lib.Dec.{ltb, T}
 use lib.ListN.{getElem?}
 use Rattle.calculus.specs.Syntax.{Val, Proc, Tag, comp, remark}
 use Rattle.calculus.specs.Syntax.{nil as pnil, par as ppar}
-use Rattle.calculus.specs.Transitions.{names, beyond, tau, send, recv, one, two}
+use Rattle.calculus.specs.Transitions.{names, beyond, tau, send, recv, lone, joint}
 use Rattle.calculus.specs.Transitions.{Step as Trans}
 use Rattle.calculus.specs.Tree.{Place, fill}
 use Rattle.calculus.specs.Tree.{Item}
@@ -18,6 +18,7 @@ use Rattle.model.specs.Basics.{remove}
 use Rattle.model.specs.Table.{Table}
 use Rattle.model.specs.Side.{Particle, Core}
 use Rattle.model.specs.Step.{without}
+use Rattle.model.specs.Wrapper.{Wrapper}
 use Rattle.model.specs.Process.{Mark, numbered, partItem, msgItem}
 use Rattle.calculus.proofs.Trees.{Wf, Reach}
 use Rattle.calculus.proofs.Bags.{item, at, Bag, bag-refl, bag-eq, bag-trans, bag-sym, bag-cons, bag-mid, bag-par, bag-app, move-meet, move-teem, ritem, ritems, ritems-app}
@@ -43,7 +44,7 @@ abbrev pub leaves : {M : Type 0} → Bool → Proc M [] → Proc M [] → Proc M
 leaves true Q B = ppar Q B
 leaves false Q B = B
 
-module _ (w side : ℕ) (T : Table) (C D : List (Item Mark)) (s : Core) where
+module _ (w : Wrapper) (side : ℕ) (T : Table) (C D : List (Item Mark)) (s : Core) where
   pub record PairAt (i : ℕ) (x : Particle) (j : ℕ) (y : Particle) : Type 0 where
     pub X : List (Item Mark)
     pub Y : List (Item Mark)
@@ -110,12 +111,12 @@ module _ (w side : ℕ) (T : Table) (C D : List (Item Mark)) (s : Core) where
         last false = a .gone ∙ ap (λ (c : Bool). target w side T C D s (s .lobby) (cond c (remove (remove (s .contents .particles) j) i) (remove (remove (s .contents .particles) i) j))) (sym (le-ltb i j (omega arith)))
 
   module _ (A : List ℕ) (bs : List (Place Mark)) (wf : Wf A bs) (each : Each A (whole w side T C D s)) (again : Bool) (b : ℕ) (P Q B : Proc Mark []) (r : Reach bs b) {x : ℕ} {v : Val ℕ} {t u : Mark} (g : Tag ℕ)
-      (nb : beyond A (x ∷ names v) ≡ []) (dP : Trans A P (send x (comp g) v) (one t) pnil) (dQ : Trans A Q (recv x g v) (two t u) (leaves again Q B)) (p q : Particle) (i j : ℕ)
+      (nb : beyond A (x ∷ names v) ≡ []) (dP : Trans A P (send x (comp g) v) (lone t) pnil) (dQ : Trans A Q (recv x g v) (joint t u) (leaves again Q B)) (p q : Particle) (i j : ℕ)
       (ep : partItem ids T side i p ≡ item b P) (eq : partItem ids T side j q ≡ item b Q) (gp : getElem? (s .contents .particles) i ≡ some p) (gq : getElem? (s .contents .particles) j ≡ some q) where
     Q° : ritem forget (item b Q) ≡ plainP T side q
     Q° = ap (ritem forget) (sym eq) ∙ plain-part T side j q
 
-    before : i < j → Moves A bs (whole w side T C D s) tau (two t u) (item b (remark forget B) ∷ target w side T C D s (s .lobby) (without again (s .contents .particles) i j))
+    before : i < j → Moves A bs (whole w side T C D s) tau (joint t u) (item b (remark forget B) ∷ target w side T C D s (s .lobby) (without again (s .contents .particles) i j))
     unfolding remark
     before lt =
         let a = pair-at i p j q lt gp gq in
@@ -123,12 +124,12 @@ module _ (w side : ℕ) (T : Table) (C D : List (Item Mark)) (s : Core) where
         let e : Each A (a .X ++ item b P ∷ (a .Y ++ item b Q ∷ a .Z)) = subst (λ (L : List (Item Mark)). Each A L) is-it each in
         record {
           J = a .X ++ item b pnil ∷ (a .Y ++ item b (leaves again Q B) ∷ a .Z);
-          step = subst (λ (L : List (Item Mark)). Trans A (fill bs (at L)) tau (two t u) (fill bs (at (a .X ++ item b pnil ∷ (a .Y ++ item b (leaves again Q B) ∷ a .Z))))) (sym is-it)
+          step = subst (λ (L : List (Item Mark)). Trans A (fill bs (at L)) tau (joint t u) (fill bs (at (a .X ++ item b pnil ∷ (a .Y ++ item b (leaves again Q B) ∷ a .Z))))) (sym is-it)
               (move-meet A bs wf {g = g} (a .X) (a .Y) (a .Z) b r (each-at A (a .X ++ item b P ∷ (a .Y ++ item b Q ∷ a .Z)) e) nb dP dQ);
           bag = before-bag again b Q B p q i j Q° lt a;
         }
 
-    behind : j < i → Moves A bs (whole w side T C D s) tau (two t u) (item b (remark forget B) ∷ target w side T C D s (s .lobby) (without again (s .contents .particles) i j))
+    behind : j < i → Moves A bs (whole w side T C D s) tau (joint t u) (item b (remark forget B) ∷ target w side T C D s (s .lobby) (without again (s .contents .particles) i j))
     unfolding remark
     behind lt =
         let a = pair-at j q i p lt gq gp in
@@ -136,14 +137,14 @@ module _ (w side : ℕ) (T : Table) (C D : List (Item Mark)) (s : Core) where
         let e : Each A (a .X ++ item b Q ∷ (a .Y ++ item b P ∷ a .Z)) = subst (λ (L : List (Item Mark)). Each A L) is-it each in
         record {
           J = a .X ++ item b (leaves again Q B) ∷ (a .Y ++ item b pnil ∷ a .Z);
-          step = subst (λ (L : List (Item Mark)). Trans A (fill bs (at L)) tau (two t u) (fill bs (at (a .X ++ item b (leaves again Q B) ∷ (a .Y ++ item b pnil ∷ a .Z))))) (sym is-it)
+          step = subst (λ (L : List (Item Mark)). Trans A (fill bs (at L)) tau (joint t u) (fill bs (at (a .X ++ item b (leaves again Q B) ∷ (a .Y ++ item b pnil ∷ a .Z))))) (sym is-it)
               (move-teem A bs wf {g = g} (a .X) (a .Y) (a .Z) b r (each-at A (a .X ++ item b Q ∷ (a .Y ++ item b P ∷ a .Z)) e) nb dP dQ);
           bag = behind-bag again b Q B p q i j Q° lt a;
         }
 
-    pub go-meet : (i ≡ j → ⊥) → Moves A bs (whole w side T C D s) tau (two t u) (item b (remark forget B) ∷ target w side T C D s (s .lobby) (without again (s .contents .particles) i j))
+    pub go-meet : (i ≡ j → ⊥) → Moves A bs (whole w side T C D s) tau (joint t u) (item b (remark forget B) ∷ target w side T C D s (s .lobby) (without again (s .contents .particles) i j))
     go-meet ne = go (ltb i j) refl
       where
-        go : (c : Bool) → ltb i j ≡ c → Moves A bs (whole w side T C D s) tau (two t u) (item b (remark forget B) ∷ target w side T C D s (s .lobby) (without again (s .contents .particles) i j))
+        go : (c : Bool) → ltb i j ≡ c → Moves A bs (whole w side T C D s) tau (joint t u) (item b (remark forget B) ∷ target w side T C D s (s .lobby) (without again (s .contents .particles) i j))
         go true e = before (ltb-true i j e)
         go false e = let h = ltb-false i j e in behind (omega (arith, ne))

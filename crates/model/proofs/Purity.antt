@@ -1,35 +1,30 @@
 -- Purity: the transitions of a state's process are silent, or on a side's inlet or outlet with the environment.
 use mathlib.Core.Path.{_≡_, refl, sym, ap, _∙_, subst}
-use mathlib.Core.Bool.{Bool, true, false, _&&_, false≢true}
+use mathlib.Core.Bool.{Bool, true, false, false≢true}
 use mathlib.Core.List.{List, []}
-use mathlib.Core.Logic.{inl, inr, ⊎-elim}
-use Prim.Native.Nat.{ℕ, _+_}
+use mathlib.Core.Logic.{⊎-elim}
+use Prim.Native.Nat.{ℕ}
 use native.Mathlib.Omega.{arith}
-use borrow.Author.Tests.{eqb-true}
-use lib.Dec.{eqb}
 use Rattle.calculus.specs.Syntax.{Val, Tag, plain, receivedParent, receivedChild, Proc, tren, within, parent, child}
 use Rattle.calculus.specs.Transitions.{Label, tau, send, recv, Participants, In}
 use Rattle.calculus.specs.Transitions.{Step as Trans}
 use Rattle.calculus.specs.Marks.{Marks}
 use Rattle.calculus.specs.Tree.{process}
-use Rattle.model.specs.Basics.{_&_}
-use Rattle.model.specs.Values.{items, shaped, isValue}
+use Rattle.model.specs.Wrapper.{hasSide}
 use Rattle.model.specs.Side.{State}
-use Rattle.model.specs.Load.{Composition, isPipeline}
+use Rattle.model.specs.Load.{Composition, wrapperOf}
 use Rattle.model.specs.WellFormed.{ready}
-use Rattle.model.specs.Step.{Step, Answer, labelled, refusal, silent, enters, leaves, step, known}
-use Rattle.model.specs.Process.{Mark, inert, inwards, outwards, confOf, knownOf}
+use Rattle.model.specs.Step.{Step, Answer, labelled, refusal, silent, enters, leaves, Result, step}
+use Rattle.model.specs.Process.{Mark, inert, confOf, knownOf}
 use Rattle.model.specs.Agreement.{Rename, renamed, Asks, asks-out, Met, Excused, by-11-long, by-11-name, by-12, by-16, by-17, Over, lobby-full, down-full, up-full, shelf-full, meet-full, answerSide, Complete}
-use Rattle.model.specs.Corollaries.{HasSide, PureLabel, pure-tau, pure-in, pure-out, Pure, PurePublished}
+use Rattle.model.specs.Published.{PureLabel, pure-tau, pure-in, pure-out, Pure, PurePublished}
 use Rattle.calculus.proofs.Marks.{marks}
-use Rattle.model.proofs.Tests.{and-left, and-right}
-use Rattle.model.proofs.KnownNames.{outer-known}
+use Rattle.model.proofs.Independence.{step-lacks}
+use Rattle.model.proofs.KnownNames.{is-true, low-known}
+use Rattle.model.proofs.StateTree.{inlet-low, outlet-low}
 use Rattle.model.proofs.Labels.{SaysInv, says-inv}
-use Rattle.model.proofs.SideViews.{View}
 use Rattle.model.proofs.StateInversion.{rename-of}
-use Rattle.model.proofs.Completing.{Answers}
 use Rattle.model.proofs.EntryMoves.{entry-of}
-use Rattle.model.proofs.CompleteIn.{refused-11}
 use Rattle.model.proofs.Complete.{complete}
 
 -- a renaming that keeps a name takes no other to it
@@ -45,49 +40,19 @@ only-parent receivedParent f q = absurd (let z : _≡_ {A = ℕ} 0 1 = cc in ome
 only-parent (receivedChild n) f q = absurd (let z : _≡_ {A = ℕ} 0 1 = cc in omega arith)
 
 -- the channels towards the environment are known
-zero-known : (s : State) → In (knownOf s) 0
-unfolding knownOf
-zero-known s = tt
+in-known : (b : Composition) (s : State) (e : ready b s ≡ true) (side : ℕ) → hasSide (wrapperOf b) side ≡ true → In (knownOf s) (wrapperOf b .inlet side)
+in-known b s e side h = low-known b s _ (inlet-low b s e side h)
 
-one-known : (s : State) → In (knownOf s) 1
-unfolding knownOf
-one-known s = tt
-
-in-known : (b : Composition) (s : State) (side : ℕ) → HasSide b side → In (knownOf s) (inwards (b .wrapper) side)
-in-known b s side h = go (eqb (b .wrapper) 1)
-  where
-    go : (t : Bool) → In (knownOf s) (elim t as (λ b. ℕ) [ true ↦ 0 | false ↦ 64 + side ])
-    go true = zero-known s
-    go false = ⊎-elim (λ q. subst (λ (n : ℕ). In (knownOf s) (64 + n)) (sym q) (outer-known b s 65 tt)) (λ q. subst (λ (n : ℕ). In (knownOf s) (64 + n)) (sym (q .0)) (outer-known b s 66 tt)) h
-
-out-known : (b : Composition) (s : State) (side : ℕ) → HasSide b side → In (knownOf s) (outwards (b .wrapper) side)
-out-known b s side h = go (eqb (b .wrapper) 1)
-  where
-    go : (t : Bool) → In (knownOf s) (elim t as (λ b. ℕ) [ true ↦ 1 | false ↦ 66 + side ])
-    go true = one-known s
-    go false = ⊎-elim (λ q. subst (λ (n : ℕ). In (knownOf s) (66 + n)) (sym q) (outer-known b s 67 tt)) (λ q. subst (λ (n : ℕ). In (knownOf s) (66 + n)) (sym (q .0)) (outer-known b s 68 tt)) h
+out-known : (b : Composition) (s : State) (e : ready b s ≡ true) (side : ℕ) → hasSide (wrapperOf b) side ≡ true → In (knownOf s) (wrapperOf b .outlet side)
+out-known b s e side h = low-known b s _ (outlet-low b s e side h)
 
 -- a side that the wrapper lacks gets 10
-has-side : (b : Composition) (s : State) (k : Step) → ready b s ≡ true → (step b s k .answer ≡ refusal 10 (k .side) → ⊥) → HasSide b (k .side)
-unfolding step
-has-side b s k e h = go (eqb (k .side) 1) refl (eqb (k .side) 2 && isPipeline b) refl
+has-side : (b : Composition) (s : State) (k : Step) → ready b s ≡ true → (step b s k .answer ≡ refusal 10 (k .side) → ⊥) → hasSide (wrapperOf b) (k .side) ≡ true
+has-side b s k e h = go (hasSide (wrapperOf b) (k .side)) refl
   where
-    go : (t : Bool) → eqb (k .side) 1 ≡ t → (u : Bool) → eqb (k .side) 2 && isPipeline b ≡ u → HasSide b (k .side)
-    go true p u q = inl (eqb-true (k .side) 1 p)
-    go false p true q = inr (eqb-true (k .side) 2 (and-left (eqb (k .side) 2) (isPipeline b) q), eqb-true (b .wrapper) 2 (and-right (eqb (k .side) 2) (isPipeline b) q))
-    go false p false q = absurd (h (rw (e, p, q, step) refl))
-
--- 10 is not 11
-not-11 : (n m : ℕ) → refusal 11 n ≡ refusal 10 m → ⊥
-not-11 n m q = let z : _≡_ {A = ℕ} 11 10 = cc in omega arith
-
--- a side in view is one that the wrapper has: its entry of no words gets 11
-view-side : (b : Composition) (s : State) (vw : View b s) → Answers b s vw → ready b s ≡ true → HasSide b (vw .c .side)
-unfolding _&_ isValue items shaped
-view-side b s vw an e = has-side b s k e (λ q. not-11 _ _ (sym (an .is-refused k 11 refl (λ z. omega arith) (refused-11 (vw .c) (known s) (vw .core) (vw .c .side) [] refl)) ∙ q))
-  where
-    k : Step
-    k = record { kind = 1; side = vw .c .side; i = 0; j = 0; words = [] }
+    go : (t : Bool) → hasSide (wrapperOf b) (k .side) ≡ t → t ≡ true
+    go true p = refl
+    go false p = absurd (h (ap (λ (r : Result). r .answer) (step-lacks b s k e p)))
 
 -- the channel and the tag of a label
 abbrev chanOf : Label → ℕ
@@ -114,10 +79,10 @@ over-no (shelf-full p f g h) q = omega (arith, p, q)
 over-no (meet-full p f g h) q = omega (arith, p, q)
 
 no-excuse : {b : Composition} {s : State} {k : Step} {l : Label} {n : ℕ} → Excused b s k l n → isSend l ≡ true → k .kind ≡ 7 → ⊥
-no-excuse (by-11-long h) f q = false≢true f
-no-excuse (by-11-name h) f q = false≢true f
-no-excuse (by-12 h) f q = false≢true f
-no-excuse (by-16 g h i j k) f q = false≢true f
+no-excuse (by-11-long p h) f q = false≢true f
+no-excuse (by-11-name p h) f q = false≢true f
+no-excuse (by-12 p h) f q = false≢true f
+no-excuse (by-16 p g h i j k) f q = false≢true f
 no-excuse (by-17 h) f q = over-no h q
 
 asks-kind : {k : Step} {x : ℕ} {o : Tag ℕ} {v : Val ℕ} → Asks k (send x o v) → k .kind ≡ 7
@@ -129,23 +94,23 @@ module _ (b : Composition) (s : State) (e : ready b s ≡ true) where
   recv-pure {x} {o} {v} d =
       let t = entry-of b s e d in
       let n = t .1 in
-      let h = view-side b s (n .vw) (n .an) e in
-      let ex : x ≡ inwards (b .wrapper) (n .vw .c .side) = only-kept (rename-of (t .0)) x _ (in-known b s (n .vw .c .side) h) (n .on) in
+      let h = n .vw .is-side in
+      let ex : x ≡ wrapperOf b .inlet (n .vw .c .side) = only-kept (rename-of (t .0)) x _ (in-known b s e (n .vw .c .side) h) (n .on) in
       let eo : o ≡ plain parent = only-parent o (t .0 .perm .to) (n .tagged) in
-      subst (PureLabel b) (sym (λ i. recv (ex i) (eo i) v)) (pure-in h)
+      subst (PureLabel b) (sym (λ i. recv (ex i) (eo i) v)) (pure-in (n .vw .c .side) (is-true _ h))
 
   -- what it hears: the step that leaves says so
   said : {x : ℕ} {o : Tag ℕ} {v : Val ℕ} {R : Proc Mark []} {k : Step} → Met b s (send x o v) R k → PureLabel b (send x o v)
-  said {x} {o} {v} {R} {k} m = go (step b s k .answer) (says-inv (m .label)) (m .side) (has-side b s k e (λ q. subst (λ (a : Answer). SaysInv (b .wrapper) a (renamed (send x o v) (m .names .to))) q (says-inv (m .label))))
+  said {x} {o} {v} {R} {k} m = go (step b s k .answer) (says-inv (m .label)) (m .side) (has-side b s k e (λ q. subst (λ (a : Answer). SaysInv (wrapperOf b) a (renamed (send x o v) (m .names .to))) q (says-inv (m .label))))
     where
-      go : (a : Answer) → SaysInv (b .wrapper) a (renamed (send x o v) (m .names .to)) → answerSide a ≡ k .side → HasSide b (k .side) → PureLabel b (send x o v)
+      go : (a : Answer) → SaysInv (wrapperOf b) a (renamed (send x o v) (m .names .to)) → answerSide a ≡ k .side → hasSide (wrapperOf b) (k .side) ≡ true → PureLabel b (send x o v)
       go (labelled silent n u) q sd h = absurd (let z : _≡_ {A = ℕ} 0 1 = cc in omega arith)
       go (labelled enters n u) q sd h = absurd (let z : _≡_ {A = ℕ} 0 1 = cc in omega arith)
       go (labelled leaves n u) q sd h =
-          let h' : HasSide b n = subst (HasSide b) (sym sd) h in
-          let ex : x ≡ outwards (b .wrapper) n = only-kept (m .names) x _ (out-known b s n h') (ap chanOf (q .3)) in
+          let h' : hasSide (wrapperOf b) n ≡ true = subst (λ (y : ℕ). hasSide (wrapperOf b) y ≡ true) (sym sd) h in
+          let ex : x ≡ wrapperOf b .outlet n = only-kept (m .names) x _ (out-known b s e n h') (ap chanOf (q .3)) in
           let eo : o ≡ plain parent = only-parent o (m .names .to) (ap tagOf (q .3)) in
-          subst (PureLabel b) (sym (λ i. send (ex i) (eo i) v)) (pure-out h')
+          subst (PureLabel b) (sym (λ i. send (ex i) (eo i) v)) (pure-out n (is-true _ h'))
       go (refusal n m) q sd h = absurd q
 
   send-pure : {x : ℕ} {o : Tag ℕ} {v : Val ℕ} {w : Participants Mark} {R : Proc Mark []} → Trans (knownOf s) (process (confOf b s)) (send x o v) w R → PureLabel b (send x o v)

@@ -1,21 +1,21 @@
 -- What load gives is ready.
-use mathlib.Core.Path.{_≡_, refl, sym, ap, subst}
-use mathlib.Core.Bool.{Bool, true, false, cond}
-use mathlib.Core.List.{List, [], _∷_}
-use mathlib.Core.Logic.{_⊎_, inl, inr}
+use mathlib.Core.Path.{_≡_, refl, ap, _∙_, subst}
+use mathlib.Core.Bool.{Bool, true, false, cond, false≢true}
+use mathlib.Core.List.{List, [], _∷_, map}
 use Prim.Native.Nat.{ℕ, zero, suc, _+_, _*_, _≤_}
 use native.Mathlib.Omega.{arith}
 use borrow.Author.Tests.{leb-true, eqb-true, le-leb, lt-ltb}
 use lib.Dec.{leb, ltb, eqb}
 use lib.ListN.{length, getD, length-append, replicate}
-use Rattle.model.specs.Basics.{_&_, Res, refuse, done, every}
+use Rattle.model.specs.Basics.{_&_, choose, Res, refuse, done, every, has}
 use Rattle.model.specs.Values.{isPublic, binders, value, extend, substitute, word, isNameIn, Env, noNames}
 use Rattle.model.specs.Table.{Table, scope, term, Term}
-use Rattle.model.specs.Checks.{fault, Fault}
-use Rattle.model.specs.Side.{Contents, Side, State, withinLimits, emptyContents, noSide, startSide}
+use Rattle.model.specs.Checks.{Fault}
+use Rattle.model.specs.Side.{Contents, Side, State, withinLimits, emptyContents, noSide, startSide, side}
 use Rattle.model.specs.Unfolding.{addBox, mint, unfolds, defined, tagDefined, anyNames}
-use Rattle.model.specs.Load.{Setting, Composition, setting1, setting2, load, loadSide, Loaded, ok, refused, isOk, start}
-use Rattle.model.specs.WellFormed.{Counts, wfBoxes, wfLeft, wfSide, wfTaken, wfState, isNoSide, ready}
+use Rattle.model.specs.Wrapper.{allSides, isWrapper, hasSide}
+use Rattle.model.specs.Load.{Setting, Composition, setting, wrapperOf, table, load, loadSides, sideFault, lackFault, Refused, ok, refused, isOk, start, startOf}
+use Rattle.model.specs.WellFormed.{Counts, counts, shelfOf, wfBoxes, wfLeft, wfSide, wfSideOf, wfTaken, wfState, isNoSide, ready}
 use Rattle.model.specs.Step.{short}
 use Rattle.model.proofs.Tests.{snd, both, alt-left, every-append, every-two}
 use Rattle.model.proofs.Growing.{CoreOk, core-wf}
@@ -23,17 +23,7 @@ use Rattle.model.proofs.Environments.{look-all}
 use Rattle.model.proofs.Checked.{Checked, Sits, s-nil, s-par, s-box, s-new, s-out, s-inp, sits}
 use Rattle.model.proofs.UnfoldingKeeps.{tight, grows, unfolds-fit}
 use Rattle.model.proofs.MeetingKeeps.{mine, fresh-held}
-use Rattle.model.proofs.Invariant.{side-loaded}
-
--- a side that loads goes on with its start
-pub loadSide-ok : (i : ℕ) (t : Table) (k : Side → Loaded) (s : State) → loadSide i t k ≡ ok s → k (startSide (start i t)) ≡ ok s
-unfolding loadSide
-loadSide-ok i t k s e = go (fault t) refl (withinLimits (start i t)) refl
-  where
-    go : (f : Res Fault) → fault t ≡ f → (r : Bool) → withinLimits (start i t) ≡ r → k (startSide (start i t)) ≡ ok s
-    go (done f) p r q = let z : _≡_ {A = ℕ} 0 1 = cc (rw (p, loadSide) at e) in absurd (omega arith)
-    go (refuse n) p true q = rw (p, q, loadSide) at e
-    go (refuse n) p false q = let z : _≡_ {A = ℕ} 0 1 = cc (rw (p, q, loadSide) at e) in absurd (omega arith)
+use Rattle.model.proofs.Invariant.{positive, every-has, count-is, load-checked}
 
 -- a value that is one name
 abbrev oneName : List ℕ → Bool
@@ -69,8 +59,8 @@ fits-names (s-inp {c = c} {g = g} {p = p} pc pg pp pd ln kn tm sc q) ρ h =
 subst-length : (ρ : Env) → every oneWord (ρ .vals) ≡ true → (v : List ℕ) → length (substitute ρ v) ≡ length v
 subst-length ρ h [] = refl
 subst-length ρ h (w ∷ ws) =
-    let one : length (cond (isPublic w) (value ρ w) (w ∷ [])) ≡ 1 = go (isPublic w) in
-    omega (arith, length-append (cond (isPublic w) (value ρ w) (w ∷ [])) (substitute ρ ws), one, subst-length ρ h ws)
+    let one-word : length (cond (isPublic w) (value ρ w) (w ∷ [])) ≡ 1 = go (isPublic w) in
+    omega (arith, length-append (cond (isPublic w) (value ρ w) (w ∷ [])) (substitute ρ ws), one-word, subst-length ρ h ws)
   where
     go : (b : Bool) → length (cond b (value ρ w) (w ∷ [])) ≡ 1
     go true = eqb-true (length (value ρ w)) 1 (look-all oneWord (ρ .names) (ρ .vals) w (w ∷ []) refl h)
@@ -90,7 +80,7 @@ pub scope-root : (t : Table) → scope t 0 ≡ []
 unfolding Rattle.model.specs.Table.scopeUp
 scope-root t = refl
 
-start-core : (c : Setting) (k : Counts) → Checked (c .table) → (c .side ≡ 1) ⊎ (c .side ≡ 2) → mine c k ≡ start (c .side) (c .table) .minted → withinLimits (start (c .side) (c .table)) ≡ true →
+start-core : (c : Setting) (k : Counts) → Checked (c .table) → has (c .side) allSides ≡ true → mine c k ≡ start (c .side) (c .table) .minted → withinLimits (start (c .side) (c .table)) ≡ true →
     CoreOk c k (startSide (start (c .side) (c .table)) .core)
 unfolding start wfBoxes
 start-core c k ch which mi ro =
@@ -108,60 +98,68 @@ start-core c k ch which mi ro =
       few-shelf = omega arith;
       shelf = refl;
       whose = alt-left _ _ refl;
-      taken = refl;
     }
 
 pub no-marks : (k : Counts) → wfLeft k 0 (replicate 512 false) ≡ true
 unfolding wfLeft _&_
 no-marks k = refl
 
-pub start-side : (c : Setting) (k : Counts) → Checked (c .table) → (c .side ≡ 1) ⊎ (c .side ≡ 2) → mine c k ≡ start (c .side) (c .table) .minted → withinLimits (start (c .side) (c .table)) ≡ true →
-    wfSide c k (startSide (start (c .side) (c .table))) ≡ true
+no-taken : (t : Bool) (sh : ℕ → List (List ℕ)) → wfTaken t sh 0 (replicate 64 false) ≡ true
+unfolding wfTaken _&_
+no-taken t sh = refl
+
+no-side : isNoSide noSide ≡ true
+unfolding isNoSide _&_
+no-side = refl
+
+pub start-side : (c : Setting) (k : Counts) (sh : ℕ → List (List ℕ)) → Checked (c .table) → has (c .side) allSides ≡ true → mine c k ≡ start (c .side) (c .table) .minted → withinLimits (start (c .side) (c .table)) ≡ true →
+    wfSide c k sh (startSide (start (c .side) (c .table))) ≡ true
 unfolding wfSide
-start-side c k ch which mi ro = both _ _ (core-wf c k _ (start-core c k ch which mi ro)) (both _ _ refl (no-marks k))
-
-pipe-start : (b : Composition) → b .wrapper ≡ 2 → Checked (b .table1) → Checked (b .table2) → withinLimits (start 1 (b .table1)) ≡ true → withinLimits (start 2 (b .table2)) ≡ true →
-    wfState b (record { one = startSide (start 1 (b .table1)); two = startSide (start 2 (b .table2)) }) ≡ true
-unfolding wfState wfTaken _&_
-pipe-start b w c1 c2 r1 r2 =
-    let k : Counts = record { c1 = start 1 (b .table1) .minted; c2 = start 2 (b .table2) .minted } in
-    both _ _ (start-side (setting1 b) k c1 (inl refl) refl r1) (both _ _ refl (rw w (rw w at (start-side (setting2 b) k c2 (inr refl) refl r2))))
-
-filter-start : (b : Composition) → b .wrapper ≡ 1 → Checked (b .table1) → withinLimits (start 1 (b .table1)) ≡ true → wfState b (record { one = startSide (start 1 (b .table1)); two = noSide }) ≡ true
-unfolding wfState wfTaken isNoSide _&_
-filter-start b w c1 r1 =
-    let k : Counts = record { c1 = start 1 (b .table1) .minted; c2 = 0 } in
-    both _ _ (start-side (setting1 b) k c1 (inl refl) refl r1) (both _ _ refl (rw w))
+start-side c k sh ch which mi ro = both _ _ (core-wf c k _ (start-core c k ch which mi ro)) (both _ _ (both _ _ refl (no-marks k)) (both _ _ refl (no-taken _ sh)))
 
 pub ok-inj : {s t : State} → ok s ≡ ok t → s ≡ t
 ok-inj e = cc
 
-pub never : {r : Rattle.model.specs.Load.Refused} {s : State} → refused r ≡ ok s → ⊥
+pub never : {r : Refused} {s : State} → refused r ≡ ok s → ⊥
 never e = let z : _≡_ {A = ℕ} 0 1 = cc in omega arith
 
-started : (b : Composition) (s : State) → load b ≡ ok s → wfState b s ≡ true
-unfolding load
-started b s e = go (eqb (b .wrapper) 1) refl (eqb (b .wrapper) 2) refl
+load-sides : (b : Composition) (ns : List ℕ) (s t : State) → loadSides b ns (ok t) ≡ ok s → t ≡ s
+unfolding loadSides
+load-sides b [] s t e = ok-inj e
+load-sides b (n ∷ ns) s t e = go (choose (hasSide (wrapperOf b) n) (sideFault n (table b n)) (lackFault (table b n))) refl (λ z. load-sides b ns s t z)
   where
-    filter : b .wrapper ≡ 1 → (f : Side → Loaded) → loadSide 1 (b .table1) f ≡ ok s → ((t : Side) → f t ≡ ok s → s ≡ record { one = t; two = noSide }) → wfState b s ≡ true
-    filter w f p h =
-        let a = side-loaded 1 (b .table1) f (ap isOk p) in
-        subst (λ (x : State). wfState b x ≡ true) (sym (h _ (loadSide-ok 1 (b .table1) f s p))) (filter-start b w (a .0) (a .1))
+    go : (r : Res Fault) → choose (hasSide (wrapperOf b) n) (sideFault n (table b n)) (lackFault (table b n)) ≡ r → (loadSides b ns (ok t) ≡ ok s → t ≡ s) → t ≡ s
+    go (refuse k) q ih = ih (rw (q, loadSides) at e)
+    go (done f) q ih = absurd (never (rw (q, loadSides) at e))
 
-    alone : (t : Bool) (x : State) → _≡_ {A = Loaded} (elim t [ true ↦ ok x | false ↦ refused (record { number = 1; side = 2; node = 0 }) ]) (ok s) → s ≡ x
-    alone true x p = sym (ok-inj p)
-    alone false x p = absurd (never p)
+-- the state that load gives
+abbrev pub startState : Composition → State
+startState b = record { sides = map (startOf b) allSides }
 
-    go : (t : Bool) → eqb (b .wrapper) 1 ≡ t → (u : Bool) → eqb (b .wrapper) 2 ≡ u → wfState b s ≡ true
-    go true p u q = filter (eqb-true (b .wrapper) 1 p) _ (rw (p, load) at e) (λ t h. alone (eqb (length (b .table2 .nodes)) 0 & eqb (length (b .table2 .pool)) 0) (record { one = t; two = noSide }) h)
-    go false p false q = absurd (never (rw (p, q, load) at e))
-    go false p true q =
-        let e′ = rw (p, q, load) at e in
-        let a = side-loaded 1 (b .table1) _ (ap isOk e′) in
-        let f = loadSide-ok 1 (b .table1) _ s e′ in
-        let a′ = side-loaded 2 (b .table2) _ (ap isOk f) in
-        subst (λ (x : State). wfState b x ≡ true) (ok-inj (loadSide-ok 2 (b .table2) _ s f)) (pipe-start b (eqb-true (b .wrapper) 2 q) (a .0) (a′ .0) (a .1) (a′ .1))
+pub load-state : (b : Composition) (s : State) → load b ≡ ok s → startState b ≡ s
+unfolding load
+load-state b s e = go (isWrapper (b .wrapper)) refl
+  where
+    go : (t : Bool) → isWrapper (b .wrapper) ≡ t → startState b ≡ s
+    go true q = load-sides b allSides s (startState b) (rw (q, load) at e)
+    go false q = absurd (never (rw (q, load) at e))
+
+start-of : (b : Composition) (n : ℕ) → has n allSides ≡ true → side (startState b) n ≡ startOf b n
+start-of b zero h = absurd (false≢true h)
+start-of b (suc zero) h = refl
+start-of b (suc (suc zero)) h = refl
+start-of b (suc (suc (suc n))) h = let r = positive (suc (suc (suc n))) h in absurd (omega (arith, r .1))
 
 pub starts : (b : Composition) (s : State) → load b ≡ ok s → ready b s ≡ true
-unfolding ready
-starts b s e = both _ _ (rw e) (started b s e)
+unfolding ready wfState wfSideOf
+starts b s e = subst (λ (t : State). isOk (load b) & (eqb (length (t .sides)) 2 & every (wfSideOf b t) allSides) ≡ true) (load-state b s e) (both _ _ (ap isOk e) (both _ _ refl (every-has (wfSideOf b (startState b)) allSides each)))
+  where
+    at : (n : ℕ) → has n allSides ≡ true → (t : Bool) → hasSide (wrapperOf b) n ≡ t →
+        cond t (wfSide (setting b n) (counts (startState b)) (shelfOf (startState b)) (cond t (startSide (start n (table b n))) noSide)) (isNoSide (cond t (startSide (start n (table b n))) noSide)) ≡ true
+    at n h true p =
+        let r = load-checked b (ap isOk e) n p in
+        start-side (setting b n) (counts (startState b)) (shelfOf (startState b)) (r .0) h (count-is (startState b) n ∙ ap (λ (u : Side). u .core .contents .minted) (start-of b n h ∙ ap (λ (t : Bool). cond t (startSide (start n (table b n))) noSide) p)) (r .1)
+    at n h false p = no-side
+
+    each : (n : ℕ) → has n allSides ≡ true → cond (hasSide (wrapperOf b) n) (wfSide (setting b n) (counts (startState b)) (shelfOf (startState b)) (side (startState b) n)) (isNoSide (side (startState b) n)) ≡ true
+    each n h = rw (start-of b n h) (at n h (hasSide (wrapperOf b) n) refl)

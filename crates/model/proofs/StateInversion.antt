@@ -1,25 +1,27 @@
 -- Demand 2, towards the second half: every transition of a state's process is a move of its items, up to a renaming that keeps the known names.
 use mathlib.Core.Path.{_≡_, refl, sym, ap, ap₂, _∙_, subst, fun-ext}
-use mathlib.Core.Bool.{Bool, true, false, cond}
-use mathlib.Core.List.{List, [], _∷_, _++_}
-use mathlib.Core.Option.{none, some}
+use mathlib.Core.Bool.{Bool, true, false, cond, _||_}
+use mathlib.Core.List.{List, [], _∷_, _++_, map}
+use mathlib.Core.Option.{some}
 use Prim.Native.Nat.{ℕ, zero, suc}
 use native.Mathlib.Omega.{arith}
+use borrow.Author.Tests.{eq-eqb}
 use lib.Dec.{eqb}
-use lib.ListN.{length, getD, getElem?, set}
+use lib.ListN.{length, getElem?, set}
 use Rattle.calculus.specs.Syntax.{Proc, ren}
 use Rattle.calculus.specs.Congruence.{_≋_, symm, trans}
-use Rattle.calculus.specs.Transitions.{Label, tau, Participants, one, two, In, Fn⊆, restrict, lnames}
+use Rattle.calculus.specs.Transitions.{Label, tau, Participants, Fn⊆, restrict, lnames}
 use Rattle.calculus.specs.Transitions.{Step as Trans}
 use Rattle.calculus.specs.Parallel.{parallel}
 use Rattle.calculus.specs.Tree.{Place, fill}
 use Rattle.calculus.specs.Tree.{Item, select}
 use Rattle.calculus.specs.Tree.{process}
-use Rattle.model.specs.Basics.{every}
-use Rattle.model.specs.Side.{State, Particle, Message, down, arrived, leaving, Status as SPlace}
-use Rattle.model.specs.Load.{Composition, isPipeline}
+use Rattle.model.specs.Basics.{every, has}
+use Rattle.model.specs.Wrapper.{Wrapper, hasSide}
+use Rattle.model.specs.Side.{State, side, Message, down, arrived, leaving, Status as SPlace}
+use Rattle.model.specs.Load.{Composition, wrapperOf, table}
 use Rattle.model.specs.WellFormed.{counts, wfParticle, ready}
-use Rattle.model.specs.Process.{Mark, numbered, partItem, msgProc, msgItem, shelfItem, shelfItems, sideItems, forwarders, confAs, confOf, newOf, knownOf}
+use Rattle.model.specs.Process.{Mark, numbered, bySide, isGone, partItem, msgProc, msgItem, shelfItem, shelfItems, sideItems, enters, passes, takes, forwarders, confAs, confOf, newOf, knownOf}
 use Rattle.model.specs.Agreement.{Rename, plainly}
 use Rattle.calculus.proofs.Renaming.{ren-ren, ren-id}
 use Rattle.calculus.proofs.Extrusion.{cong-ren, in-news}
@@ -30,12 +32,14 @@ use Rattle.calculus.proofs.Trees.{same}
 use Rattle.calculus.proofs.FreeNames.{eqb-true}
 use Rattle.calculus.proofs.TreeMoves.{Atom, Move, term-moves}
 use Rattle.calculus.proofs.Bags.{item, at, Bag, ritems}
-use Rattle.model.proofs.Tests.{fst, snd, some-inj}
+use Rattle.model.proofs.Tests.{fst, snd, some-inj, or-right, no-some}
+use Rattle.model.proofs.Invariant.{side-ok}
 use Rattle.model.proofs.KnownNames.{All, held-in, low-in}
 use Rattle.model.proofs.ItemFacts.{each-at, part-atom}
-use Rattle.model.proofs.StateTree.{one-ok, two-ok, two-none, one-checked, two-checked, items-each}
+use Rattle.model.proofs.StateTree.{checked-of, items-each}
 use Rattle.model.proofs.ItemMoves.{ids, forget}
 use Rattle.model.proofs.StateMoves.{wf-all, good-all, same-bags}
+use Rattle.model.proofs.MeetTargets.{process-is as process-of}
 
 -- ATOMS: all items are outputs and inputs
 abbrev pub Atoms : {M : Type 0} → List (Item M) → Type 0
@@ -50,9 +54,6 @@ atoms-numbered : {M A : Type 0} (f : A → Bool) (g : ℕ → A → Item M) → 
 atoms-numbered f g h n [] e = tt
 atoms-numbered f g h n (x ∷ l) e = (h n x (fst _ _ e), atoms-numbered f g h (suc n) l (snd _ _ e))
 
-no-some : {A : Type 0} {a : A} → none ≡ some a → ⊥
-no-some e = let z : _≡_ {A = ℕ} 0 1 = cc in omega arith
-
 pub atoms-at : {M : Type 0} (I : List (Item M)) → Atoms I → (k i : ℕ) (P : Proc M []) → getElem? (select I k) i ≡ some P → Atom P
 atoms-at [] h k i P e = absurd (no-some e)
 atoms-at (x ∷ I) h k i P e = go (eqb k (x .site)) i e (atoms-at I (h .1) k)
@@ -63,7 +64,7 @@ atoms-at (x ∷ I) h k i P e = go (eqb k (x .site)) i e (atoms-at I (h .1) k)
     go false i e ih = ih i P e
 
 module _ {M : Type 0} (mk : Mark → M) where
-  msg-atom : (w side i : ℕ) (m : Message) → Atom (msgItem mk w side i m .what)
+  msg-atom : (w : Wrapper) (side i : ℕ) (m : Message) → Atom (msgItem mk w side i m .what)
   msg-atom w side i m = go (m .status)
     where
       go : (p : SPlace) → Atom (msgProc mk w side i p (m .chan) (m .val))
@@ -71,41 +72,39 @@ module _ {M : Type 0} (mk : Mark → M) where
       go arrived = tt
       go leaving = tt
 
-  msgs-atoms : (w side n : ℕ) (l : List Message) → Atoms (numbered (msgItem mk w side) n l)
+  msgs-atoms : (w : Wrapper) (side n : ℕ) (l : List Message) → Atoms (numbered (msgItem mk w side) n l)
   msgs-atoms w side n [] = tt
   msgs-atoms w side n (m ∷ l) = (msg-atom w side n m, msgs-atoms w side (suc n) l)
 
-  shelf-atoms : (tk : List Bool) (i : ℕ) (l : List (List ℕ)) → Atoms (shelfItems mk tk i l)
-  shelf-atoms tk i [] = tt
-  shelf-atoms tk i (v ∷ l) = atoms-app (cond (getD tk i false) [] (shelfItem mk i v ∷ [])) (shelfItems mk tk (suc i) l) (go (getD tk i false)) (shelf-atoms tk (suc i) l)
+  shelf-atoms : (gone : ℕ → Bool) (side i : ℕ) (l : List (List ℕ)) → Atoms (shelfItems mk gone side i l)
+  shelf-atoms gone side i [] = tt
+  shelf-atoms gone side i (v ∷ l) = atoms-app (cond (gone i) [] (shelfItem mk side i v ∷ [])) (shelfItems mk gone side (suc i) l) (go (gone i)) (shelf-atoms gone side (suc i) l)
     where
-      go : (t : Bool) → Atoms (cond t [] (shelfItem mk i v ∷ []))
+      go : (t : Bool) → Atoms (cond t [] (shelfItem mk side i v ∷ []))
       go true = tt
       go false = (tt, tt)
 
-  forwarders-atoms : (t : Bool) (w : ℕ) → Atoms (forwarders mk t w)
-  forwarders-atoms true w = (tt, (tt, (tt, (tt, (tt, tt)))))
-  forwarders-atoms false w = (tt, (tt, tt))
+  atoms-map : {A : Type 0} (f : A → Item M) → ((x : A) → Atom (f x .what)) → (l : List A) → Atoms (map f l)
+  atoms-map f h [] = tt
+  atoms-map f h (x ∷ l) = (h x, atoms-map f h l)
+
+  forwarders-atoms : (w : Wrapper) → Atoms (forwarders mk w)
+  forwarders-atoms w = atoms-app (map (enters mk w) (w .sides)) _ (atoms-map (enters mk w) (λ n. tt) (w .sides)) (atoms-app (map (passes mk w) (w .sides)) _ (atoms-map (passes mk w) (λ n. tt) (w .sides)) (atoms-map (takes mk) (λ r. tt) (w .routes)))
+
+  atoms-by : (f : ℕ → List (Item M)) (ns : List ℕ) → ((n : ℕ) → has n ns ≡ true → Atoms (f n)) → Atoms (bySide f ns)
+  atoms-by f [] h = tt
+  atoms-by f (n ∷ ns) h = atoms-app (f n) (bySide f ns) (h n (ap (λ (t : Bool). t || has n ns) (eq-eqb n n refl))) (atoms-by f ns (λ m q. h m (or-right (eqb m n) (has m ns) q)))
 
   module _ (b : Composition) (s : State) (e : ready b s ≡ true) where
-    z0 : In (All b s) 0
-    z0 = low-in b s 0 (omega arith)
-
-    parts1 : Atoms (numbered (partItem mk (b .table1) 1) 0 (s .one .core .contents .particles))
-    parts1 = atoms-numbered (wfParticle (b .table1) (counts s) (length (s .one .core .contents .boxes))) (partItem mk (b .table1) 1) (part-atom mk (All b s) (counts s) (held-in b s) z0 (b .table1) (one-checked b s e) (length (s .one .core .contents .boxes)) 1) 0 (s .one .core .contents .particles) (one-ok b s e .contents .particles)
-
-    parts2 : Atoms (numbered (partItem mk (b .table2) 2) 0 (s .two .core .contents .particles))
-    parts2 = go (isPipeline b) refl
-      where
-        go : (t : Bool) → isPipeline b ≡ t → Atoms (numbered (partItem mk (b .table2) 2) 0 (s .two .core .contents .particles))
-        go true p = atoms-numbered (wfParticle (b .table2) (counts s) (length (s .two .core .contents .boxes))) (partItem mk (b .table2) 2) (part-atom mk (All b s) (counts s) (held-in b s) z0 (b .table2) (two-checked b s e p) (length (s .two .core .contents .boxes)) 2) 0 (s .two .core .contents .particles) (two-ok b s e p .contents .particles)
-        go false p = subst (λ (l : List Particle). Atoms (numbered (partItem mk (b .table2) 2) 0 l)) (sym (two-none b s e p .0)) tt
+    parts-atoms : (n : ℕ) → hasSide (wrapperOf b) n ≡ true → Atoms (numbered (partItem mk (table b n) n) 0 (side s n .core .contents .particles))
+    parts-atoms n h = atoms-numbered (wfParticle (table b n) (counts s) (length (side s n .core .contents .boxes))) (partItem mk (table b n) n) (part-atom mk (All b s) (counts s) (held-in b s) (low-in b s 0 (omega arith)) (table b n) (checked-of b s e n h) (length (side s n .core .contents .boxes)) n) 0 (side s n .core .contents .particles) (side-ok b s e n h .contents .particles)
 
     pub items-atoms : Atoms (confAs mk b s .items)
     unfolding confAs
-    items-atoms = atoms-app (forwarders mk (isPipeline b) (b .wrapper)) _ (forwarders-atoms (isPipeline b) (b .wrapper)) (atoms-app (shelfItems mk (s .two .core .taken) 0 (s .one .core .shelf)) _ (shelf-atoms (s .two .core .taken) 0 (s .one .core .shelf))
-        (atoms-app (sideItems mk (b .wrapper) 1 (b .table1) (s .one .core)) _ (atoms-app (numbered (msgItem mk (b .wrapper) 1) 0 (s .one .core .lobby)) _ (msgs-atoms (b .wrapper) 1 0 (s .one .core .lobby)) parts1)
-        (atoms-app (numbered (msgItem mk (b .wrapper) 2) 0 (s .two .core .lobby)) _ (msgs-atoms (b .wrapper) 2 0 (s .two .core .lobby)) parts2)))
+    items-atoms = atoms-app (forwarders mk (wrapperOf b)) _ (forwarders-atoms (wrapperOf b))
+        (atoms-app (bySide (λ n. shelfItems mk (isGone s n) n 0 (side s n .core .shelf)) (wrapperOf b .sides)) _ (atoms-by _ (wrapperOf b .sides) (λ n h. shelf-atoms (isGone s n) n 0 (side s n .core .shelf)))
+        (atoms-by (λ n. sideItems mk (wrapperOf b) n (table b n) (side s n .core)) (wrapperOf b .sides)
+        (λ n h. atoms-app (numbered (msgItem mk (wrapperOf b) n) 0 (side s n .core .lobby)) _ (msgs-atoms (wrapperOf b) n 0 (side s n .core .lobby)) (parts-atoms n h))))
 
 -- an element of what stands at a site is an item of the list
 pub record ItemAt {M : Type 0} (I : List (Item M)) (k i : ℕ) (P : Proc M []) : Type 0 where
@@ -149,10 +148,6 @@ target-of {N = N} {R = R} {l = l} v =
 
 abbrev pub rename-of : {M : Type 0} {N A : List ℕ} {P R : Proc M []} {l : Label} {w : Participants M} → RestrictInv N A P R l w → Rename A
 rename-of v = record { to = v .perm .to; back = v .perm .back; to-back = v .perm .to-back; back-to = v .perm .back-to; keeps = v .keeps }
-
-process-of : (b : Composition) (t : State) → process (confOf b t) ≡ restrict (newOf b t) (fill (confOf b t .boxes) (at (confOf b t .items)))
-unfolding process confAs
-process-of b t = refl
 
 -- every transition of a state's process, as a move of its items
 module _ (b : Composition) (s : State) (e : ready b s ≡ true) where

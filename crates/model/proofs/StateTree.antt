@@ -1,183 +1,184 @@
 -- A well-formed state's boxes and items, whole; and its process with the marks forgotten.
 use mathlib.Core.Path.{_≡_, refl, sym, ap, ap₂, _∙_, subst}
-use mathlib.Core.Bool.{Bool, true, false, cond, false≢true}
-use mathlib.Core.List.{List, [], _∷_, _++_}
-use mathlib.Core.Logic.{_⊎_, inl, inr}
+use mathlib.Core.Bool.{Bool, true, false, cond, _||_, false≢true}
+use mathlib.Core.List.{List, [], _∷_, _++_, map}
+use mathlib.Core.Logic.{_⊎_, inl, inr, ⊎-elim}
 use Prim.Native.Nat.{ℕ, suc, _+_, _<_, _≤_}
 use native.Mathlib.Omega.{arith}
-use borrow.Author.Tests.{leb-true, eqb-true, ne-eqb}
-use lib.Dec.{eqb, T}
-use lib.ListN.{length, getD, drop}
+use borrow.Author.Tests.{eqb-true, eq-eqb, ne-eqb}
+use lib.Dec.{eqb}
+use lib.ListN.{length}
 use Rattle.calculus.specs.Syntax.{AllN, Proc, Scope, var, remark, theName, iren}
 use Rattle.calculus.specs.Syntax.{par as ppar, box as pbox, new as pnew, inp as pinp}
-use Rattle.calculus.specs.Transitions.{mem, In, restrict}
-use Rattle.calculus.specs.Tree.{Place, fill}
+use Rattle.calculus.specs.Transitions.{Fn⊆}
+use Rattle.calculus.specs.Tree.{Place}
 use Rattle.calculus.specs.Tree.{Item}
-use Rattle.calculus.specs.Tree.{process}
 use Rattle.calculus.specs.Named.{proc, Code, cnil, cpar, cbox, cnew, cout, cinp, named, shape, underPat}
 use Rattle.calculus.specs.Named.{Env as CEnv}
-use Rattle.calculus.specs.Wrappers.{inName, outName}
 use Rattle.model.specs.Table.{Table, term}
-use Rattle.model.specs.Side.{Particle, output, input, Box, Message, down, arrived, leaving, Core, State, Status as SPlace}
-use Rattle.model.specs.Load.{Composition, setting1, setting2, isPipeline, load, isOk}
-use Rattle.model.specs.WellFormed.{shelves, counts, wfParticle, wfMessage, wfState, wfSide, isNoSide, wfTaken, clear, ready}
-use Rattle.model.specs.Process.{Mark, part, lobby, shelf, ownName, siteOf, inwards, outwards, codeOf, envOf, numbered, partItem, msgProc, msgItem, shelfItem, shelfItems, sideItems, forwarders, placesOf, ownNames, confAs}
-use Rattle.calculus.proofs.Trees.{Reach}
-use Rattle.calculus.proofs.Marks.{remark-news}
-use Rattle.calculus.proofs.Bags.{at, ritem, ritems, ritems-app, rplaces, remark-bag}
-use Rattle.model.proofs.Tests.{fst, snd, cond-true}
-use Rattle.model.proofs.Growing.{CoreOk, core-ok}
+use Rattle.model.specs.Side.{Particle, output, input, Message, down, arrived, leaving, Core, State, side, Status as SPlace}
+use Rattle.model.specs.Basics.{_&_, every, has}
+use Rattle.model.specs.Wrapper.{Wrapper, Route, described, hasSide, shelves}
+use Rattle.model.specs.Load.{Composition, wrapperOf, table, setting}
+use Rattle.model.specs.WellFormed.{counts, wfParticle, wfMessage, ready}
+use Rattle.model.specs.Process.{Mark, part, lobby, shelf, siteOf, codeOf, envOf, numbered, bySide, partItem, msgProc, msgItem, shelfItem, shelfItems, sideItems, enters, passes, takes, forwarders, isGone, placesOf, allPlaces, confAs}
+use Rattle.calculus.proofs.Trees.{Wf, Behind, Reach}
+use Rattle.calculus.proofs.Moves.{Rooted}
+use Rattle.calculus.proofs.Bags.{ritem, ritems, ritems-app, rplaces}
+use Rattle.model.proofs.Tests.{fst, snd, both, or-cases, or-right, or-none, or-first}
 use Rattle.model.proofs.Checked.{Checked}
-use Rattle.model.proofs.Invariant.{load-checked}
-use Rattle.model.proofs.KnownNames.{All, held-in, low-in, own-in, outer-in}
+use Rattle.model.proofs.Invariant.{loaded, load-checked, which, positive, side-ok, few-minted}
+use Rattle.model.proofs.KnownNames.{All, Distinct, held-in, low-in, own-in, sides-distinct}
 use Rattle.model.proofs.Boxes.{Tree, grown, behind-other, reach-other, places-marks}
 use Rattle.model.proofs.ItemFacts.{Each, each-app, each-numbered, part-in, msg-in, shelf-in}
 
-empty : {A : Type 0} (l : List A) → eqb (length l) 0 ≡ true → l ≡ []
-empty [] e = refl
-empty (x ∷ l) e = let z = eqb-true (suc (length l)) 0 e in absurd (omega arith)
+and-false : (a b : Bool) → a ≡ false → b ≡ false → a || b ≡ false
+and-false a b p q = rw (p, q)
 
-cond-false : (t a b : Bool) → t ≡ false → cond t a b ≡ true → b ≡ true
-cond-false true a b e h = absurd (false≢true (sym e))
-cond-false false a b e h = h
+-- routes go between sides of the wrapper
+pub routes-in : (w : ℕ) → every (λ r. hasSide (described w) (r .source) & hasSide (described w) (r .receiver)) (described w .routes) ≡ true
+routes-in w = go (eqb w 1) (eqb w 2)
+  where
+    go : (t u : Bool) → (let d = cond t (described 1) (cond u (described 2) (described 0)) in every (λ r. hasSide d (r .source) & hasSide d (r .receiver)) (d .routes) ≡ true)
+    go true u = refl
+    go false true = both _ _ (both _ _ refl refl) refl
+    go false false = refl
 
 module _ (b : Composition) (s : State) (e : ready b s ≡ true) where
-  pub wf-of : wfState b s ≡ true
-  unfolding ready
-  wf-of = snd _ _ e
+  pub checked-of : (n : ℕ) → hasSide (wrapperOf b) n ≡ true → Checked (table b n)
+  checked-of n h = load-checked b (loaded b s e) n h .0
 
-  pub loaded-of : isOk (load b) ≡ true
-  unfolding ready
-  loaded-of = fst _ _ e
+  pub few : (n : ℕ) → side s n .core .contents .minted ≤ 256
+  few n = few-minted b s e n
 
-  pub one-ok : CoreOk (setting1 b) (counts s) (s .one .core)
-  unfolding wfState wfSide
-  one-ok = core-ok (setting1 b) (counts s) (s .one .core) (fst _ _ (fst _ _ wf-of))
-
-  pub one-checked : Checked (b .table1)
-  one-checked = load-checked b loaded-of .0
-
-  pub two-ok : isPipeline b ≡ true → CoreOk (setting2 b) (counts s) (s .two .core)
-  unfolding wfState wfSide
-  two-ok p = core-ok (setting2 b) (counts s) (s .two .core) (fst _ _ (cond-true (isPipeline b) (wfSide (setting2 b) (counts s) (s .two)) (isNoSide (s .two)) p (snd _ _ (snd _ _ wf-of))))
-
-  pub two-checked : isPipeline b ≡ true → Checked (b .table2)
-  two-checked p = load-checked b loaded-of .1 p
-
-  pub two-none : isPipeline b ≡ false → (s .two .core .contents .particles ≡ []) × (s .two .core .contents .boxes ≡ []) × (s .two .core .lobby ≡ []) × (s .two .core .contents .minted ≡ 0)
-  unfolding wfState isNoSide
-  two-none p =
-      let n = cond-false (isPipeline b) (wfSide (setting2 b) (counts s) (s .two)) (isNoSide (s .two)) p (snd _ _ (snd _ _ wf-of)) in
-      (empty _ (fst _ _ n), empty _ (fst _ _ (snd _ _ n)), empty _ (fst _ _ (snd _ _ (snd _ _ (snd _ _ n)))), eqb-true _ 0 (fst _ _ (snd _ _ (snd _ _ n))))
-
-  pub taken-clear : clear (drop (length (s .one .core .shelf)) (s .two .core .taken)) ≡ true
-  unfolding wfState wfTaken
-  taken-clear = snd _ _ (fst _ _ (snd _ _ wf-of))
-
-  pub few-one : s .one .core .contents .minted ≤ 256
-  few-one = leb-true (s .one .core .contents .minted) 256 (snd _ _ (snd _ _ (one-ok .contents .few)))
-
-  pub own1-in : In (All b s) (ownName 1)
-  own1-in = own-in b s 70 (go (isPipeline b))
+  -- a side's channels towards the environment
+  pub outlet-low : (n : ℕ) → hasSide (wrapperOf b) n ≡ true → wrapperOf b .outlet n < 81
+  outlet-low n h = go (eqb (b .wrapper) 1) (eqb (b .wrapper) 2)
     where
-      go : (t : Bool) → T (mem 70 (ownNames t))
-      go true = tt
-      go false = tt
+      go : (t u : Bool) → cond t (described 1) (cond u (described 2) (described 0)) .outlet n < 81
+      go true u = omega arith
+      go false true = omega (arith, positive n (which (b .wrapper) n h) .1)
+      go false false = omega arith
 
-  pub own2-in : isPipeline b ≡ true → In (All b s) (ownName 2)
-  own2-in p = own-in b s 71 (subst (λ (t : Bool). T (mem 71 (ownNames t))) (sym p) tt)
-
-  pub outwards-in : (side : ℕ) → (side ≡ 1) ⊎ (side ≡ 2) → In (All b s) (outwards (b .wrapper) side)
-  outwards-in side h = go (eqb (b .wrapper) 1) h
+  pub inlet-low : (n : ℕ) → hasSide (wrapperOf b) n ≡ true → wrapperOf b .inlet n < 81
+  inlet-low n h = go (eqb (b .wrapper) 1) (eqb (b .wrapper) 2)
     where
-      go : (t : Bool) → (side ≡ 1) ⊎ (side ≡ 2) → In (All b s) (elim t as (λ b. ℕ) [ true ↦ outName | false ↦ 66 + side ])
-      go true h = low-in b s 1 (omega arith)
-      go false (inl q) = outer-in b s (66 + side) (subst (λ (n : ℕ). T (mem (66 + n) (65 ∷ 66 ∷ 67 ∷ 68 ∷ []))) (sym q) tt)
-      go false (inr q) = outer-in b s (66 + side) (subst (λ (n : ℕ). T (mem (66 + n) (65 ∷ 66 ∷ 67 ∷ 68 ∷ []))) (sym q) tt)
-
-  pub inwards-in : (side : ℕ) → (side ≡ 1) ⊎ (side ≡ 2) → In (All b s) (inwards (b .wrapper) side)
-  inwards-in side h = go (eqb (b .wrapper) 1) h
-    where
-      go : (t : Bool) → (side ≡ 1) ⊎ (side ≡ 2) → In (All b s) (elim t as (λ b. ℕ) [ true ↦ inName | false ↦ 64 + side ])
-      go true h = low-in b s 0 (omega arith)
-      go false (inl q) = outer-in b s (64 + side) (subst (λ (n : ℕ). T (mem (64 + n) (65 ∷ 66 ∷ 67 ∷ 68 ∷ []))) (sym q) tt)
-      go false (inr q) = outer-in b s (64 + side) (subst (λ (n : ℕ). T (mem (64 + n) (65 ∷ 66 ∷ 67 ∷ 68 ∷ []))) (sym q) tt)
+      go : (t u : Bool) → cond t (described 1) (cond u (described 2) (described 0)) .inlet n < 81
+      go true u = omega arith
+      go false true = omega (arith, positive n (which (b .wrapper) n h) .1)
+      go false false = omega arith
 
   module _ {M : Type 0} (mk : Mark → M) where
-    tree-none : Tree mk (All b s) (counts s) (held-in b s) 1 0 []
-    tree-none = record { wf = tt; rooted = tt; behind = λ n l. tt; reach = λ p l. absurd (omega arith); root = refl }
+    -- boxes so far, of the sides ns
+    pub record Placed (ns : List ℕ) (acc : List (Place M)) : Type 0 where
+      pub wf : Wf (All b s) acc
+      pub rooted : Rooted acc
+      pub root : Reach acc 0
+      pub fresh : (m : ℕ) → 1 ≤ m → m ≤ 8 → has m ns ≡ false → (n : ℕ) → Behind (siteOf m n) acc
+      pub reach : (m : ℕ) → 1 ≤ m → m ≤ 8 → has m ns ≡ true → (p : ℕ) → p < length (side s m .core .contents .boxes) → Reach acc (siteOf m p)
 
-    pub tree1 : Tree mk (All b s) (counts s) (held-in b s) 1 (length (s .one .core .contents .boxes)) (placesOf mk 1 0 (s .one .core .contents .boxes) [])
-    tree1 = subst (λ (n : ℕ). Tree mk (All b s) (counts s) (held-in b s) 1 n (placesOf mk 1 0 (s .one .core .contents .boxes) [])) (omega arith)
-        (grown mk (All b s) (counts s) (held-in b s) 1 (omega arith) own1-in 0 (s .one .core .contents .boxes) [] (one-ok .contents .boxes) tree-none)
+    sites-apart : (m n i j : ℕ) → 1 ≤ m → m ≤ 8 → 1 ≤ n → n ≤ 8 → (m ≡ n → ⊥) → eqb (siteOf m i) (siteOf n j) ≡ false
+    sites-apart m n i j a c x y h = ne-eqb (siteOf m i) (siteOf n j) (λ q. h (omega (arith, a, c, x, y, q)))
 
-    sides-apart : (i j : ℕ) → eqb (siteOf 2 i) (siteOf 1 j) ≡ false
-    sides-apart i j = ne-eqb (siteOf 2 i) (siteOf 1 j) (λ q. omega arith)
-
-    tree12 : Tree mk (All b s) (counts s) (held-in b s) 2 0 (placesOf mk 1 0 (s .one .core .contents .boxes) [])
-    tree12 = record {
-      wf = tree1 .wf;
-      rooted = tree1 .rooted;
-      behind = λ n l. behind-other mk (All b s) (counts s) (held-in b s) (siteOf 2 n) 1 (ne-eqb (siteOf 2 n) 0 (λ q. omega arith)) (sides-apart n) 0 (s .one .core .contents .boxes) [] tt;
-      reach = λ p l. absurd (omega arith);
-      root = tree1 .root;
-    }
-
-    abbrev pub boxesOf : List (Place M)
-    boxesOf = placesOf mk 2 0 (s .two .core .contents .boxes) (placesOf mk 1 0 (s .one .core .contents .boxes) [])
-
-    pub tree2 : Tree mk (All b s) (counts s) (held-in b s) 2 (length (s .two .core .contents .boxes)) boxesOf
-    tree2 = go (isPipeline b) refl
+    place-side : (n : ℕ) → hasSide (wrapperOf b) n ≡ true → (ns : List ℕ) (acc : List (Place M)) → has n ns ≡ false → Placed ns acc → Placed (n ∷ ns) (placesOf mk n 0 (side s n .core .contents .boxes) acc)
+    place-side n h ns acc f p =
+        let a = positive n (which (b .wrapper) n h) in
+        let bs = side s n .core .contents .boxes in
+        let start : Tree mk (All b s) (counts s) (held-in b s) n 0 acc = record { wf = p .wf; rooted = p .rooted; behind = λ i l. p .fresh n (a .0) (omega (arith, a .1)) f i; reach = λ i l. absurd (omega arith); root = p .root } in
+        let t = grown mk (All b s) (counts s) (held-in b s) n (a .0) (own-in b s n h) 0 bs acc (side-ok b s e n h .contents .boxes) start in
+        record {
+          wf = t .wf;
+          rooted = t .rooted;
+          root = t .root;
+          fresh = λ m x y q i. behind-other mk (All b s) (counts s) (held-in b s) (siteOf m i) n (ne-eqb (siteOf m i) 0 (λ z. omega (arith, x, z))) (λ j. sites-apart m n i j x y (a .0) (omega (arith, a .1)) (other m q)) 0 bs acc (p .fresh m x y (or-none (eqb m n) (has m ns) q .1) i);
+          reach = λ m x y q i l. ⊎-elim
+              (λ z. let w : n ≡ m = sym (eqb-true m n z) in subst (λ (k : ℕ). i < length (side s k .core .contents .boxes) → Reach (placesOf mk n 0 bs acc) (siteOf k i)) w (λ u. t .reach i (omega (arith, u))) l)
+              (λ z. apart-reach m x y z i l (eqb m n) refl (t .reach))
+              (or-cases (eqb m n) (has m ns) q);
+        }
       where
-        go : (t : Bool) → isPipeline b ≡ t → Tree mk (All b s) (counts s) (held-in b s) 2 (length (s .two .core .contents .boxes)) (placesOf mk 2 0 (s .two .core .contents .boxes) (placesOf mk 1 0 (s .one .core .contents .boxes) []))
-        go true p = subst (λ (n : ℕ). Tree mk (All b s) (counts s) (held-in b s) 2 n boxesOf) (omega arith)
-            (grown mk (All b s) (counts s) (held-in b s) 2 (omega arith) (own2-in p) 0 (s .two .core .contents .boxes) (placesOf mk 1 0 (s .one .core .contents .boxes) []) (two-ok p .contents .boxes) tree12)
-        go false p = subst (λ (l : List Box). Tree mk (All b s) (counts s) (held-in b s) 2 (length l) (placesOf mk 2 0 l (placesOf mk 1 0 (s .one .core .contents .boxes) []))) (sym (two-none p .1)) tree12
+        other : (m : ℕ) → eqb m n || has m ns ≡ false → (m ≡ n → ⊥)
+        other m q z = false≢true (sym (or-none (eqb m n) (has m ns) q .0) ∙ eq-eqb m n z)
 
-    pub reach1 : (p : ℕ) → p < length (s .one .core .contents .boxes) → Reach boxesOf (siteOf 1 p)
-    reach1 p l = reach-other mk (All b s) (counts s) (held-in b s) (siteOf 1 p) 2 (λ j. ne-eqb (siteOf 1 p) (siteOf 2 j) (λ q. omega arith)) 0 (s .two .core .contents .boxes) (placesOf mk 1 0 (s .one .core .contents .boxes) []) (tree1 .reach p l)
+        apart-reach : (m : ℕ) → 1 ≤ m → m ≤ 8 → has m ns ≡ true → (i : ℕ) → i < length (side s m .core .contents .boxes) → (u : Bool) → eqb m n ≡ u → ((i : ℕ) → i < 0 + length (side s n .core .contents .boxes) → Reach (placesOf mk n 0 (side s n .core .contents .boxes) acc) (siteOf n i)) → Reach (placesOf mk n 0 (side s n .core .contents .boxes) acc) (siteOf m i)
+        apart-reach m x y z i l true q r = absurd (false≢true (sym f ∙ ap (λ (k : ℕ). has k ns) (sym (eqb-true m n q)) ∙ z))
+        apart-reach m x y z i l false q r =
+            let a = positive n (which (b .wrapper) n h) in
+            reach-other mk (All b s) (counts s) (held-in b s) (siteOf m i) n (λ j. sites-apart m n i j x y (a .0) (omega (arith, a .1)) (λ w. false≢true (sym q ∙ eq-eqb m n w))) 0 (side s n .core .contents .boxes) acc (p .reach m x y z i l)
+
+    -- all sides of the wrapper
+    place-all : (rest ns : List ℕ) (acc : List (Place M)) → ((n : ℕ) → has n rest ≡ true → hasSide (wrapperOf b) n ≡ true) → Distinct rest → ((n : ℕ) → has n rest ≡ true → has n ns ≡ false) → Placed ns acc →
+        (ms : List ℕ) × Placed ms (allPlaces mk s rest acc) × ((n : ℕ) → (has n rest ≡ true) ⊎ (has n ns ≡ true) → has n ms ≡ true)
+    place-all [] ns acc h d f p = (ns, p, λ n q. ⊎-elim (λ z. absurd (false≢true z)) (λ z. z) q)
+    place-all (m ∷ rest) ns acc h d f p =
+        let here : has m (m ∷ rest) ≡ true = or-first (eqb m m) (has m rest) (eq-eqb m m refl) in
+        let r = place-all rest (m ∷ ns) (placesOf mk m 0 (side s m .core .contents .boxes) acc) (λ n q. h n (or-right (eqb n m) (has n rest) q)) (d .1)
+        (λ n q. and-false (eqb n m) (has n ns) (not-same n q) (f n (or-right (eqb n m) (has n rest) q))) (place-side m (h m here) ns acc (f m here) p) in
+        (r .0, r .1, λ n q. r .2 n (⊎-elim (λ z. ⊎-elim (λ w. inr (or-first (eqb n m) (has n ns) w)) (λ w. inl w) (or-cases (eqb n m) (has n rest) z)) (λ z. inr (or-right (eqb n m) (has n ns) z)) q))
+      where
+        not-same : (n : ℕ) → has n rest ≡ true → eqb n m ≡ false
+        not-same n q = ne-eqb n m (λ z. d .0 (subst (λ (k : ℕ). has k rest ≡ true) z q))
+
+    pub boxesOf : List (Place M)
+    boxesOf = allPlaces mk s (wrapperOf b .sides) []
+
+    -- any order of sides
+    pub placed-for : (ns : List ℕ) → ((n : ℕ) → has n ns ≡ true → hasSide (wrapperOf b) n ≡ true) → Distinct ns → (ms : List ℕ) × Placed ms (allPlaces mk s ns []) × ((n : ℕ) → (has n ns ≡ true) ⊎ (has n [] ≡ true) → has n ms ≡ true)
+    placed-for ns h d = place-all ns [] [] h d (λ n q. refl) (record { wf = tt; rooted = tt; root = refl; fresh = λ m x y q n. tt; reach = λ m x y q p l. absurd (false≢true q) })
+
+    placed : (ms : List ℕ) × Placed ms boxesOf × ((n : ℕ) → (hasSide (wrapperOf b) n ≡ true) ⊎ (has n [] ≡ true) → has n ms ≡ true)
+    unfolding boxesOf
+    placed = place-all (wrapperOf b .sides) [] [] (λ n q. q) (sides-distinct (b .wrapper)) (λ n q. refl) (record { wf = tt; rooted = tt; root = refl; fresh = λ m x y q n. tt; reach = λ m x y q p l. absurd (false≢true q) })
+
+    pub wf-boxes : Wf (All b s) (confAs mk b s .boxes)
+    unfolding confAs boxesOf
+    wf-boxes = placed .1 .wf
+
+    pub rooted-boxes : Rooted (confAs mk b s .boxes)
+    unfolding confAs boxesOf
+    rooted-boxes = placed .1 .rooted
+
+    pub root-boxes : Reach (confAs mk b s .boxes) 0
+    unfolding confAs boxesOf
+    root-boxes = placed .1 .root
+
+    pub reach-boxes : (n : ℕ) → hasSide (wrapperOf b) n ≡ true → (p : ℕ) → p < length (side s n .core .contents .boxes) → Reach (confAs mk b s .boxes) (siteOf n p)
+    unfolding confAs boxesOf
+    reach-boxes n h p l = let a = positive n (which (b .wrapper) n h) in placed .1 .reach n (a .0) (omega (arith, a .1)) (placed .2 n (inl h)) p l
 
     -- the items
-    pub side1-each : Each (All b s) (sideItems mk (b .wrapper) 1 (b .table1) (s .one .core))
-    side1-each = each-app (All b s) (numbered (msgItem mk (b .wrapper) 1) 0 (s .one .core .lobby)) (numbered (partItem mk (b .table1) 1) 0 (s .one .core .contents .particles))
-        (each-numbered (All b s) (wfMessage (shelves (setting1 b)) (counts s)) (msgItem mk (b .wrapper) 1) (msg-in mk (All b s) (counts s) (held-in b s) (low-in b s 0 (omega arith)) (b .wrapper) 1 (shelves (setting1 b)) own1-in (outwards-in 1 (inl refl))) 0 (s .one .core .lobby) (one-ok .lobby))
-        (each-numbered (All b s) (wfParticle (b .table1) (counts s) (length (s .one .core .contents .boxes))) (partItem mk (b .table1) 1) (part-in mk (All b s) (counts s) (held-in b s) (low-in b s 0 (omega arith)) (b .table1) one-checked (length (s .one .core .contents .boxes)) 1) 0 (s .one .core .contents .particles) (one-ok .contents .particles))
+    pub side-each : (n : ℕ) → hasSide (wrapperOf b) n ≡ true → Each (All b s) (sideItems mk (wrapperOf b) n (table b n) (side s n .core))
+    side-each n h =
+        let o = side-ok b s e n h in
+        let c = setting b n in
+        each-app (All b s) (numbered (msgItem mk (wrapperOf b) n) 0 (side s n .core .lobby)) (numbered (partItem mk (table b n) n) 0 (side s n .core .contents .particles))
+        (each-numbered (All b s) (wfMessage (shelves (c .wrapper) (c .side)) (counts s)) (msgItem mk (wrapperOf b) n) (msg-in mk (All b s) (counts s) (held-in b s) (low-in b s 0 (omega arith)) (wrapperOf b) n (shelves (c .wrapper) (c .side)) (own-in b s n h) (low-in b s _ (outlet-low n h))) 0 (side s n .core .lobby) (o .lobby))
+        (each-numbered (All b s) (wfParticle (table b n) (counts s) (length (side s n .core .contents .boxes))) (partItem mk (table b n) n) (part-in mk (All b s) (counts s) (held-in b s) (low-in b s 0 (omega arith)) (table b n) (checked-of n h) (length (side s n .core .contents .boxes)) n) 0 (side s n .core .contents .particles) (o .contents .particles))
 
-    pub side2-each : Each (All b s) (sideItems mk (b .wrapper) 2 (b .table2) (s .two .core))
-    side2-each = go (isPipeline b) refl
-      where
-        go : (t : Bool) → isPipeline b ≡ t → Each (All b s) (sideItems mk (b .wrapper) 2 (b .table2) (s .two .core))
-        go true p = each-app (All b s) (numbered (msgItem mk (b .wrapper) 2) 0 (s .two .core .lobby)) (numbered (partItem mk (b .table2) 2) 0 (s .two .core .contents .particles))
-            (each-numbered (All b s) (wfMessage (shelves (setting2 b)) (counts s)) (msgItem mk (b .wrapper) 2) (msg-in mk (All b s) (counts s) (held-in b s) (low-in b s 0 (omega arith)) (b .wrapper) 2 (shelves (setting2 b)) (own2-in p) (outwards-in 2 (inr refl))) 0 (s .two .core .lobby) (two-ok p .lobby))
-            (each-numbered (All b s) (wfParticle (b .table2) (counts s) (length (s .two .core .contents .boxes))) (partItem mk (b .table2) 2) (part-in mk (All b s) (counts s) (held-in b s) (low-in b s 0 (omega arith)) (b .table2) (two-checked p) (length (s .two .core .contents .boxes)) 2) 0 (s .two .core .contents .particles) (two-ok p .contents .particles))
-        go false p = let n = two-none p in
-            subst (λ (l : List Message). Each (All b s) (numbered (msgItem mk (b .wrapper) 2) 0 l ++ numbered (partItem mk (b .table2) 2) 0 (s .two .core .contents .particles))) (sym (n .2))
-            (subst (λ (l : List Particle). Each (All b s) (numbered (partItem mk (b .table2) 2) 0 l)) (sym (n .0)) tt)
+    pub shelf-each : (n : ℕ) → hasSide (wrapperOf b) n ≡ true → Each (All b s) (shelfItems mk (isGone s n) n 0 (side s n .core .shelf))
+    shelf-each n h = shelf-in mk (All b s) (counts s) (held-in b s) (low-in b s 0 (omega arith)) n (low-in b s 2 (omega arith)) (own-in b s n h) (isGone s n) 0 (side s n .core .shelf) (side-ok b s e n h .shelf)
 
-    pub shelf-each : Each (All b s) (shelfItems mk (s .two .core .taken) 0 (s .one .core .shelf))
-    shelf-each = shelf-in mk (All b s) (counts s) (held-in b s) (low-in b s 0 (omega arith)) (low-in b s 2 (omega arith)) own1-in (s .two .core .taken) 0 (s .one .core .shelf) (one-ok .shelf)
+    each-by : (f : ℕ → List (Item M)) (ns : List ℕ) → ((n : ℕ) → has n ns ≡ true → Each (All b s) (f n)) → Each (All b s) (bySide f ns)
+    each-by f [] h = tt
+    each-by f (n ∷ ns) h = each-app (All b s) (f n) (bySide f ns) (h n (or-first (eqb n n) (has n ns) (eq-eqb n n refl))) (each-by f ns (λ m q. h m (or-right (eqb m n) (has m ns) q)))
 
-    pub forwarders-each : Each (All b s) (forwarders mk (isPipeline b) (b .wrapper))
+    each-map : (f : ℕ → Item M) (ns : List ℕ) → ((n : ℕ) → has n ns ≡ true → Fn⊆ (f n .what) (All b s)) → Each (All b s) (map f ns)
+    each-map f [] h = tt
+    each-map f (n ∷ ns) h = (h n (or-first (eqb n n) (has n ns) (eq-eqb n n refl)), each-map f ns (λ m q. h m (or-right (eqb m n) (has m ns) q)))
+
+    each-routes : (rs : List Route) → every (λ r. hasSide (wrapperOf b) (r .source) & hasSide (wrapperOf b) (r .receiver)) rs ≡ true → Each (All b s) (map (takes mk) rs)
     unfolding AllN
-    forwarders-each = go (isPipeline b) refl
-      where
-        z0 : In (All b s) 0
-        z0 = low-in b s 0 (omega arith)
+    each-routes [] h = tt
+    each-routes (r ∷ rs) h = ((low-in b s 2 (omega arith), own-in b s (r .source) (fst _ _ (fst _ _ h)), (low-in b s 2 (omega arith), own-in b s (r .receiver) (snd _ _ (fst _ _ h)), tt)), each-routes rs (snd _ _ h))
 
-        z1 : In (All b s) 1
-        z1 = low-in b s 1 (omega arith)
-
-        z2 : In (All b s) 2
-        z2 = low-in b s 2 (omega arith)
-
-        go : (t : Bool) → isPipeline b ≡ t → Each (All b s) (forwarders mk t (b .wrapper))
-        go true p = ((inwards-in 1 (inl refl), tt, (z0, own1-in, tt)), ((inwards-in 2 (inr refl), tt, (z0, own2-in p, tt)), ((z1, own1-in, (outwards-in 1 (inl refl), tt, tt)), ((z1, own2-in p, (outwards-in 2 (inr refl), tt, tt)), ((z2, own1-in, (z2, own2-in p, tt)), tt)))))
-        go false p = ((inwards-in 1 (inl refl), tt, (z0, own1-in, tt)), ((z1, own1-in, (outwards-in 1 (inl refl), tt, tt)), tt))
+    pub forwarders-each : Each (All b s) (forwarders mk (wrapperOf b))
+    unfolding AllN
+    forwarders-each = each-app (All b s) (map (enters mk (wrapperOf b)) (wrapperOf b .sides)) _ (each-map (enters mk (wrapperOf b)) (wrapperOf b .sides) (λ n h. (low-in b s _ (inlet-low n h), tt, (low-in b s 0 (omega arith), own-in b s n h, tt))))
+        (each-app (All b s) (map (passes mk (wrapperOf b)) (wrapperOf b .sides)) _ (each-map (passes mk (wrapperOf b)) (wrapperOf b .sides) (λ n h. (low-in b s 1 (omega arith), own-in b s n h, (low-in b s _ (outlet-low n h), tt, tt)))) (each-routes (wrapperOf b .routes) (routes-in (b .wrapper))))
 
     pub items-each : Each (All b s) (confAs mk b s .items)
     unfolding confAs
-    items-each = each-app (All b s) (forwarders mk (isPipeline b) (b .wrapper)) _ forwarders-each (each-app (All b s) (shelfItems mk (s .two .core .taken) 0 (s .one .core .shelf)) _ shelf-each
-        (each-app (All b s) (sideItems mk (b .wrapper) 1 (b .table1) (s .one .core)) _ side1-each side2-each))
+    items-each = each-app (All b s) (forwarders mk (wrapperOf b)) _ forwarders-each (each-app (All b s) (bySide (λ n. shelfItems mk (isGone s n) n 0 (side s n .core .shelf)) (wrapperOf b .sides)) _ (each-by _ (wrapperOf b .sides) shelf-each) (each-by _ (wrapperOf b .sides) side-each))
 
 -- the marks forgotten, or changed
 pub remark-proc : {M U : Type 0} (h : M → U) (s : Scope) (t : M) (c : Code) (ρ : CEnv s) → remark h (proc s t c ρ) ≡ proc s (h t) c ρ
@@ -195,7 +196,7 @@ module _ {M U : Type 0} (mk : Mark → M) (h : M → U) where
   part-marks T side i (output b c g v) = refl
   part-marks T side i (input b n vs) = ap (λ (P : Proc U []). record { site = siteOf side b; what = P }) (remark-proc h [] (mk (part side i)) (codeOf (term T n)) (envOf (Rattle.model.specs.WellFormed.envAt T n vs)))
 
-  pub msg-marks : (w side i : ℕ) (m : Message) → ritem h (msgItem mk w side i m) ≡ msgItem (λ m. h (mk m)) w side i m
+  pub msg-marks : (w : Wrapper) (side i : ℕ) (m : Message) → ritem h (msgItem mk w side i m) ≡ msgItem (λ m. h (mk m)) w side i m
   unfolding remark
   msg-marks w side i m = ap (λ (P : Proc U []). record { site = 0; what = P }) (go (m .status))
     where
@@ -208,41 +209,43 @@ module _ {M U : Type 0} (mk : Mark → M) (h : M → U) where
   numbered-marks f g e n [] = refl
   numbered-marks f g e n (x ∷ l) = ap₂ (λ (a : Item U) (r : List (Item U)). a ∷ r) (e n x) (numbered-marks f g e (suc n) l)
 
-  pub side-marks : (w side : ℕ) (T : Table) (c : Core) → ritems h (sideItems mk w side T c) ≡ sideItems (λ m. h (mk m)) w side T c
+  pub side-marks : (w : Wrapper) (side : ℕ) (T : Table) (c : Core) → ritems h (sideItems mk w side T c) ≡ sideItems (λ m. h (mk m)) w side T c
   side-marks w side T c = ritems-app h (numbered (msgItem mk w side) 0 (c .lobby)) (numbered (partItem mk T side) 0 (c .contents .particles))
       ∙ ap₂ (λ (a b : List (Item U)). a ++ b) (numbered-marks (msgItem mk w side) (msgItem (λ m. h (mk m)) w side) (msg-marks w side) 0 (c .lobby)) (numbered-marks (partItem mk T side) (partItem (λ m. h (mk m)) T side) (part-marks T side) 0 (c .contents .particles))
 
-  pub shelf-marks : (tk : List Bool) (i : ℕ) (l : List (List ℕ)) → ritems h (shelfItems mk tk i l) ≡ shelfItems (λ m. h (mk m)) tk i l
+  pub shelf-marks : (gone : ℕ → Bool) (side i : ℕ) (l : List (List ℕ)) → ritems h (shelfItems mk gone side i l) ≡ shelfItems (λ m. h (mk m)) gone side i l
   unfolding remark
-  shelf-marks tk i [] = refl
-  shelf-marks tk i (v ∷ l) = ritems-app h (cond (getD tk i false) [] (shelfItem mk i v ∷ [])) (shelfItems mk tk (suc i) l) ∙ ap₂ (λ (a b : List (Item U)). a ++ b) (go (getD tk i false)) (shelf-marks tk (suc i) l)
+  shelf-marks tk side i [] = refl
+  shelf-marks tk side i (v ∷ l) = ritems-app h (cond (tk i) [] (shelfItem mk side i v ∷ [])) (shelfItems mk tk side (suc i) l) ∙ ap₂ (λ (a b : List (Item U)). a ++ b) (go (tk i)) (shelf-marks tk side (suc i) l)
     where
-      go : (b : Bool) → ritems h (cond b [] (shelfItem mk i v ∷ [])) ≡ cond b [] (shelfItem (λ m. h (mk m)) i v ∷ [])
+      go : (b : Bool) → ritems h (cond b [] (shelfItem mk side i v ∷ [])) ≡ cond b [] (shelfItem (λ m. h (mk m)) side i v ∷ [])
       go true = refl
       go false = refl
 
-  pub forwarders-marks : (p : Bool) (w : ℕ) → ritems h (forwarders mk p w) ≡ forwarders (λ m. h (mk m)) p w
+  map-marks : {X : Type 0} (f : X → Item M) (g : X → Item U) → ((x : X) → ritem h (f x) ≡ g x) → (l : List X) → ritems h (map f l) ≡ map g l
+  map-marks f g e [] = refl
+  map-marks f g e (x ∷ l) = ap₂ (λ (a : Item U) (r : List (Item U)). a ∷ r) (e x) (map-marks f g e l)
+
+  pub by-marks : (f : ℕ → List (Item M)) (g : ℕ → List (Item U)) → ((n : ℕ) → ritems h (f n) ≡ g n) → (ns : List ℕ) → ritems h (bySide f ns) ≡ bySide g ns
+  by-marks f g e [] = refl
+  by-marks f g e (n ∷ ns) = ritems-app h (f n) (bySide f ns) ∙ ap₂ (λ (a b : List (Item U)). a ++ b) (e n) (by-marks f g e ns)
+
+  pub forwarders-marks : (w : Wrapper) → ritems h (forwarders mk w) ≡ forwarders (λ m. h (mk m)) w
   unfolding remark
-  forwarders-marks true w = refl
-  forwarders-marks false w = refl
+  forwarders-marks w = ritems-app h (map (enters mk w) (w .sides)) _ ∙ ap₂ (λ (a b : List (Item U)). a ++ b) (map-marks (enters mk w) (enters (λ m. h (mk m)) w) (λ n. refl) (w .sides))
+      (ritems-app h (map (passes mk w) (w .sides)) _ ∙ ap₂ (λ (a b : List (Item U)). a ++ b) (map-marks (passes mk w) (passes (λ m. h (mk m)) w) (λ n. refl) (w .sides)) (map-marks (takes mk) (takes (λ m. h (mk m))) (λ r. refl) (w .routes)))
 
   pub items-marks : (b : Composition) (s : State) → ritems h (confAs mk b s .items) ≡ confAs (λ m. h (mk m)) b s .items
   unfolding confAs
   items-marks b s =
-      ritems-app h (forwarders mk (isPipeline b) (b .wrapper)) _ ∙ ap₂ (λ (a c : List (Item U)). a ++ c) (forwarders-marks (isPipeline b) (b .wrapper))
-      (ritems-app h (shelfItems mk (s .two .core .taken) 0 (s .one .core .shelf)) _ ∙ ap₂ (λ (a c : List (Item U)). a ++ c) (shelf-marks (s .two .core .taken) 0 (s .one .core .shelf))
-      (ritems-app h (sideItems mk (b .wrapper) 1 (b .table1) (s .one .core)) _ ∙ ap₂ (λ (a c : List (Item U)). a ++ c) (side-marks (b .wrapper) 1 (b .table1) (s .one .core)) (side-marks (b .wrapper) 2 (b .table2) (s .two .core))))
+      ritems-app h (forwarders mk (wrapperOf b)) _ ∙ ap₂ (λ (a c : List (Item U)). a ++ c) (forwarders-marks (wrapperOf b))
+      (ritems-app h (bySide (λ n. shelfItems mk (isGone s n) n 0 (side s n .core .shelf)) (wrapperOf b .sides)) _ ∙ ap₂ (λ (a c : List (Item U)). a ++ c)
+      (by-marks _ _ (λ n. shelf-marks (isGone s n) n 0 (side s n .core .shelf)) (wrapperOf b .sides)) (by-marks _ _ (λ n. side-marks (wrapperOf b) n (table b n) (side s n .core)) (wrapperOf b .sides)))
+
+  pub all-marks : (s : State) (ns : List ℕ) (acc : List (Place M)) → rplaces h (allPlaces mk s ns acc) ≡ allPlaces (λ m. h (mk m)) s ns (rplaces h acc)
+  all-marks s [] acc = refl
+  all-marks s (n ∷ ns) acc = all-marks s ns (placesOf mk n 0 (side s n .core .contents .boxes) acc) ∙ ap (allPlaces (λ m. h (mk m)) s ns) (places-marks mk h n 0 (side s n .core .contents .boxes) acc)
 
   pub boxes-marks : (b : Composition) (s : State) → rplaces h (confAs mk b s .boxes) ≡ confAs (λ m. h (mk m)) b s .boxes
   unfolding confAs
-  boxes-marks b s = places-marks mk h 2 0 (s .two .core .contents .boxes) (placesOf mk 1 0 (s .one .core .contents .boxes) [])
-      ∙ ap (placesOf (λ m. h (mk m)) 2 0 (s .two .core .contents .boxes)) (places-marks mk h 1 0 (s .one .core .contents .boxes) [])
-
-  names-same : (b : Composition) (s : State) → confAs mk b s .names ≡ confAs (λ m. h (mk m)) b s .names
-  unfolding confAs
-  names-same b s = refl
-
-  pub process-marks : (b : Composition) (s : State) → remark h (process (confAs mk b s)) ≡ process (confAs (λ m. h (mk m)) b s)
-  unfolding process
-  process-marks b s = remark-news h (confAs mk b s .names) (fill (confAs mk b s .boxes) (at (confAs mk b s .items)))
-      ∙ ap₂ restrict (names-same b s) (remark-bag h (confAs mk b s .boxes) (confAs mk b s .items) ∙ ap₂ (λ (x : List (Place U)) (y : List (Item U)). fill x (at y)) (boxes-marks b s) (items-marks b s))
+  boxes-marks b s = all-marks s (wrapperOf b .sides) []

@@ -6,17 +6,17 @@ use Rattle.model.specs.Table.{childTimes, build, decode, term, scopeUp}
 use Rattle.model.specs.Checks.{check1, check2, timesChild, check3, check4, patternOk, check5, over, overAll, firstBad, found, fault}
 use Rattle.model.specs.Side.{limits}
 use Rattle.model.specs.Unfolding.{unfolds, defined}
-use Rattle.model.specs.Load.{start, loadSide, load}
-use Rattle.model.specs.WellFormed.{held, heldWord, wfValue, wfTag, wfParticle, wfBoxes, wfContents, wfMessage, wfCore, wfLeft, wfSide, wfTaken, isNoSide, wfState, ready}
-use Rattle.model.specs.Step.{enter, goDown, upFrom, upParticle, up, descendParticle, descend, meetTerm, meetParticles, meet, pass, leave, takes, inner, local, local2, settled, mark1, step}
+use Rattle.model.specs.Load.{start, sideFault, lackFault, loadSides, load}
+use Rattle.model.specs.WellFormed.{held, heldWord, wfValue, wfTag, wfParticle, wfBoxes, wfContents, wfMessage, wfCore, wfLeft, wfSide, wfTaken, isNoSide, wfSideOf, wfState, ready}
+use Rattle.model.specs.Step.{enter, goDown, upFrom, upParticle, up, descendParticle, descend, meetTerm, meetParticles, meet, pass, leave, takes, routeTo, inner, local, settled, mark1, step}
 use Rattle.model.specs.Stranded.{lobbyAsked, rightStranded}
 use Rattle.model.specs.Trials.{runFrom, outcome, Trials}
 use Rattle.model.specs.MoreTrials.{MoreTrials}
 
 pub trials-pass : Trials
-unfolding _&_ _or_ choose bind need pick items shaped isValue at restOf firstOf matches childTimes build decode term scopeUp check1 check2 timesChild check3 check4 patternOk check5 over overAll firstBad found fault limits unfolds defined start loadSide load held heldWord wfValue wfTag wfParticle wfBoxes wfContents wfMessage wfCore wfLeft wfSide wfTaken isNoSide wfState ready enter goDown upFrom upParticle up descendParticle descend meetTerm meetParticles meet pass leave takes inner local local2 settled mark1 step lobbyAsked rightStranded runFrom outcome Trials
+unfolding _&_ _or_ choose bind need pick items shaped isValue at restOf firstOf matches childTimes build decode term scopeUp check1 check2 timesChild check3 check4 patternOk check5 over overAll firstBad found fault limits unfolds defined start sideFault lackFault loadSides load held heldWord wfValue wfTag wfParticle wfBoxes wfContents wfMessage wfCore wfLeft wfSide wfTaken isNoSide wfSideOf wfState ready enter goDown upFrom upParticle up descendParticle descend meetTerm meetParticles meet pass leave takes routeTo inner local settled mark1 step lobbyAsked rightStranded runFrom outcome Trials
 trials-pass = refl
 
 pub more-trials-pass : MoreTrials
-unfolding _&_ _or_ choose bind need pick items shaped isValue at restOf firstOf matches childTimes build decode term scopeUp check1 check2 timesChild check3 check4 patternOk check5 over overAll firstBad found fault limits unfolds defined start loadSide load held heldWord wfValue wfTag wfParticle wfBoxes wfContents wfMessage wfCore wfLeft wfSide wfTaken isNoSide wfState ready enter goDown upFrom upParticle up descendParticle descend meetTerm meetParticles meet pass leave takes inner local local2 settled mark1 step lobbyAsked rightStranded runFrom outcome MoreTrials
-more-trials-pass = (refl, refl, refl)
+unfolding _&_ _or_ choose bind need pick items shaped isValue at restOf firstOf matches childTimes build decode term scopeUp check1 check2 timesChild check3 check4 patternOk check5 over overAll firstBad found fault limits unfolds defined start sideFault lackFault loadSides load held heldWord wfValue wfTag wfParticle wfBoxes wfContents wfMessage wfCore wfLeft wfSide wfTaken isNoSide wfSideOf wfState ready enter goDown upFrom upParticle up descendParticle descend meetTerm meetParticles meet pass leave takes routeTo inner local settled mark1 step lobbyAsked rightStranded runFrom outcome MoreTrials
+more-trials-pass = (refl, refl, refl, refl)

@@ -1,15 +1,15 @@
 -- DEMAND 2: the bench agrees with the published calculus, for every state that is well formed for tables that load takes.
 use mathlib.Core.Path.{_≡_}
-use mathlib.Core.Logic.{_⊎_}
+use mathlib.Core.Logic.{_⊎_, _↔_}
 use mathlib.Core.List.{List, [], _∷_}
 use mathlib.Core.Option.{some}
-use mathlib.Core.Bool.{Bool, true, false, not, cond, _&&_, _||_}
+use mathlib.Core.Bool.{Bool, true, false, not, _&&_, _||_}
 use Prim.Native.Nat.{ℕ, _+_, _≤_}
 use lib.Dec.{eqb, ltb, T}
 use lib.ListN.{length, getElem?}
 use Rattle.calculus.specs.Syntax.{Val, nm, Vars, parent, Tag, plain, Proc, remark, ren, vren, tren, vsub, match}
 use Rattle.calculus.specs.Congruence.{_≋_}
-use Rattle.calculus.specs.Transitions.{Label, tau, send, recv, Participants, one, two, In, names}
+use Rattle.calculus.specs.Transitions.{Label, tau, send, recv, Participants, lone, joint, In, names, lnames}
 use Rattle.calculus.specs.Transitions.{Step as Trans}
 use Rattle.calculus.specs.Named.{Code, cnil, cpar, cbox, cnew, cout, cinp, named, shape, withPat, public, proc}
 use Rattle.calculus.specs.Wrappers.{W1, W2, midName}
@@ -17,24 +17,26 @@ use Rattle.calculus.specs.Tree.{process}
 use Rattle.model.specs.Values.{isTuple}
 use Rattle.model.specs.Table.{Table, Term, inp}
 use Rattle.model.specs.Table.{term as termAt}
-use Rattle.model.specs.Side.{Particle, output, input, toParent, Side, State}
+use Rattle.model.specs.Side.{Particle, output, input, toParent, State, side}
 use Rattle.model.specs.Side.{Tag as STag}
 use Rattle.model.specs.Unfolding.{particlesIn, boxesIn, newNamesIn}
-use Rattle.model.specs.Load.{Composition, load, ok}
+use Rattle.model.specs.Wrapper.{Wrapper, Route, shelves}
+use Rattle.model.specs.Load.{Composition, wrapperOf, table, load, ok}
 use Rattle.model.specs.WellFormed.{envAt, ready}
 use Rattle.model.specs.Step.{Step, silent, enters, leaves, Answer, labelled, refusal, step, known}
-use Rattle.model.specs.Process.{vwords, valOf, patOf, codeOf, envOf, inwards, outwards, Mark, part, boxed, lobby, shelf, enterer, passer, taker, confOf, knownOf}
+use Rattle.model.specs.Process.{vwords, valOf, patOf, codeOf, envOf, Mark, part, boxed, lobby, shelf, enterer, passer, taker, confOf, knownOf}
 
 -- THE PLACE OF A STEP: who takes part in its transition, by kind, side, i and j
-pub data At : Step → Participants Mark → Type 0 where
-  enter : {side : ℕ} {ws : List ℕ} {u : Mark} → At (record { kind = 1; side = side; i = 0; j = 0; words = ws }) (two u (enterer side))
-  goDown : {side i : ℕ} → At (record { kind = 2; side = side; i = i; j = 0; words = [] }) (two (lobby side i) (boxed side 0))
-  goUp : {side i : ℕ} → At (record { kind = 3; side = side; i = i; j = 0; words = [] }) (one (part side i))
-  descend : {side i j : ℕ} → At (record { kind = 4; side = side; i = i; j = j; words = [] }) (two (part side i) (boxed side j))
-  meet : {side i j : ℕ} → At (record { kind = 5; side = side; i = i; j = j; words = [] }) (two (part side i) (part side j))
-  pass : {side i : ℕ} → At (record { kind = 6; side = side; i = i; j = 0; words = [] }) (two (lobby side i) (passer side))
-  leave : {side i : ℕ} → At (record { kind = 7; side = side; i = i; j = 0; words = [] }) (one (lobby side i))
-  take : {i : ℕ} → At (record { kind = 8; side = 2; i = i; j = 0; words = [] }) (two (shelf i) taker)
+pub data At (w : Wrapper) : Step → Participants Mark → Type 0 where
+  enter : {side : ℕ} {ws : List ℕ} {u : Mark} → At w (record { kind = 1; side = side; i = 0; j = 0; words = ws }) (joint u (enterer side))
+  goDown : {side i : ℕ} → At w (record { kind = 2; side = side; i = i; j = 0; words = [] }) (joint (lobby side i) (boxed side 0))
+  goUp : {side i : ℕ} → At w (record { kind = 3; side = side; i = i; j = 0; words = [] }) (lone (part side i))
+  descend : {side i j : ℕ} → At w (record { kind = 4; side = side; i = i; j = j; words = [] }) (joint (part side i) (boxed side j))
+  meet : {side i j : ℕ} → At w (record { kind = 5; side = side; i = i; j = j; words = [] }) (joint (part side i) (part side j))
+  pass : {side i : ℕ} → At w (record { kind = 6; side = side; i = i; j = 0; words = [] }) (joint (lobby side i) (passer side))
+  leave : {side i : ℕ} → At w (record { kind = 7; side = side; i = i; j = 0; words = [] }) (lone (lobby side i))
+  take : (k : ℕ) {i : ℕ} {r : Route} → getElem? (w .routes) k ≡ some r
+      → At w (record { kind = 8; side = r .receiver; i = i; j = r .j; words = [] }) (joint (shelf (r .source) i) (taker (r .source) (r .receiver)))
 
 -- NAMES IN LABELS, in document 01's numbers: public, or minted with serial up to 255
 abbrev pub enterable : ℕ → Bool
@@ -52,10 +54,10 @@ abbrev pub foreign : Val ℕ → Bool
 foreign v = someName (λ n. not (enterable n)) (names v)
 
 -- the label of an answer: τ; an input on the side's inlet; an output on its outlet; its value is known by its words
-pub data Says (wrapper : ℕ) : Answer → Label → Type 0 where
-  says-tau : {side : ℕ} → Says wrapper (labelled silent side []) tau
-  says-in : {side : ℕ} {ws : List ℕ} {v : Val ℕ} → ws ≡ vwords v → T (not (foreign v)) → Says wrapper (labelled enters side ws) (recv (inwards wrapper side) (plain parent) v)
-  says-out : {side : ℕ} {ws : List ℕ} {v : Val ℕ} → ws ≡ vwords v → T (not (foreign v)) → Says wrapper (labelled leaves side ws) (send (outwards wrapper side) (plain parent) v)
+pub data Says (w : Wrapper) : Answer → Label → Type 0 where
+  says-tau : {side : ℕ} → Says w (labelled silent side []) tau
+  says-in : {side : ℕ} {ws : List ℕ} {v : Val ℕ} → ws ≡ vwords v → T (not (foreign v)) → Says w (labelled enters side ws) (recv (w .inlet side) (plain parent) v)
+  says-out : {side : ℕ} {ws : List ℕ} {v : Val ℕ} → ws ≡ vwords v → T (not (foreign v)) → Says w (labelled leaves side ws) (send (w .outlet side) (plain parent) v)
 
 -- a step asks for a label: kind 1 with the label's value, kind 7 for an output, the other kinds for τ
 pub data Asks : Step → Label → Type 0 where
@@ -73,6 +75,10 @@ answerSide (refusal k n) = n
 abbrev pub plainly : {M : Type 0} → Proc M [] → Proc (Unit {0}) []
 plainly P = remark (λ m. tt) P
 
+-- the published process of a state
+abbrev pub processOf : Composition → State → Proc (Unit {0}) []
+processOf b s = plainly (process (confOf b s))
+
 -- the process of a table: its term with public names
 abbrev pub handler : Table → Proc (Unit {0}) []
 handler t = proc [] tt (codeOf (termAt t 0)) public
@@ -80,8 +86,8 @@ handler t = proc [] tt (codeOf (termAt t 0)) public
 -- the loaded state is the wrapper round the tables' processes
 unfoldable pub LoadAgrees : Type 0
 LoadAgrees = (b : Composition) (s : State) → load b ≡ ok s →
-    (b .wrapper ≡ 1 → plainly (process (confOf b s)) ≋ W1 tt (handler (b .table1)))
-    × (b .wrapper ≡ 2 → plainly (process (confOf b s)) ≋ W2 tt (handler (b .table1)) (handler (b .table2)))
+    (b .wrapper ≡ 1 → processOf b s ≋ W1 tt (handler (table b 1)))
+    × (b .wrapper ≡ 2 → processOf b s ≋ W2 tt (handler (table b 1)) (handler (table b 2)))
 
 -- SOUND: a label is given only where the calculus has that transition at that place, and the next state is where it leads
 
@@ -91,48 +97,47 @@ IsLabelled (labelled l n v) = Unit {0}
 IsLabelled (refusal k n) = ⊥
 
 unfoldable pub SoundAt : Composition → State → Step → Label → Type 0
-SoundAt b s k l = (w : Participants Mark) × At k w × Asks k l × (answerSide (step b s k .answer) ≡ k .side)
-    × (R : Proc Mark []) × Trans (knownOf s) (process (confOf b s)) l w R × (plainly R ≋ plainly (process (confOf b (step b s k .after))))
+SoundAt b s k l = (w : Participants Mark) × At (wrapperOf b) k w × Asks k l × (answerSide (step b s k .answer) ≡ k .side)
+    × (R : Proc Mark []) × Trans (knownOf s) (process (confOf b s)) l w R × (plainly R ≋ processOf b (step b s k .after))
 
 -- every answer that is no refusal has a label of the calculus; and each such label is of a transition
 unfoldable pub Sound : Type 0
 Sound = (b : Composition) (s : State) (k : Step) → ready b s ≡ true
-    → (IsLabelled (step b s k .answer) → (l : Label) × Says (b .wrapper) (step b s k .answer) l)
-    × ((l : Label) → Says (b .wrapper) (step b s k .answer) l → SoundAt b s k l)
+    → (IsLabelled (step b s k .answer) → (l : Label) × Says (wrapperOf b) (step b s k .answer) l)
+    × ((l : Label) → Says (wrapperOf b) (step b s k .answer) l → SoundAt b s k l)
+
+-- THE NAMES KNOWN OUTSIDE grow by the names of a label that is given, and by nothing else
+unfoldable pub NamesGrow : Type 0
+NamesGrow = (b : Composition) (s : State) (k : Step) (l : Label) → ready b s ≡ true → Says (wrapperOf b) (step b s k .answer) l
+    → (z : ℕ) → In (knownOf (step b s k .after)) z ↔ (In (knownOf s) z ⊎ In (lnames l) z)
 
 -- WHAT EXCUSES THE REFUSAL OF A LEGAL TRANSITION, by document 01's numbers and not by what `step` answers
 
-abbrev pub sideOf : State → ℕ → Side
-sideOf s n = cond (eqb n 1) (s .one) (s .two)
-
-abbrev pub tableOf : Composition → ℕ → Table
-tableOf b n = cond (eqb n 1) (b .table1) (b .table2)
-
 abbrev pub partsOf : State → ℕ → List Particle
-partsOf s n = sideOf s n .core .contents .particles
+partsOf s n = side s n .core .contents .particles
 
 -- a replicated input stays
 abbrev pub stays : Bool → ℕ
 stays true = 1
 stays false = 0
 
--- side 1 under the pipeline sends on `mid`: to the shelf
-abbrev pub shelves? : ℕ → ℕ → ℕ → Bool
-shelves? wrapper side x = eqb wrapper 2 && eqb side 1 && eqb x midName
+-- a side that somebody takes from sends on `mid`: to its shelf
+abbrev pub shelves? : Wrapper → ℕ → ℕ → Bool
+shelves? w side x = shelves w side && eqb x midName
 
 -- 17: a limit that the state after would pass
 pub data Over (b : Composition) (s : State) : Step → Type 0 where
-  lobby-full : {k : Step} → (k .kind ≡ 1) ⊎ (k .kind ≡ 8) → 16 ≤ length (sideOf s (k .side) .core .lobby) → Over b s k
+  lobby-full : {k : Step} → (k .kind ≡ 1) ⊎ (k .kind ≡ 8) → 16 ≤ length (side s (k .side) .core .lobby) → Over b s k
   down-full : {k : Step} → k .kind ≡ 2 → 32 ≤ length (partsOf s (k .side)) → Over b s k
   up-full : {k : Step} {x : ℕ} {v : List ℕ} → k .kind ≡ 3 → getElem? (partsOf s (k .side)) (k .i) ≡ some (output 0 x toParent v)
-      → T (not (shelves? (b .wrapper) (k .side) x)) → 16 ≤ length (sideOf s (k .side) .core .lobby) → Over b s k
+      → T (not (shelves? (wrapperOf b) (k .side) x)) → 16 ≤ length (side s (k .side) .core .lobby) → Over b s k
   shelf-full : {k : Step} {x : ℕ} {v : List ℕ} → k .kind ≡ 3 → getElem? (partsOf s (k .side)) (k .i) ≡ some (output 0 x toParent v)
-      → T (shelves? (b .wrapper) (k .side) x) → 32 ≤ length (s .one .core .shelf) → Over b s k
+      → T (shelves? (wrapperOf b) (k .side) x) → 32 ≤ length (side s (k .side) .core .shelf) → Over b s k
   -- the output goes, a plain input too, and the body's particles, boxes and names come
   meet-full : {k : Step} {at n m x g : ℕ} {vs : List (List ℕ)} {r : Bool} {p : List ℕ} {a : Term} → k .kind ≡ 5
-      → getElem? (partsOf s (k .side)) (k .j) ≡ some (input at n vs) → termAt (tableOf b (k .side)) n ≡ inp m r x g p a
+      → getElem? (partsOf s (k .side)) (k .j) ≡ some (input at n vs) → termAt (table b (k .side)) n ≡ inp m r x g p a
       → (33 + 2 ≤ length (partsOf s (k .side)) + stays r + particlesIn a)
-      ⊎ ((17 ≤ length (sideOf s (k .side) .core .contents .boxes) + boxesIn a) ⊎ (257 ≤ sideOf s (k .side) .core .contents .minted + newNamesIn a))
+      ⊎ ((17 ≤ length (side s (k .side) .core .contents .boxes) + boxesIn a) ⊎ (257 ≤ side s (k .side) .core .contents .minted + newNamesIn a))
       → Over b s k
 
 -- 16: an output that unfolds has a value over 16 words; one under an input does not unfold
@@ -145,15 +150,15 @@ long (cout x i v) ρ = ltb 16 (length (vwords (vsub v ρ)))
 long (cinp m x i p c) ρ = false
 
 -- 11: the label's value is over 16 words, or has a name that is neither public nor minted; 12: it has a minted name that has
--- left by neither outlet
+-- left by no outlet. Each cause is of the kinds that it may excuse: 11 and 12 of 1, 16 of 5, 17 of those in `Over`
 pub data Excused (b : Composition) (s : State) (k : Step) : Label → ℕ → Type 0 where
-  by-11-long : {x : ℕ} {o : Tag ℕ} {v : Val ℕ} → T (ltb 16 (length (vwords v))) → Excused b s k (recv x o v) 11
-  by-11-name : {x : ℕ} {o : Tag ℕ} {v : Val ℕ} → T (foreign v) → Excused b s k (recv x o v) 11
-  by-12 : {x : ℕ} {o : Tag ℕ} {v : Val ℕ} → T (someName (λ n. mintedNumber n && not (known s n)) (names v)) → Excused b s k (recv x o v) 12
+  by-11-long : {x : ℕ} {o : Tag ℕ} {v : Val ℕ} → k .kind ≡ 1 → T (ltb 16 (length (vwords v))) → Excused b s k (recv x o v) 11
+  by-11-name : {x : ℕ} {o : Tag ℕ} {v : Val ℕ} → k .kind ≡ 1 → T (foreign v) → Excused b s k (recv x o v) 11
+  by-12 : {x : ℕ} {o : Tag ℕ} {v : Val ℕ} → k .kind ≡ 1 → T (someName (λ n. mintedNumber n && not (known s n)) (names v)) → Excused b s k (recv x o v) 12
   by-16 : {at at' n m x x' g : ℕ} {vs : List (List ℕ)} {r : Bool} {p : List ℕ} {a : Term} {o : STag} {v : List ℕ} {σ : Vars (shape (patOf p)) → Val ℕ}
-      → getElem? (partsOf s (k .side)) (k .i) ≡ some (output at' x' o v) → getElem? (partsOf s (k .side)) (k .j) ≡ some (input at n vs)
-      → termAt (tableOf b (k .side)) n ≡ inp m r x g p a → match (shape (patOf p)) (valOf v) ≡ some σ
-      → T (long (codeOf a) (withPat (patOf p) σ (envOf (envAt (tableOf b (k .side)) n vs)))) → Excused b s k tau 16
+      → k .kind ≡ 5 → getElem? (partsOf s (k .side)) (k .i) ≡ some (output at' x' o v) → getElem? (partsOf s (k .side)) (k .j) ≡ some (input at n vs)
+      → termAt (table b (k .side)) n ≡ inp m r x g p a → match (shape (patOf p)) (valOf v) ≡ some σ
+      → T (long (codeOf a) (withPat (patOf p) σ (envOf (envAt (table b (k .side)) n vs)))) → Excused b s k tau 16
   by-17 : {l : Label} → Over b s k → Excused b s k l 17
 
 -- COMPLETE
@@ -174,9 +179,9 @@ renamed (recv x o v) f = recv (f x) (tren o f) (vren v f)
 -- the step has the transition's label and leads to its target, up to a renaming that keeps the known names
 pub record Met (b : Composition) (s : State) (l : Label) (R : Proc Mark []) (k : Step) : Type 0 where
   pub names : Rename (knownOf s)
-  pub label : Says (b .wrapper) (step b s k .answer) (renamed l (names .to))
+  pub label : Says (wrapperOf b) (step b s k .answer) (renamed l (names .to))
   pub side : answerSide (step b s k .answer) ≡ k .side
-  pub target : plainly (ren {r = []} R (names .to)) ≋ plainly (process (confOf b (step b s k .after)))
+  pub target : plainly (ren {r = []} R (names .to)) ≋ processOf b (step b s k .after)
 
 -- a label that can be asked for in words: no name of its value reads as a tuple word
 abbrev pub Written : Label → Type 0
@@ -188,5 +193,5 @@ Written (recv x o v) = T (not (someName isTuple (names v)))
 -- transition's target, or is refused for a cause that excuses it
 unfoldable pub Complete : Type 0
 Complete = (b : Composition) (s : State) (l : Label) (w : Participants Mark) (R : Proc Mark []) → ready b s ≡ true → Trans (knownOf s) (process (confOf b s)) l w R → Written l
-    → ((k : Step) × At k w × Asks k l)
-    × ((k : Step) → At k w → Asks k l → Met b s l R k ⊎ ((n : ℕ) × (step b s k .answer ≡ refusal n (k .side)) × Excused b s k l n))
+    → ((k : Step) × At (wrapperOf b) k w × Asks k l)
+    × ((k : Step) → At (wrapperOf b) k w → Asks k l → Met b s l R k ⊎ ((n : ℕ) × (step b s k .answer ≡ refusal n (k .side)) × Excused b s k l n))

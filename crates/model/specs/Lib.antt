@@ -2,6 +2,7 @@ pub mod Basics
 pub mod Values
 pub mod Table
 pub mod Checks
+pub mod Wrapper
 pub mod Side
 pub mod Unfolding
 pub mod Load
@@ -12,6 +13,10 @@ pub mod Stranded
 pub mod Runs
 pub mod Process
 pub mod Agreement
+pub mod Published
+pub mod Wrapped
+pub mod Causes
 pub mod Trials
 pub mod MoreTrials
+pub mod FormedStates
 pub mod Corollaries

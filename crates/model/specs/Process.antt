@@ -1,21 +1,23 @@
 -- The process of the calculus that a table is, and that a state is. Each output, input and box of a state's process has a
 -- mark that says which of the state's things it is.
+use mathlib.Core.Path.{_≡_}
 use mathlib.Core.Bool.{Bool, true, false, not, cond}
-use mathlib.Core.List.{List, [], _∷_, _++_}
+use mathlib.Core.List.{List, [], _∷_, _++_, map}
 use Prim.Native.Nat.{ℕ, zero, suc, _+_, _*_}
 use lib.Dec.{ltb, eqb}
-use lib.ListN.{getD}
 use Rattle.calculus.specs.Syntax.{Val, Vals, nm, tup, vnil, vcons, ITag, Tag, plain, receivedParent, receivedChild, Mode, once, replicated, Proc}
 use Rattle.calculus.specs.Syntax.{within as iwithin, parent as iparent, child as ichild, out as pout}
 use Rattle.calculus.specs.Named.{NPat, NPats, any, named, parts, pno, pand, Code, cnil, cpar, cbox, cnew, cout, cinp, proc}
 use Rattle.calculus.specs.Wrappers.{inName, outName, midName, envIn, envOut, forward}
 use Rattle.calculus.specs.Tree.{Place, Item, Conf}
-use Rattle.model.specs.Values.{isPublic, isTuple, arity, Env, value}
+use Rattle.model.specs.Basics.{oneOf, every}
+use Rattle.model.specs.Values.{isPublic, isMinted, isTuple, arity, distinct, Env, value}
 use Rattle.model.specs.Table.{Table, Term, nil, par, box, new, out, inp, term}
-use Rattle.model.specs.Side.{Particle, output, input, Box, Message, down, arrived, leaving, Core, State}
+use Rattle.model.specs.Side.{Particle, output, input, Box, Message, down, arrived, leaving, Core, State, side, hasTaken}
 use Rattle.model.specs.Side.{Status}
 use Rattle.model.specs.Side.{Tag as STag, within, toParent, fromParent, toChild, fromChild}
-use Rattle.model.specs.Load.{Composition, isPipeline}
+use Rattle.model.specs.Wrapper.{Wrapper, Route, allSides}
+use Rattle.model.specs.Load.{Composition, wrapperOf, table}
 use Rattle.model.specs.WellFormed.{envAt}
 use Rattle.model.specs.Step.{known}
 
@@ -127,7 +129,7 @@ envOf ρ n = cond (ltb n 64) (valOf (value ρ n)) (nm 0)
 
 -- the name of the wrapper's own box of a side: no table, value or minted name is it
 abbrev pub ownName : ℕ → ℕ
-ownName side = 69 + side
+ownName side = 80 + side
 
 abbrev pub mintOf : ℕ → ℕ → ℕ
 mintOf side i = 65536 * side + i
@@ -142,44 +144,43 @@ abbrev pub keep : (ℕ → Bool) → List ℕ → List ℕ
 keep f [] = []
 keep f (x ∷ xs) = cond (f x) (x ∷ keep f xs) (keep f xs)
 
+-- what each side has, one side's behind the other's
+abbrev pub bySide : {A : Type 0} → (ℕ → List A) → (sides : List ℕ) → List A
+bySide f [] = []
+bySide f (n ∷ ns) = f n ++ bySide f ns
+
 -- all names minted in a state
 abbrev pub mintedOf : State → List ℕ
-mintedOf s = upto (s .one .core .contents .minted) (mintOf 1) ++ upto (s .two .core .contents .minted) (mintOf 2)
+mintedOf s = bySide (λ n. upto (side s n .core .contents .minted) (mintOf n)) allSides
 
-abbrev pub ownNames : Bool → List ℕ
-ownNames pipe = cond pipe (ownName 1 ∷ ownName 2 ∷ []) (ownName 1 ∷ [])
-
--- the names that are new in a state: the wrapper's own, and those minted that have left by neither outlet
+-- the names that are new in a state: the wrapper's own, and those minted that have left by no outlet
 unfoldable pub newOf : Composition → State → List ℕ
-newOf b s = ownNames (isPipeline b) ++ keep (λ x. not (known s x)) (mintedOf s)
+newOf b s = map ownName (wrapperOf b .sides) ++ keep (λ x. not (known s x)) (mintedOf s)
 
--- the names known outside: the public ones; in1, in2, out1, out2; and those minted that have left
+-- the names known outside: the public ones and those of in1, out1 and so on, all up to 80; and those minted that have left
 unfoldable pub knownOf : State → List ℕ
-knownOf s = upto 64 (λ i. i) ++ ((65 ∷ 66 ∷ 67 ∷ 68 ∷ []) ++ keep (known s) (mintedOf s))
+knownOf s = upto 81 (λ i. i) ++ keep (known s) (mintedOf s)
 
--- the channels of a side towards the environment: `in` and `out` under the filter, numbered by side under the pipeline
-abbrev pub inwards : ℕ → ℕ → ℕ
-inwards wrapper side = elim (eqb wrapper 1) as (λ b. ℕ) [ true ↦ inName | false ↦ envIn side ]
+-- the public names, those of the inlets and outlets under the pipeline, and the wrapper's own are different names, and none is minted
+abbrev pub fixedNames : List ℕ
+fixedNames = upto 64 (λ i. i) ++ (map envIn allSides ++ (map envOut allSides ++ map ownName allSides))
 
-abbrev pub outwards : ℕ → ℕ → ℕ
-outwards wrapper side = elim (eqb wrapper 1) as (λ b. ℕ) [ true ↦ outName | false ↦ envOut side ]
+unfoldable pub NamesDistinct : Type 0
+NamesDistinct = (distinct fixedNames ≡ true) × (every (λ x. not (isMinted x)) fixedNames ≡ true)
 
 -- STATES
 
--- which of the state's things: particle i, box j and lobby message i of a side, shelf place i, the wrapper's inputs for
--- enter, pass and take; an output under a forwarder, and the environment's, are none of them
+-- which of the state's things: particle i, box j, lobby message i and shelf place i of a side; the wrapper's inputs for
+-- enter, pass and take (source and receiver); an output under a forwarder, and the environment's, are none of them
 pub data Mark : Type 0 where
-  part : ℕ → ℕ → Mark
-  boxed : ℕ → ℕ → Mark
-  lobby : ℕ → ℕ → Mark
-  shelf : ℕ → Mark
+  part boxed lobby shelf : ℕ → ℕ → Mark
   enterer passer : ℕ → Mark
-  taker : Mark
+  taker : (source receiver : ℕ) → Mark
   inert : Mark
 
--- the site of box j of a side; site 0 is the wrapper's level
+-- the site of box j of a side, of eight at most; site 0 is the wrapper's level
 abbrev pub siteOf : ℕ → ℕ → ℕ
-siteOf side j = 2 * j + side
+siteOf side j = 8 * j + side
 
 -- things with their positions, from i on
 abbrev pub numbered : {A B : Type 0} → (ℕ → A → B) → ℕ → List A → List B
@@ -194,40 +195,38 @@ module _ {M : Type 0} (mk : Mark → M) where
 
   -- a lobby message stands at the wrapper's level: down is bound for the handler's box, arrived came from it, leaving is
   -- bound for the environment
-  abbrev pub msgProc : (wrapper side i : ℕ) → Status → (chan : ℕ) → (val : List ℕ) → Proc M []
-  msgProc wrapper side i down c v = pout (mk (lobby side i)) c (plain (ichild (ownName side))) (valOf v)
-  msgProc wrapper side i arrived c v = pout (mk (lobby side i)) c (receivedChild (ownName side)) (valOf v)
-  msgProc wrapper side i leaving c v = pout (mk (lobby side i)) (outwards wrapper side) (plain iparent) (valOf v)
+  abbrev pub msgProc : Wrapper → (side i : ℕ) → Status → (chan : ℕ) → (val : List ℕ) → Proc M []
+  msgProc w side i down c v = pout (mk (lobby side i)) c (plain (ichild (ownName side))) (valOf v)
+  msgProc w side i arrived c v = pout (mk (lobby side i)) c (receivedChild (ownName side)) (valOf v)
+  msgProc w side i leaving c v = pout (mk (lobby side i)) (w .outlet side) (plain iparent) (valOf v)
 
-  abbrev pub msgItem : (wrapper side i : ℕ) → Message → Item M
-  msgItem wrapper side i m = record { site = 0; what = msgProc wrapper side i (m .status) (m .chan) (m .val) }
+  abbrev pub msgItem : Wrapper → (side i : ℕ) → Message → Item M
+  msgItem w side i m = record { site = 0; what = msgProc w side i (m .status) (m .chan) (m .val) }
 
-  -- a shelf message is on `mid`, received from side 1's box
-  abbrev pub shelfItem : ℕ → List ℕ → Item M
-  shelfItem i v = record { site = 0; what = pout (mk (shelf i)) midName (receivedChild (ownName 1)) (valOf v) }
+  -- a shelf message is on `mid`, received from its side's box
+  abbrev pub shelfItem : (side i : ℕ) → List ℕ → Item M
+  shelfItem side i v = record { site = 0; what = pout (mk (shelf side i)) midName (receivedChild (ownName side)) (valOf v) }
 
-  -- the shelf from place i on: what is taken is not there
-  abbrev pub shelfItems : List Bool → ℕ → List (List ℕ) → List (Item M)
-  shelfItems tk i [] = []
-  shelfItems tk i (v ∷ vs) = cond (getD tk i false) [] (shelfItem i v ∷ []) ++ shelfItems tk (suc i) vs
+  -- a side's shelf from place i on: what is taken is not there
+  abbrev pub shelfItems : (gone : ℕ → Bool) → (side i : ℕ) → List (List ℕ) → List (Item M)
+  shelfItems gone side i [] = []
+  shelfItems gone side i (v ∷ vs) = cond (gone i) [] (shelfItem side i v ∷ []) ++ shelfItems gone side (suc i) vs
 
-  abbrev pub sideItems : (wrapper side : ℕ) → Table → Core → List (Item M)
-  sideItems wrapper side T s = numbered (msgItem wrapper side) 0 (s .lobby) ++ numbered (partItem T side) 0 (s .contents .particles)
+  abbrev pub sideItems : Wrapper → (side : ℕ) → Table → Core → List (Item M)
+  sideItems w side T s = numbered (msgItem w side) 0 (s .lobby) ++ numbered (partItem T side) 0 (s .contents .particles)
 
-  -- the wrapper's own inputs: in from the environment, out from the handler, mid from side 1 to side 2
-  abbrev pub enters : ℕ → ℕ → Item M
-  enters wrapper side = record { site = 0; what = forward [] (mk (enterer side)) (mk inert) (inwards wrapper side) iparent inName (ichild (ownName side)) }
+  -- the wrapper's own inputs: in from the environment, out from the handler, mid from a source to a receiver
+  abbrev pub enters : Wrapper → ℕ → Item M
+  enters w side = record { site = 0; what = forward [] (mk (enterer side)) (mk inert) (w .inlet side) iparent inName (ichild (ownName side)) }
 
-  abbrev pub passes : ℕ → ℕ → Item M
-  passes wrapper side = record { site = 0; what = forward [] (mk (passer side)) (mk inert) outName (ichild (ownName side)) (outwards wrapper side) iparent }
+  abbrev pub passes : Wrapper → ℕ → Item M
+  passes w side = record { site = 0; what = forward [] (mk (passer side)) (mk inert) outName (ichild (ownName side)) (w .outlet side) iparent }
 
-  abbrev pub takes : Item M
-  takes = record { site = 0; what = forward [] (mk taker) (mk inert) midName (ichild (ownName 1)) midName (ichild (ownName 2)) }
+  abbrev pub takes : Route → Item M
+  takes r = record { site = 0; what = forward [] (mk (taker (r .source) (r .receiver))) (mk inert) midName (ichild (ownName (r .source))) midName (ichild (ownName (r .receiver))) }
 
-  abbrev pub forwarders : Bool → ℕ → List (Item M)
-  forwarders pipe wrapper = cond pipe
-      (enters wrapper 1 ∷ enters wrapper 2 ∷ passes wrapper 1 ∷ passes wrapper 2 ∷ takes ∷ [])
-      (enters wrapper 1 ∷ passes wrapper 1 ∷ [])
+  abbrev pub forwarders : Wrapper → List (Item M)
+  forwarders w = map (enters w) (w .sides) ++ (map (passes w) (w .sides) ++ map takes (w .routes))
 
   -- box 0 has the wrapper's own name and stands at the wrapper's level
   abbrev pub placeOf : (side j : ℕ) → Box → Place M
@@ -243,13 +242,22 @@ module _ {M : Type 0} (mk : Mark → M) where
   placesOf side j [] acc = acc
   placesOf side j (b ∷ bs) acc = placesOf side (suc j) bs (placeOf side j b ∷ acc)
 
+-- somebody has taken shelf place i of a side
+abbrev pub isGone : State → (side i : ℕ) → Bool
+isGone s n i = oneOf (λ o. hasTaken (o .core) n i) (s .sides)
+
+-- the boxes of the sides of a list, the last box first
+abbrev pub allPlaces : {M : Type 0} → (Mark → M) → State → List ℕ → List (Place M) → List (Place M)
+allPlaces mk s [] acc = acc
+allPlaces mk s (n ∷ ns) acc = allPlaces mk s ns (placesOf mk n 0 (side s n .core .contents .boxes) acc)
+
 -- the configuration of a state, its marks named by mk
 unfoldable pub confAs : {M : Type 0} → (Mark → M) → Composition → State → Conf M
 confAs mk b s = record {
-  boxes = placesOf mk 2 0 (s .two .core .contents .boxes) (placesOf mk 1 0 (s .one .core .contents .boxes) []);
-  items = forwarders mk (isPipeline b) (b .wrapper)
-      ++ (shelfItems mk (s .two .core .taken) 0 (s .one .core .shelf)
-      ++ (sideItems mk (b .wrapper) 1 (b .table1) (s .one .core) ++ sideItems mk (b .wrapper) 2 (b .table2) (s .two .core)));
+  boxes = allPlaces mk s (wrapperOf b .sides) [];
+  items = forwarders mk (wrapperOf b)
+      ++ (bySide (λ n. shelfItems mk (isGone s n) n 0 (side s n .core .shelf)) (wrapperOf b .sides)
+      ++ bySide (λ n. sideItems mk (wrapperOf b) n (table b n) (side s n .core)) (wrapperOf b .sides));
   names = newOf b s;
   sites = 0;
   serial = 0;

@@ -1,17 +1,18 @@
 -- The eight steps.
-use mathlib.Core.Bool.{Bool, true, false, not, _&&_, _||_, cond}
+use mathlib.Core.Bool.{Bool, true, false, not, cond}
 use mathlib.Core.List.{List, [], _∷_, _++_}
 use mathlib.Core.Option.{Option, none, some}
 use Prim.Native.Nat.{ℕ, zero, suc, _+_, _-_, _*_}
 use lib.Dec.{leb, ltb, eqb}
 use lib.ListN.{length, getD, set}
-use Rattle.model.specs.Basics.{_&_, _or_, choose, Res, refuse, done, bind, need, every, remove, pick}
+use Rattle.model.specs.Basics.{_&_, _or_, choose, Res, refuse, done, bind, need, every, oneOf, remove, pick}
 use Rattle.model.specs.Values.{isValue, isMinted, sideOf, serial, Env, matches, binders, word, extend}
 use Rattle.model.specs.Table.{Term, nil, par, box, new, out, inp, term}
-use Rattle.model.specs.Side.{Tag, within, toParent, fromParent, toChild, fromChild, Particle, output, input, Box, Status, down, arrived, leaving, Message, Contents, Core, Side, State, limits}
+use Rattle.model.specs.Wrapper.{Route, hasSide, shelves}
+use Rattle.model.specs.Side.{Tag, within, toParent, fromParent, toChild, fromChild, Particle, output, input, Box, Status, down, arrived, leaving, Message, Contents, Core, Side, State, limits, side, putSide, takenAt, hasTaken}
 use Rattle.model.specs.Unfolding.{tagOf, addParticle, unfolds, defined}
-use Rattle.model.specs.Load.{Composition, isPipeline, Setting, setting1, setting2}
-use Rattle.model.specs.WellFormed.{envAt, shelves, ready}
+use Rattle.model.specs.Load.{Composition, wrapperOf, Setting, setting}
+use Rattle.model.specs.WellFormed.{envAt, shelfOf, ready}
 
 -- a step asked for; words are kind 1's value
 pub record Step : Type 0 where
@@ -83,7 +84,7 @@ isToParent (fromChild n) = false
 -- box to its parent, received from the child it left
 unfoldable pub upFrom : Setting → Core → ℕ → (b ch : ℕ) → (v : List ℕ) → Res Moved
 upFrom c s i zero ch v =
-    choose (shelves c & eqb ch 2)
+    choose (shelves (c .wrapper) (c .side) & eqb ch 2)
     (silently (record { contents = withParticles (s .contents) (remove (s .contents .particles) i); lobby = s .lobby; shelf = s .shelf ++ (v ∷ []); taken = s .taken }))
     (silently (withLobby (withContents s (withParticles (s .contents) (remove (s .contents .particles) i))) (s .lobby ++ (record { status = arrived; chan = ch; val = v } ∷ []))))
 upFrom c s i (suc b) ch v =
@@ -179,12 +180,17 @@ leave s i =
     need (isLeaving (m .status)) 13
     (done (record { label = leaves; val = m .val; core = withLobby s (remove (s .lobby) i) }))
 
--- 8 Take: shelf i, not yet taken, is marked and added to side 2's lobby as down on `mid`
-unfoldable pub takes : (shelf : List (List ℕ)) → Core → ℕ → Res Moved
-takes sh s i =
+-- 8 Take: shelf i of a source, not yet taken, is marked and added to the taker's lobby as down on `mid`
+unfoldable pub takes : (source : ℕ) → (shelf : List (List ℕ)) → Core → ℕ → Res Moved
+takes m sh s i =
     pick sh i λ v.
-    need (not (getD (s .taken) i false)) 13
-    (silently (record { contents = s .contents; lobby = s .lobby ++ (record { status = down; chan = 2; val = v } ∷ []); shelf = s .shelf; taken = set (s .taken) i true }))
+    need (not (hasTaken s m i)) 13
+    (silently (record { contents = s .contents; lobby = s .lobby ++ (record { status = down; chan = 2; val = v } ∷ []); shelf = s .shelf; taken = set (s .taken) (takenAt m i) true }))
+
+-- the route by which a side takes with this j; 10 where there is none
+unfoldable pub routeTo : List Route → (side j : ℕ) → Res Route
+routeTo [] n j = refuse 10
+routeTo (r ∷ rs) n j = choose (eqb (r .receiver) n & eqb (r .j) j) (done r) (routeTo rs n j)
 
 -- kinds 2 to 7: a side's own step, which sees its setting and its core, and nothing else. Value words, and j where it is
 -- unused, give 10
@@ -199,15 +205,12 @@ inner c s x =
     (choose (eqb (x .kind) 6) (pass s (x .i))
     (choose (eqb (x .kind) 7) (leave s (x .i)) (refuse 10))))))))
 
--- kinds 1 to 7: of the rest it sees which minted names may enter
-unfoldable pub local : Setting → (known : ℕ → Bool) → Core → Step → Res Moved
-local c known s x =
-    choose (eqb (x .kind) 1) (need (eqb (x .i) 0 & eqb (x .j) 0) 10 (enter known s (x .words))) (inner c s x)
-
--- side 2 under the pipeline: kind 8 besides
-unfoldable pub local2 : Setting → (known : ℕ → Bool) → (shelf : List (List ℕ)) → Core → Step → Res Moved
-local2 c known sh s x =
-    choose (eqb (x .kind) 8) (need (eqb (x .j) 0 & eqb (length (x .words)) 0) 10 (takes sh s (x .i))) (local c known s x)
+-- kinds 1 to 8: of the rest a side sees which minted names may enter, and the shelves that it may take from
+unfoldable pub local : Setting → (known : ℕ → Bool) → (shelf : ℕ → List (List ℕ)) → Core → Step → Res Moved
+local c known sh s x =
+    choose (eqb (x .kind) 1) (need (eqb (x .i) 0 & eqb (x .j) 0) 10 (enter known s (x .words)))
+    (choose (eqb (x .kind) 8) (need (eqb (length (x .words)) 0) 10 (bind (routeTo (c .wrapper .routes) (c .side) (x .j)) λ r. takes (r .source) (sh (r .source)) s (x .i)))
+    (inner c s x))
 
 -- an output's value has at most 16 words
 abbrev pub short : Particle → Bool
@@ -240,9 +243,9 @@ marks silent v l = l
 marks enters v l = l
 marks leaves v l = markAll l v
 
--- 12: a minted name may enter once it has left by either outlet
+-- 12: a minted name may enter once it has left by an outlet
 abbrev pub known : State → ℕ → Bool
-known s w = marked (s .one .left) w || marked (s .two .left) w
+known s w = oneOf (λ o. marked (o .left) w) (s .sides)
 
 -- a label with its side and value, or a refusal with its number and the side as asked
 pub data Answer : Type 0 where
@@ -265,15 +268,10 @@ pub record Result : Type 0 where
 -- a step: 10 for tables that load refuses, a state not well formed, and a side the wrapper lacks
 unfoldable pub step : Composition → State → Step → Result
 step b s x =
-    elim (ready b s) [
+    elim (ready b s & hasSide (wrapperOf b) (x .side)) [
       | false ↦ record { answer = refusal 10 (x .side); after = s }
-      | true ↦ elim (eqb (x .side) 1) [
-        | true ↦ let r = settled (local (setting1 b) (known s) (s .one .core) x) in record { answer = answerOf 1 r; after = record { one = sideAfter (s .one) r; two = s .two } }
-        | false ↦ elim (eqb (x .side) 2 && isPipeline b) [
-          | true ↦ let r = settled (local2 (setting2 b) (known s) (s .one .core .shelf) (s .two .core) x) in record { answer = answerOf 2 r; after = record { one = s .one; two = sideAfter (s .two) r } }
-          | false ↦ record { answer = refusal 10 (x .side); after = s }
-        ]
-      ]
+      | true ↦ let r = settled (local (setting b (x .side)) (known s) (shelfOf s) (side s (x .side) .core) x) in
+          record { answer = answerOf (x .side) r; after = putSide s (x .side) (sideAfter (side s (x .side)) r) }
     ]
 
 -- the answer to a step of what may be no state, as where a count passes its array: 10 there

@@ -1,17 +1,17 @@
 -- N and V lines, which name a side.
 use mathlib.Core.Path.{_≡_, refl, sym, ap, _∙_}
 use mathlib.Core.Bool.{Bool, true, false}
-use mathlib.Core.List.{List, _++_}
+use mathlib.Core.List.{List, [], _∷_, _++_}
 use mathlib.Core.Option.{Option, none, some}
 use Prim.Native.Nat.{ℕ, _+_, _<_, _≤_}
 use native.Mathlib.Omega.{arith}
 use borrow.Author.Tests.{lt-ltb, le-ltb, eq-eqb, ne-eqb}
 use lib.Dec.{ltb, eqb}
-use lib.ListN.{length, getD, take, drop, length-drop}
+use lib.ListN.{length, getD, set, take, drop, length-drop}
 use Rattle.model.specs.Basics.{_&_, choose}
 use Rattle.model.specs.Table.{Table}
-use Rattle.model.specs.Load.{Composition}
-use Rattle.format.specs.Lines.{Input, tableOf, between, onN, onV}
+use Rattle.model.specs.Load.{Composition, table}
+use Rattle.format.specs.Lines.{Input, between, onN, onV}
 use Rattle.reading.specs.declared.Places.{Places}
 use Rattle.reading.specs.declared.lines.After.the-variants.{Fault, Next}
 use Rattle.reading.specs.Lists.{Lists, lists, Filled, Inside, Holds, AfterIs}
@@ -68,17 +68,15 @@ module _ (high size room used : ℕ) (i : Input) (p : Places) (l : Lists) (h : H
 
 -- the table that a line's side names
 module _ (b : Composition) (f : Table → List ℕ) (n len : ℕ) (ws : List ℕ) (some-words : 0 < len) where
-  pub used-one : getD ws 0 0 ≡ 1 → n ≡ length (f (b .table1)) → length (f (tableOf b (getD (take len ws) 0 0))) ≡ n
-  unfolding choose
+  pub used-one : getD ws 0 0 ≡ 1 → n ≡ length (f (table b 1)) → length (f (table b (getD (take len ws) 0 0))) ≡ n
   used-one e q = rw (first-of len ws some-words ∙ e) (sym q)
 
-  pub used-two : getD ws 0 0 ≡ 2 → n ≡ length (f (b .table2)) → length (f (tableOf b (getD (take len ws) 0 0))) ≡ n
-  unfolding choose
+  pub used-two : getD ws 0 0 ≡ 2 → n ≡ length (f (table b 2)) → length (f (table b (getD (take len ws) 0 0))) ≡ n
   used-two e q = rw (first-of len ws some-words ∙ e) (sym q)
 
 -- an input with other tables
 withTables : (rank : ℕ) → Input → (table1 table2 : Table) → Input
-withTables r i s t = record { rank = r; loads = record { wrapper = i .loads .wrapper; table1 = s; table2 = t }; steps = i .steps }
+withTables r i s t = record { rank = r; loads = record { wrapper = i .loads .wrapper; tables = s ∷ t ∷ [] }; steps = i .steps }
 
 moreNodes : Table → List ℕ → Table
 moreNodes t ws = record { nodes = t .nodes ++ ws; pool = t .pool }
@@ -86,33 +84,41 @@ moreNodes t ws = record { nodes = t .nodes ++ ws; pool = t .pool }
 morePool : Table → List ℕ → Table
 morePool t ws = record { nodes = t .nodes; pool = t .pool ++ ws }
 
-pub n-gives : (i : Input) (ns : List ℕ) → sideTest 2 6 (i .rank) (length ns) (getD ns 0 0) (length (tableOf (i .loads) (getD ns 0 0) .nodes)) 1285 ≡ false → onN i ns ≡ none
+pub n-gives : (i : Input) (ns : List ℕ) → sideTest 2 6 (i .rank) (length ns) (getD ns 0 0) (length (table (i .loads) (getD ns 0 0) .nodes)) 1285 ≡ false → onN i ns ≡ none
 unfolding onN sideTest
 n-gives i ns e = fails _ _ e
 
-n-one : (i : Input) (ns : List ℕ) → getD ns 0 0 ≡ 1 → sideTest 2 6 (i .rank) (length ns) 1 (length (i .loads .table1 .nodes)) 1285 ≡ true →
-    onN i ns ≡ some (withTables 2 i (moreNodes (i .loads .table1) (drop 1 ns)) (i .loads .table2))
+n-one : (i : Input) (ns : List ℕ) → i .loads .tables ≡ table (i .loads) 1 ∷ table (i .loads) 2 ∷ [] → getD ns 0 0 ≡ 1 → sideTest 2 6 (i .rank) (length ns) 1 (length (table (i .loads) 1 .nodes)) 1285 ≡ true →
+    onN i ns ≡ some (withTables 2 i (moreNodes (table (i .loads) 1) (drop 1 ns)) (table (i .loads) 2))
 unfolding onN sideTest withTables moreNodes choose
-n-one i ns e h = rw (e, h)
+n-one i ns two e h =
+    let z : onN i ns ≡ some (record { rank = 2; loads = record { wrapper = i .loads .wrapper; tables = set (i .loads .tables) 0 (moreNodes (table (i .loads) 1) (drop 1 ns)) }; steps = i .steps }) = rw (e, h) in
+    z ∙ ap (λ (l : List Table). some (record { rank = 2; loads = record { wrapper = i .loads .wrapper; tables = set l 0 (moreNodes (table (i .loads) 1) (drop 1 ns)) }; steps = i .steps })) two
 
-n-two : (i : Input) (ns : List ℕ) → getD ns 0 0 ≡ 2 → sideTest 2 6 (i .rank) (length ns) 2 (length (i .loads .table2 .nodes)) 1285 ≡ true →
-    onN i ns ≡ some (withTables 2 i (i .loads .table1) (moreNodes (i .loads .table2) (drop 1 ns)))
+n-two : (i : Input) (ns : List ℕ) → i .loads .tables ≡ table (i .loads) 1 ∷ table (i .loads) 2 ∷ [] → getD ns 0 0 ≡ 2 → sideTest 2 6 (i .rank) (length ns) 2 (length (table (i .loads) 2 .nodes)) 1285 ≡ true →
+    onN i ns ≡ some (withTables 2 i (table (i .loads) 1) (moreNodes (table (i .loads) 2) (drop 1 ns)))
 unfolding onN sideTest withTables moreNodes choose
-n-two i ns e h = rw (e, h)
+n-two i ns two e h =
+    let z : onN i ns ≡ some (record { rank = 2; loads = record { wrapper = i .loads .wrapper; tables = set (i .loads .tables) 1 (moreNodes (table (i .loads) 2) (drop 1 ns)) }; steps = i .steps }) = rw (e, h) in
+    z ∙ ap (λ (l : List Table). some (record { rank = 2; loads = record { wrapper = i .loads .wrapper; tables = set l 1 (moreNodes (table (i .loads) 2) (drop 1 ns)) }; steps = i .steps })) two
 
-pub v-gives : (i : Input) (ns : List ℕ) → sideTest 3 2 (i .rank) (length ns) (getD ns 0 0) (length (tableOf (i .loads) (getD ns 0 0) .pool)) 1025 ≡ false → onV i ns ≡ none
+pub v-gives : (i : Input) (ns : List ℕ) → sideTest 3 2 (i .rank) (length ns) (getD ns 0 0) (length (table (i .loads) (getD ns 0 0) .pool)) 1025 ≡ false → onV i ns ≡ none
 unfolding onV sideTest
 v-gives i ns e = fails _ _ e
 
-v-one : (i : Input) (ns : List ℕ) → getD ns 0 0 ≡ 1 → sideTest 3 2 (i .rank) (length ns) 1 (length (i .loads .table1 .pool)) 1025 ≡ true →
-    onV i ns ≡ some (withTables 3 i (morePool (i .loads .table1) (drop 1 ns)) (i .loads .table2))
+v-one : (i : Input) (ns : List ℕ) → i .loads .tables ≡ table (i .loads) 1 ∷ table (i .loads) 2 ∷ [] → getD ns 0 0 ≡ 1 → sideTest 3 2 (i .rank) (length ns) 1 (length (table (i .loads) 1 .pool)) 1025 ≡ true →
+    onV i ns ≡ some (withTables 3 i (morePool (table (i .loads) 1) (drop 1 ns)) (table (i .loads) 2))
 unfolding onV sideTest withTables morePool choose
-v-one i ns e h = rw (e, h)
+v-one i ns two e h =
+    let z : onV i ns ≡ some (record { rank = 3; loads = record { wrapper = i .loads .wrapper; tables = set (i .loads .tables) 0 (morePool (table (i .loads) 1) (drop 1 ns)) }; steps = i .steps }) = rw (e, h) in
+    z ∙ ap (λ (l : List Table). some (record { rank = 3; loads = record { wrapper = i .loads .wrapper; tables = set l 0 (morePool (table (i .loads) 1) (drop 1 ns)) }; steps = i .steps })) two
 
-v-two : (i : Input) (ns : List ℕ) → getD ns 0 0 ≡ 2 → sideTest 3 2 (i .rank) (length ns) 2 (length (i .loads .table2 .pool)) 1025 ≡ true →
-    onV i ns ≡ some (withTables 3 i (i .loads .table1) (morePool (i .loads .table2) (drop 1 ns)))
+v-two : (i : Input) (ns : List ℕ) → i .loads .tables ≡ table (i .loads) 1 ∷ table (i .loads) 2 ∷ [] → getD ns 0 0 ≡ 2 → sideTest 3 2 (i .rank) (length ns) 2 (length (table (i .loads) 2 .pool)) 1025 ≡ true →
+    onV i ns ≡ some (withTables 3 i (table (i .loads) 1) (morePool (table (i .loads) 2) (drop 1 ns)))
 unfolding onV sideTest withTables morePool choose
-v-two i ns e h = rw (e, h)
+v-two i ns two e h =
+    let z : onV i ns ≡ some (record { rank = 3; loads = record { wrapper = i .loads .wrapper; tables = set (i .loads .tables) 1 (morePool (table (i .loads) 2) (drop 1 ns)) }; steps = i .steps }) = rw (e, h) in
+    z ∙ ap (λ (l : List Table). some (record { rank = 3; loads = record { wrapper = i .loads .wrapper; tables = set l 1 (morePool (table (i .loads) 2) (drop 1 ns)) }; steps = i .steps })) two
 
 -- places with other ranks and counts
 abbrev places : (rank : ℕ) → Places → (nodes1 pool1 nodes2 pool2 : ℕ) → Places
@@ -133,14 +139,14 @@ module _ (i : Input) (p : Places) (l : Lists) (h : Holds i p l) (len : ℕ) (ws 
       Holds (withTables r i s t) (places r p a b c d) (lists n1 p1 n2 p2 (l .steps))
   unfolding withTables
   held r a b c d n1 p1 n2 p2 s t g e f u v =
-      record { inside = g; rank = refl; wrapper = h .wrapper; nodes1 = e; pool1 = f; nodes2 = u; pool2 = v; steps = h .steps; words = h .words }
+      record { inside = g; rank = refl; wrapper = h .wrapper; tables = refl; nodes1 = e; pool1 = f; nodes2 = u; pool2 = v; steps = h .steps; words = h .words }
 
   pub n-taken-one : (new : List ℕ) → p .rank ≤ 2 → len ≡ 6 → getD ws 0 0 ≡ 1 → p .nodes1 < 1285 → take (p .nodes1 + 5) new ≡ take (p .nodes1) (l .nodes1) ++ take 5 (drop 1 ws) →
       AfterIs (onN i (take len ws)) (Next (places 2 p (p .nodes1 + 5) (p .pool1) (p .nodes2) (p .pool2))) (lists new (l .pool1) (l .nodes2) (l .pool2) (l .steps))
   unfolding moreNodes
   n-taken-one new r e k m q =
       is-next (onN i (take len ws)) _ _ _
-      (n-one i (take len ws) (first-of len ws (omega arith) ∙ k)
+      (n-one i (take len ws) (h .tables) (first-of len ws (omega arith) ∙ k)
       (ready 2 6 1 1285 _ _ r e (omega arith) (omega arith) (omega arith) (h .nodes1 .count) m))
       (held _ _ _ _ _ _ _ _ _ _ _ (omega arith) (stored 5 (p .nodes1) (l .nodes1) new _ e (omega arith) (h .nodes1) q) (h .pool1) (h .nodes2) (h .pool2))
 
@@ -149,7 +155,7 @@ module _ (i : Input) (p : Places) (l : Lists) (h : Holds i p l) (len : ℕ) (ws 
   unfolding moreNodes
   n-taken-two new r e k m q =
       is-next (onN i (take len ws)) _ _ _
-      (n-two i (take len ws) (first-of len ws (omega arith) ∙ k)
+      (n-two i (take len ws) (h .tables) (first-of len ws (omega arith) ∙ k)
       (ready 2 6 2 1285 _ _ r e (omega arith) (omega arith) (omega arith) (h .nodes2 .count) m))
       (held _ _ _ _ _ _ _ _ _ _ _ (omega arith) (h .nodes1) (h .pool1) (stored 5 (p .nodes2) (l .nodes2) new _ e (omega arith) (h .nodes2) q) (h .pool2))
 
@@ -158,7 +164,7 @@ module _ (i : Input) (p : Places) (l : Lists) (h : Holds i p l) (len : ℕ) (ws 
   unfolding morePool
   v-taken-one new r e k m q =
       is-next (onV i (take len ws)) _ _ _
-      (v-one i (take len ws) (first-of len ws (omega arith) ∙ k)
+      (v-one i (take len ws) (h .tables) (first-of len ws (omega arith) ∙ k)
       (ready 3 2 1 1025 _ _ r e (omega arith) (omega arith) (omega arith) (h .pool1 .count) m))
       (held _ _ _ _ _ _ _ _ _ _ _ (omega arith) (h .nodes1) (stored 1 (p .pool1) (l .pool1) new _ e (omega arith) (h .pool1) q) (h .nodes2) (h .pool2))
 
@@ -167,6 +173,6 @@ module _ (i : Input) (p : Places) (l : Lists) (h : Holds i p l) (len : ℕ) (ws 
   unfolding morePool
   v-taken-two new r e k m q =
       is-next (onV i (take len ws)) _ _ _
-      (v-two i (take len ws) (first-of len ws (omega arith) ∙ k)
+      (v-two i (take len ws) (h .tables) (first-of len ws (omega arith) ∙ k)
       (ready 3 2 2 1025 _ _ r e (omega arith) (omega arith) (omega arith) (h .pool2 .count) m))
       (held _ _ _ _ _ _ _ _ _ _ _ (omega arith) (h .nodes1) (h .pool1) (h .nodes2) (stored 1 (p .pool2) (l .pool2) new _ e (omega arith) (h .pool2) q))

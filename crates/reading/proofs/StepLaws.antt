@@ -88,6 +88,7 @@ module _ (i : Input) (p : Places) (l : Lists) (h : Holds i p l) (len : ℕ) (ws 
         inside = omega arith;
         rank = refl;
         wrapper = h .wrapper;
+        tables = h .tables;
         nodes1 = h .nodes1;
         pool1 = h .pool1;
         nodes2 = h .nodes2;

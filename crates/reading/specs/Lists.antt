@@ -1,9 +1,10 @@
 -- What the lent lists hold, and how far they are filled.
 use mathlib.Core.Path.{_≡_}
-use mathlib.Core.List.{List}
+use mathlib.Core.List.{List, [], _∷_}
 use mathlib.Core.Option.{Option, none, some}
 use Prim.Native.Nat.{ℕ, _*_, _≤_, _%_}
 use lib.ListN.{length, take}
+use Rattle.model.specs.Load.{table}
 use Rattle.format.specs.Words.{allStepWords}
 use Rattle.format.specs.Lines as format
 use Rattle.format.specs.Lines.{Input, fault, whole}
@@ -47,10 +48,11 @@ pub record Holds (i : Input) (p : Places) (l : Lists) : Type 0 where
   pub inside : Inside p
   pub rank : p .rank ≡ i .rank
   pub wrapper : p .wrapper ≡ i .loads .wrapper
-  pub nodes1 : Filled (p .nodes1) (l .nodes1) (i .loads .table1 .nodes)
-  pub pool1 : Filled (p .pool1) (l .pool1) (i .loads .table1 .pool)
-  pub nodes2 : Filled (p .nodes2) (l .nodes2) (i .loads .table2 .nodes)
-  pub pool2 : Filled (p .pool2) (l .pool2) (i .loads .table2 .pool)
+  pub tables : i .loads .tables ≡ table (i .loads) 1 ∷ table (i .loads) 2 ∷ []
+  pub nodes1 : Filled (p .nodes1) (l .nodes1) (table (i .loads) 1 .nodes)
+  pub pool1 : Filled (p .pool1) (l .pool1) (table (i .loads) 1 .pool)
+  pub nodes2 : Filled (p .nodes2) (l .nodes2) (table (i .loads) 2 .nodes)
+  pub pool2 : Filled (p .pool2) (l .pool2) (table (i .loads) 2 .pool)
   pub steps : p .steps ≡ length (i .steps)
   pub words : Filled (p .words) (l .steps) (allStepWords (i .steps))
 

@@ -12,7 +12,7 @@ use lib.ListN.{length, getD, take, drop, set, replicate, length-append, take-app
 use lib.Seq.{paste, take-all, length-take-le, drop-drop, paste-suc, length-paste, take-paste, drop-paste}
 use Rattle.model.specs.Basics.{choose}
 use Rattle.model.specs.Side.{State as MState}
-use Rattle.model.specs.Load.{Composition, isPipeline, Refused, Loaded, refused, ok, load}
+use Rattle.model.specs.Load.{Composition, Refused, Loaded, refused, ok, load}
 use Rattle.model.specs.WellFormed.{ready}
 use Rattle.model.specs.Step.{Step, step}
 use Rattle.model.proofs.Invariant.{keeps}
@@ -33,6 +33,7 @@ use Rattle.interpreter.specs.declared.Outcome.the-variants as outcome
 use Rattle.interpreter.specs.declared.LoadAnswer.{LoadAnswer}
 use Rattle.running.specs.declared.Ran.{Ran}
 use Rattle.running.specs.declared.Ran.the-variants as ran
+use Rattle.interpreter.proofs.WrapperLaws.{isPipeline}
 use Rattle.interpreter.specs.Loading.{outcomeOf, stateLoaded, LoadIs}
 use Rattle.dispatch.specs.Stepping.{asked}
 use Rattle.interpreter.specs.Answers.{saidOf, givenFor}

@@ -7,13 +7,13 @@ ghost use mathlib.Core.Option.{some};
 ghost use Prim.Native.Nat.{_+_, _-_, _*_, _≤_};
 ghost use lib.ListN.{length, getD};
 ghost use Rattle.model.specs.WellFormed.{ready};
-ghost use Rattle.model.specs.Step.{Step, settled, local, local2};
+ghost use Rattle.model.specs.Step.{Step, settled};
 ghost use Rattle.model.specs.Runs.{answers};
 ghost use Rattle.format.specs.Words.{stepsOf, stepAt, allAnswerWords, runOf};
 ghost use Rattle.sides.specs.Views.{viewCore, viewShelf, viewState, fitsShelf, fitsArrays};
 ghost use Rattle.steps.specs.Asked.{knownBy};
 ghost use Rattle.steps.specs.StepIs.{StepIs};
-ghost use Rattle.dispatch.specs.Stepping.{settingOf, OwnReady};
+ghost use Rattle.dispatch.specs.Stepping.{settingOf, ownLocal, secondLocal, OwnReady};
 ghost use Rattle.interpreter.specs.Loading.{composition};
 ghost use Rattle.running.specs.Running.{countOf, Put, RunIs};
 use answer_words::put_answer;
@@ -58,7 +58,7 @@ fn first_at(
     p: usize,
 ) -> SideStep
     requires { ⌜ (OwnReady (settingOf 1 pipeline (now nodes) (now pool)) one) × (p + 5 ≤ length (now steps)) × (getD (now steps) (p + 4) 0 ≤ length (now steps) - (p + 5)) ⌝ }
-    ensures { λ r. ⌜ StepIs (settled (local (settingOf 1 pipeline (now (nodes .entry)) (now (pool .entry))) (knownBy (one .left) left2) (viewCore one) (stepAt (now (steps .entry)) p))) one r ⌝ }
+    ensures { λ r. ⌜ StepIs (settled (ownLocal (settingOf 1 pipeline (now (nodes .entry)) (now (pool .entry))) (knownBy (one .left) left2) (viewCore one) (stepAt (now (steps .entry)) p))) one r ⌝ }
 {
     let x = asked_at(steps, p);
     let words = value_at(steps, p);
@@ -90,7 +90,7 @@ fn second_at(
     p: usize,
 ) -> SideStep
     requires { ⌜ (OwnReady (settingOf 2 pipeline (now nodes) (now pool)) two) × (fitsShelf shelf ≡ true) × (p + 5 ≤ length (now steps)) × (getD (now steps) (p + 4) 0 ≤ length (now steps) - (p + 5)) ⌝ }
-    ensures { λ r. ⌜ StepIs (settled (local2 (settingOf 2 pipeline (now (nodes .entry)) (now (pool .entry))) (knownBy left1 (two .left)) (viewShelf shelf) (viewCore two) (stepAt (now (steps .entry)) p))) two r ⌝ }
+    ensures { λ r. ⌜ StepIs (settled (secondLocal (settingOf 2 pipeline (now (nodes .entry)) (now (pool .entry))) (knownBy left1 (two .left)) (viewShelf shelf) (viewCore two) (stepAt (now (steps .entry)) p))) two r ⌝ }
 {
     let x = asked_at(steps, p);
     let words = value_at(steps, p);

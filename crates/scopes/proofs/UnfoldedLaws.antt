@@ -1,7 +1,7 @@
 -- The counts of a term at a node, by the node's kind; exact in a table that passes the checks.
 use mathlib.Core.Path.{_≡_, refl, sym, _∙_, subst}
 use mathlib.Core.List.{List}
-use Prim.Native.Nat.{ℕ, zero, suc, _-_, _<_, _≤_}
+use Prim.Native.Nat.{ℕ, zero, suc, _<_, _≤_}
 use native.Mathlib.Omega.{arith}
 use Rattle.model.specs.Table.{Table, count, Term, build, term}
 use Rattle.tables.specs.declared.nodes.Node.{Node}

@@ -30,7 +30,7 @@ use Rattle.sides.proofs.Lists.{view-length, view-at, view-pick, every-a
 
 -- a side with boxes b and nothing else
 pub bare-is : (ps : Particles) (b : Boxes) (l : Lobby) (h : Shelf) → ParticlesIs [] 0 true ps → LobbyIs [] 0 true l → ShelfIs [] 0 true h →
-    Bare b (record { particles = ps; boxes = b; minted = 0; lobby = l; shelf = h; taken = replicate 32 false; left = replicate 512 false })
+    Bare b (record { particles = ps; boxes = b; minted = 0; lobby = l; shelf = h; taken = replicate 64 false; left = replicate 512 false })
 bare-is ps b l h p q r =
     record { view = rw (p .view, q .view, r .view); fits = λ e. both _ _ (p .fits refl) (both _ _ e (both _ _ (q .fits refl) (r .fits refl))) }
 

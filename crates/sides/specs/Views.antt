@@ -1,6 +1,6 @@
 -- The structs as the model's lists. A list is the places of an array below its length.
 use mathlib.Core.Bool.{Bool, cond}
-use mathlib.Core.List.{List, map}
+use mathlib.Core.List.{List, [], _∷_, map}
 use mathlib.Core.Option.{Option, none, some}
 use Prim.Native.Nat.{ℕ}
 use lib.Dec.{leb}
@@ -81,7 +81,7 @@ viewSide s = record { core = viewCore s; left = s .left }
 
 -- both sides
 abbrev pub viewState : State → MState
-viewState s = record { one = viewSide (s .one); two = viewSide (s .two) }
+viewState s = record { sides = viewSide (s .one) ∷ viewSide (s .two) ∷ [] }
 
 -- a value's length is within its array
 abbrev pub fitsValue : Value → Bool

@@ -84,7 +84,7 @@ pub struct Side {
     pub minted: usize,
     pub lobby: Lobby,
     pub shelf: Shelf,
-    pub taken: [bool; 32],
+    pub taken: [bool; 64],
     pub left: [bool; 512],
 }
 

@@ -86,7 +86,7 @@ impl Side {
             minted: 0,
             lobby,
             shelf,
-            taken: [false; 32],
+            taken: [false; 64],
             left: [false; 512],
         }
     }
@@ -140,7 +140,7 @@ impl Side {
         self
     }
 
-    pub fn with_taken(mut self, x: [bool; 32]) -> Self
+    pub fn with_taken(mut self, x: [bool; 64]) -> Self
         ensures { λ r. ⌜ r ≡ putTaken self x ⌝ }
     {
         self.taken = x;

@@ -19,7 +19,7 @@
 //               message 15 of 16
 //   wfCore      shelf 1 on side 2 and under the filter; shelf 31 of 32
 //   wfLeft      left 1 and 258 (the filter's: 2 and 256)
-//   wfTaken     taken on side 1; on side 2 at a place past the shelf's length
+//   wfTaken     taken on side 1; on side 2 at a place past the shelf's length, and at 32 and 63, places of side 2's shelf
 //   isNoSide    filter 2: particles, boxes, messages, shelf, minted, left, taken
 mod cases; // one thing put anew
 mod inputs; // waiting inputs
@@ -58,6 +58,18 @@ fn taken_marks(s: State) {
     taken_case(true, 2, 2, s, 31, 32);
 }
 
+// Places 32 to 63 are for a shelf of side 2, which has none: no side has a mark there, however full side 1's shelf is.
+fn taken_marks_past_32(s: State, f: State) {
+    taken_case(false, 2, 1, s, 32, 32);
+    taken_case(false, 2, 1, s, 63, 32);
+    taken_case(false, 2, 2, s, 32, 32);
+    taken_case(false, 2, 2, s, 63, 32);
+    taken_case(false, 1, 1, f, 32, 0);
+    taken_case(false, 1, 1, f, 63, 0);
+    taken_case(false, 1, 2, f, 32, 0);
+    taken_case(false, 1, 2, f, 63, 0);
+}
+
 // The filter: two names of side 1, none of side 2, which is empty.
 fn filter(s: State) {
     cases(1, 1, s, 0, 32);
@@ -85,4 +97,5 @@ fn main() {
     largest_serials(s);
     taken_marks(s);
     filter(f);
+    taken_marks_past_32(s, f);
 }

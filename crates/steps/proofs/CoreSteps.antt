@@ -10,10 +10,10 @@ use lib.Dec.{eqb}
 use lib.ListN.{length, getD, getElem?, set, length-append, length-set}
 use Rattle.model.specs.Basics.{_&_, _or_, refuse, done, need, every, remove, pick}
 use Rattle.model.specs.Values.{isValue, isMinted}
-use Rattle.model.specs.Side.{Tag, fromParent, fromChild, Particle, output, input, Box, down, arrived, leaving, Message, Core, limits}
+use Rattle.model.specs.Side.{Tag, fromParent, fromChild, Particle, output, input, Box, down, arrived, leaving, Message, Core, limits, takenAt}
 use Rattle.model.specs.Unfolding.{addParticle}
 use Rattle.model.specs.Load.{Setting}
-use Rattle.model.specs.WellFormed.{shelves}
+use Rattle.model.specs.Wrapper.{shelves}
 use Rattle.model.specs.Step.{Moved, silent, enters, leaves, silently, withContents, withLobby, withParticles, enter, isDown, isArrived, isLeaving, goDown, isToParent, upFrom, upParticle, up, isToChild, descendParticle, descend, pass, leave, takes, short, settled}
 use Rattle.model.proofs.Tests.{both, every-append, every-one, every-remove, every-set, length-remove}
 use Rattle.steps.proofs.Settling.{pick-past, pick-at, need-true, need-false, choose-true, choose-false, no-left, no-right, Within, limits-in, over-particles, over-lobby, over-shelf, settled-refused, settled-full, settled-within}
@@ -42,6 +42,10 @@ takeCore s i v = record { contents = s .contents; lobby = s .lobby ++ (record { 
 
 abbrev pub quiet : Core → Moved
 quiet s = record { label = silent; val = []; core = s }
+
+-- side 1's shelf has the first places of the taken marks
+pub taken-first : (i : ℕ) → takenAt 1 i ≡ i
+taken-first i = omega arith
 
 module _ (s : Core) (sh : every short (s .contents .particles) ≡ true) (few : limits s ≡ true) where
   in-limits : Within s
@@ -133,31 +137,31 @@ module _ (s : Core) (sh : every short (s .contents .particles) ≡ true) (few : 
   remove-short : (i : ℕ) → every short (remove (s .contents .particles) i) ≡ true
   remove-short i = every-remove short (s .contents .particles) i sh
 
-  shelf-from : (c : Setting) (i : ℕ) (v : List ℕ) → shelves c ≡ true → upFrom c s i 0 2 v ≡ done (quiet (shelfCore s i v))
+  shelf-from : (c : Setting) (i : ℕ) (v : List ℕ) → shelves (c .wrapper) (c .side) ≡ true → upFrom c s i 0 2 v ≡ done (quiet (shelfCore s i v))
   unfolding upFrom
   shelf-from c i v e = choose-true _ _ _ (both _ _ e refl)
 
-  pub shelf-17 : (c : Setting) (i : ℕ) (v : List ℕ) → shelves c ≡ true → 32 ≤ length (s .shelf) → settled (upFrom c s i 0 2 v) ≡ refuse 17
+  pub shelf-17 : (c : Setting) (i : ℕ) (v : List ℕ) → shelves (c .wrapper) (c .side) ≡ true → 32 ≤ length (s .shelf) → settled (upFrom c s i 0 2 v) ≡ refuse 17
   shelf-17 c i v e h =
       settled-full _ (quiet (shelfCore s i v)) (shelf-from c i v e) (remove-short i)
       (over-shelf (shelfCore s i v) (omega (arith, length-append (s .shelf) (v ∷ []))))
 
-  pub shelf-done : (c : Setting) (i : ℕ) (v : List ℕ) → shelves c ≡ true → length (s .shelf) < 32 → settled (upFrom c s i 0 2 v) ≡ done (quiet (shelfCore s i v))
+  pub shelf-done : (c : Setting) (i : ℕ) (v : List ℕ) → shelves (c .wrapper) (c .side) ≡ true → length (s .shelf) < 32 → settled (upFrom c s i 0 2 v) ≡ done (quiet (shelfCore s i v))
   shelf-done c i v e h =
       let w = in-limits in
       settled-within _ (quiet (shelfCore s i v)) (shelf-from c i v e) (remove-short i)
       (record { particles = omega (arith, length-remove (s .contents .particles) i); boxes = w .boxes; minted = w .minted; lobby = w .lobby; shelf = omega (arith, length-append (s .shelf) (v ∷ [])) })
 
-  lobby-from : (c : Setting) (i ch : ℕ) (v : List ℕ) → shelves c & eqb ch 2 ≡ false → upFrom c s i 0 ch v ≡ done (quiet (lobbyCore s i ch v))
+  lobby-from : (c : Setting) (i ch : ℕ) (v : List ℕ) → shelves (c .wrapper) (c .side) & eqb ch 2 ≡ false → upFrom c s i 0 ch v ≡ done (quiet (lobbyCore s i ch v))
   unfolding upFrom
   lobby-from c i ch v e = choose-false _ _ _ e
 
-  pub lobby-17 : (c : Setting) (i ch : ℕ) (v : List ℕ) → shelves c & eqb ch 2 ≡ false → 16 ≤ length (s .lobby) → settled (upFrom c s i 0 ch v) ≡ refuse 17
+  pub lobby-17 : (c : Setting) (i ch : ℕ) (v : List ℕ) → shelves (c .wrapper) (c .side) & eqb ch 2 ≡ false → 16 ≤ length (s .lobby) → settled (upFrom c s i 0 ch v) ≡ refuse 17
   lobby-17 c i ch v e h =
       settled-full _ (quiet (lobbyCore s i ch v)) (lobby-from c i ch v e) (remove-short i)
       (over-lobby (lobbyCore s i ch v) (omega (arith, length-append (s .lobby) (record { status = arrived; chan = ch; val = v } ∷ []))))
 
-  pub lobby-done : (c : Setting) (i ch : ℕ) (v : List ℕ) → shelves c & eqb ch 2 ≡ false → length (s .lobby) < 16 → settled (upFrom c s i 0 ch v) ≡ done (quiet (lobbyCore s i ch v))
+  pub lobby-done : (c : Setting) (i ch : ℕ) (v : List ℕ) → shelves (c .wrapper) (c .side) & eqb ch 2 ≡ false → length (s .lobby) < 16 → settled (upFrom c s i 0 ch v) ≡ done (quiet (lobbyCore s i ch v))
   lobby-done c i ch v e h =
       let w = in-limits in
       settled-within _ (quiet (lobbyCore s i ch v)) (lobby-from c i ch v e) (remove-short i)
@@ -252,23 +256,25 @@ module _ (s : Core) (sh : every short (s .contents .particles) ≡ true) (few : 
 
   -- take
   module _ (h : List (List ℕ)) (i : ℕ) where
-    pub take-10 : length h ≤ i → settled (takes h s i) ≡ refuse 10
+    pub take-10 : length h ≤ i → settled (takes 1 h s i) ≡ refuse 10
     unfolding takes
     take-10 p = settled-refused _ _ (pick-past h i _ p)
 
-    take-at : (v : List ℕ) → getElem? h i ≡ some v → takes h s i ≡ need (not (getD (s .taken) i false)) 13 (silently (takeCore s i v))
+    take-at : (v : List ℕ) → getElem? h i ≡ some v → takes 1 h s i ≡ need (not (getD (s .taken) i false)) 13 (silently (takeCore s i v))
     unfolding takes
-    take-at v e = pick-at h i v _ e
+    take-at v e =
+        pick-at h i v _ e ∙
+        ap (λ (n : ℕ). need (not (getD (s .taken) n false)) 13 (silently (record { contents = s .contents; lobby = s .lobby ++ (record { status = down; chan = 2; val = v } ∷ []); shelf = s .shelf; taken = set (s .taken) n true }))) (taken-first i)
 
-    pub take-13 : (v : List ℕ) → getElem? h i ≡ some v → getD (s .taken) i false ≡ true → settled (takes h s i) ≡ refuse 13
+    pub take-13 : (v : List ℕ) → getElem? h i ≡ some v → getD (s .taken) i false ≡ true → settled (takes 1 h s i) ≡ refuse 13
     take-13 v e t = settled-refused _ _ (take-at v e ∙ need-false _ _ _ (ap not t))
 
-    pub take-17 : (v : List ℕ) → getElem? h i ≡ some v → getD (s .taken) i false ≡ false → 16 ≤ length (s .lobby) → settled (takes h s i) ≡ refuse 17
+    pub take-17 : (v : List ℕ) → getElem? h i ≡ some v → getD (s .taken) i false ≡ false → 16 ≤ length (s .lobby) → settled (takes 1 h s i) ≡ refuse 17
     take-17 v e t p =
         settled-full _ (quiet (takeCore s i v)) (take-at v e ∙ need-true _ _ _ (ap not t)) sh
         (over-lobby (takeCore s i v) (omega (arith, length-append (s .lobby) (record { status = down; chan = 2; val = v } ∷ []))))
 
-    pub take-done : (v : List ℕ) → getElem? h i ≡ some v → getD (s .taken) i false ≡ false → length (s .lobby) < 16 → settled (takes h s i) ≡ done (quiet (takeCore s i v))
+    pub take-done : (v : List ℕ) → getElem? h i ≡ some v → getD (s .taken) i false ≡ false → length (s .lobby) < 16 → settled (takes 1 h s i) ≡ done (quiet (takeCore s i v))
     take-done v e t p =
         let w = in-limits in
         settled-within _ (quiet (takeCore s i v)) (take-at v e ∙ need-true _ _ _ (ap not t)) sh

@@ -1,6 +1,6 @@
 -- Enter and take: a law for each way that the code goes.
 use mathlib.Core.Path.{_≡_, refl, sym, ap, subst, _∙_}
-use mathlib.Core.Bool.{Bool, true, false}
+use mathlib.Core.Bool.{Bool, true, false, _||_}
 use mathlib.Core.List.{List, [], _∷_, _++_}
 use Prim.Native.Nat.{ℕ, _+_, _<_, _≤_}
 use native.Mathlib.Omega.{arith}
@@ -38,7 +38,11 @@ module _ (l1 l2 : List Bool) (w : ℕ) where
 
   pub may-two : (x y : Bool) → isMinted w ≡ true → (isMinted w ≡ true → x ≡ marked l1 w) → x ≡ false → (isMinted w ≡ true → y ≡ marked l2 w) → y ≡ mayEnter l1 l2 w
   unfolding _or_
-  may-two x y m p e q = let z : marked l1 w ≡ false = sym (p m) ∙ e in rw (m, z) (q m)
+  may-two x y m p e q = let z : marked l1 w ≡ false = sym (p m) ∙ e in rw (m, z) (q m ∙ alone (marked l2 w))
+    where
+      alone : (t : Bool) → t ≡ t || false
+      alone true = refl
+      alone false = refl
 
   pub may-other : isMinted w ≡ false → true ≡ mayEnter l1 l2 w
   unfolding _or_
@@ -97,14 +101,14 @@ module _ (o : Side) (i : ℕ) (h : Shelf) (ok : Sane o) (full : Full o) (rows : 
   cap : h .len ≤ 32
   cap = shelf-short h fit
 
-  pub take-past : h .len ≤ i → settled (takes (viewShelf h) (viewCore o) i) ≡ refuse 10
+  pub take-past : h .len ≤ i → settled (takes 1 (viewShelf h) (viewCore o) i) ≡ refuse 10
   take-past p = core.take-10 (viewCore o) (ok .short-outputs) (ok .few) (viewShelf h) i (rw (shelf-length h rows cap) p)
 
   module _ (d : Value) (p : i < h .len) where
-    pub take-again : getD (o .taken) i false ≡ true → settled (takes (viewShelf h) (viewCore o) i) ≡ refuse 13
+    pub take-again : getD (o .taken) i false ≡ true → settled (takes 1 (viewShelf h) (viewCore o) i) ≡ refuse 13
     take-again t = core.take-13 (viewCore o) (ok .short-outputs) (ok .few) (viewShelf h) i (viewValue (getD (h .rows) i d)) (shelf-at h rows cap i d p) t
 
-    pub take-full : getD (o .taken) i false ≡ false → 16 ≤ o .lobby .len → settled (takes (viewShelf h) (viewCore o) i) ≡ refuse 17
+    pub take-full : getD (o .taken) i false ≡ false → 16 ≤ o .lobby .len → settled (takes 1 (viewShelf h) (viewCore o) i) ≡ refuse 17
     take-full t n = core.take-17 (viewCore o) (ok .short-outputs) (ok .few) (viewShelf h) i (viewValue (getD (h .rows) i d)) (shelf-at h rows cap i d p) t (rw (lobby-n o ok full) n)
 
 pub take-did : (o : Side) (i k : ℕ) (h : Shelf) → k ≡ i → (ok : Sane o) → Full o → length (h .rows) ≡ 32 → fitsShelf h ≡ true → (d : Value) (r : SideStep) (m : Message) (l : Lobby) (s t : Side) (n : ℕ) (b : List Bool) → TakeAt o h k →
@@ -114,14 +118,14 @@ pub take-did : (o : Side) (i k : ℕ) (h : Shelf) → k ≡ i → (ok : Sane o) 
     b ≡ set (o .taken) k true →
     t ≡ putTaken s b →
     Says said.Silent t r →
-    StepIs (settled (takes (viewShelf h) (viewCore o) i)) o r
+    StepIs (settled (takes 1 (viewShelf h) (viewCore o) i)) o r
 take-did o i k h same ok full rows fit d r m l s t n b a me ls se be te says =
     let v : Value = getD (h .rows) k d in
     let cap : h .len ≤ 32 = shelf-short h fit in
     let vf : fitsValue v ≡ true = shelf-fits-at h rows cap k d (a .held) fit in
     let fits : fitsSide (putTaken (putLobby o l) b) ≡ true =
     side-fits (putTaken (putLobby o l) b) (side-particles o (ok .arrays)) (side-boxes o (ok .arrays)) (ls .fits (both _ _ (side-lobby o (ok .arrays)) (ap fitsMessage me ∙ vf))) (side-shelf o (ok .arrays)) in
-    subst (λ (x : ℕ). StepIs (settled (takes (viewShelf h) (viewCore o) x)) o r) same
+    subst (λ (x : ℕ). StepIs (settled (takes 1 (viewShelf h) (viewCore o) x)) o r) same
     (quiet-is _ (core.takeCore (viewCore o) k (viewValue v)) o t (putTaken (putLobby o l) b) r
     (core.take-done (viewCore o) (ok .short-outputs) (ok .few) (viewShelf h) k (viewValue v) (shelf-at h rows cap k d (a .held)) (a .fresh) (rw (lobby-n o ok full) (a .room)))
     says (te ∙ ap (λ (y : Side). putTaken y b) se) (rw (ls .view, me, be)) refl fits)

@@ -11,6 +11,7 @@ use lib.ListN.{length, take, getD, getElem?, length-take}
 use Rattle.model.specs.Basics.{Res, refuse, done, every}
 use Rattle.model.specs.Side.{output, input, Core}
 use Rattle.model.specs.Side.{Particle as MParticle}
+use Rattle.model.specs.Wrapper.{filter}
 use Rattle.model.specs.Load.{Setting}
 use Rattle.model.specs.WellFormed.{Counts, wfCore, wfParticle}
 use Rattle.model.specs.Step.{Moved, marks}
@@ -71,7 +72,7 @@ getD-any (x ∷ l) (suc i) d e h = getD-any l i d e (omega arith)
 
 -- a setting, where any serves
 pub anySetting : Setting
-anySetting = record { side = 0; pipeline = false; table = record { nodes = []; pool = [] } }
+anySetting = record { wrapper = filter; side = 0; table = record { nodes = []; pool = [] } }
 
 -- there is an element within a list
 pub elem-some : {A : Type 0} (l : List A) (i : ℕ) → i < length l → (x : A) × (getElem? l i ≡ some x)

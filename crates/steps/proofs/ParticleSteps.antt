@@ -9,7 +9,7 @@ use lib.ListN.{getD, set}
 use Rattle.model.specs.Basics.{_&_, refuse, remove}
 use Rattle.model.specs.Side.{output, fromParent, fromChild}
 use Rattle.model.specs.Load.{Setting}
-use Rattle.model.specs.WellFormed.{shelves}
+use Rattle.model.specs.Wrapper.{shelves}
 use Rattle.model.specs.Step.{isToParent, isToChild, up, upFrom, descend, settled}
 use Rattle.model.proofs.Tests.{both}
 use Rattle.values.specs.declared.Value.{Value}
@@ -86,7 +86,7 @@ module _ (o : Side) (i : ℕ) (ok : Sane o) (full : Full o) where
 
 -- output i out of its box
 module _ (o : Side) (i : ℕ) (ok : Sane o) (full : Full o) (c : Setting) (r : SideStep) where
-  module _ (v : Value) (e : shelves c ≡ true) where
+  module _ (v : Value) (e : shelves (c .wrapper) (c .side) ≡ true) where
     pub shelf-full : 32 ≤ o .shelf .len → Says (said.Refused 17) o r → StepIs (settled (upFrom c (viewCore o) i 0 2 (viewValue v))) o r
     shelf-full h says = refused-is _ o 17 r (core.shelf-17 (viewCore o) (ok .short-outputs) (ok .few) c i (viewValue v) e (rw (shelf-n o ok full) h)) says
 
@@ -105,7 +105,7 @@ module _ (o : Side) (i : ℕ) (ok : Sane o) (full : Full o) (c : Setting) (r : S
         (core.shelf-done (viewCore o) (ok .short-outputs) (ok .few) c i (viewValue v) e (rw (shelf-n o ok full) h)) says (te ∙ ap (λ (y : Side). putShelf y x) se)
         (rw (ps .view, xs .view)) refl fits
 
-  module _ (ch : ℕ) (v : Value) (e : shelves c & eqb ch 2 ≡ false) where
+  module _ (ch : ℕ) (v : Value) (e : shelves (c .wrapper) (c .side) & eqb ch 2 ≡ false) where
     pub lobby-full : 16 ≤ o .lobby .len → Says (said.Refused 17) o r → StepIs (settled (upFrom c (viewCore o) i 0 ch (viewValue v))) o r
     lobby-full h says = refused-is _ o 17 r (core.lobby-17 (viewCore o) (ok .short-outputs) (ok .few) c i ch (viewValue v) e (rw (lobby-n o ok full) h)) says
 

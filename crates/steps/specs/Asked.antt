@@ -1,10 +1,10 @@
 -- What the checks of the steps answer, and what is known of a side where they answer a position.
 use mathlib.Core.Path.{_≡_}
-use mathlib.Core.Bool.{Bool, true, false, not, _||_}
-use mathlib.Core.List.{List, []}
+use mathlib.Core.Bool.{Bool, true, false, not}
+use mathlib.Core.List.{List, [], _∷_}
 use Prim.Native.Nat.{ℕ, _<_}
 use lib.ListN.{getD}
-use Rattle.model.specs.Basics.{_or_, Res, refuse, every}
+use Rattle.model.specs.Basics.{_or_, Res, refuse, every, oneOf}
 use Rattle.model.specs.Values.{isValue, isMinted}
 use Rattle.model.specs.Step.{Moved, isDown, isArrived, isLeaving, isToParent, isToChild, marked}
 use Rattle.values.specs.Env.{Stores}
@@ -75,7 +75,7 @@ pub record TakeAt (o : Side) (h : Shelf) (i : ℕ) : Type 0 where
 
 -- a minted name that has left by either outlet
 abbrev pub knownBy : List Bool → List Bool → ℕ → Bool
-knownBy l1 l2 w = marked l1 w || marked l2 w
+knownBy l1 l2 w = oneOf (λ l. marked l w) (l1 ∷ l2 ∷ [])
 
 -- a word that passes 12
 abbrev pub mayEnter : List Bool → List Bool → ℕ → Bool

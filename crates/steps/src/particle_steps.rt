@@ -5,7 +5,7 @@ ghost use Prim.Native.Nat.{_<_, _≤_};
 ghost use lib.Dec.{eqb};
 ghost use Rattle.model.specs.Basics.{_&_};
 ghost use Rattle.model.specs.Load.{Setting};
-ghost use Rattle.model.specs.WellFormed.{shelves};
+ghost use Rattle.model.specs.Wrapper.{shelves};
 ghost use Rattle.model.specs.Step.{up, upFrom, descend, settled};
 ghost use Rattle.values.specs.Env.{viewValue};
 ghost use Rattle.sides.specs.Views.{viewCore};
@@ -46,7 +46,7 @@ fn up_offer(o: Side, i: usize) -> Offer
 // Output i goes out of box 0 on `mid` to the shelf, with its value v.
 fn to_shelf(o: Side, i: usize, v: Value) -> SideStep
     requires { ⌜ (Sane o) × (i < o .particles .len) × (v .len ≤ 16) ⌝ }
-    ensures { λ r. ⌜ ((c : Setting) → shelves c ≡ true → StepIs (settled (upFrom c (viewCore o) i 0 2 (viewValue v))) o r) ⌝ }
+    ensures { λ r. ⌜ ((c : Setting) → shelves (c .wrapper) (c .side) ≡ true → StepIs (settled (upFrom c (viewCore o) i 0 2 (viewValue v))) o r) ⌝ }
 {
     let h = o.shelf;
     if !Side::shelf_within(h.len + 1) {
@@ -62,7 +62,7 @@ fn to_shelf(o: Side, i: usize, v: Value) -> SideStep
 // Output i goes out of box 0 on channel ch to the lobby, with its value v.
 fn to_lobby(o: Side, i: usize, ch: u32, v: Value) -> SideStep
     requires { ⌜ (Sane o) × (i < o .particles .len) × (v .len ≤ 16) ⌝ }
-    ensures { λ r. ⌜ ((c : Setting) → shelves c & eqb ch 2 ≡ false → StepIs (settled (upFrom c (viewCore o) i 0 ch (viewValue v))) o r) ⌝ }
+    ensures { λ r. ⌜ ((c : Setting) → shelves (c .wrapper) (c .side) & eqb ch 2 ≡ false → StepIs (settled (upFrom c (viewCore o) i 0 ch (viewValue v))) o r) ⌝ }
 {
     let l = o.lobby;
     if !Side::lobby_within(l.len + 1) {
@@ -91,7 +91,7 @@ fn to_box(o: Side, i: usize, b: usize, ch: u32, v: Value) -> SideStep
 // Up: output i with tag parent. `shelving` says whether what goes up on `mid` goes to the shelf.
 pub fn up(shelving: bool, o: Side, i: usize) -> SideStep
     requires { ⌜ Sane o ⌝ }
-    ensures { λ r. ⌜ ((c : Setting) → shelves c ≡ shelving → StepIs (settled (up c (viewCore o) i)) o r) ⌝ }
+    ensures { λ r. ⌜ ((c : Setting) → shelves (c .wrapper) (c .side) ≡ shelving → StepIs (settled (up c (viewCore o) i)) o r) ⌝ }
 {
     let a = up_offer(o, i);
     let Offer::At(k) = a else {

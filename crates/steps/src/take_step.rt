@@ -16,7 +16,7 @@ use sides::Status;
 // Whether shelf i is not yet taken, with room for a message more.
 fn take_offer(o: Side, shelf: Shelf, i: usize) -> Offer
     requires { ⌜ (Sane o) × (fitsShelf shelf ≡ true) ⌝ }
-    ensures { λ r. ⌜ OfferIs (settled (takes (viewShelf shelf) (viewCore o) i)) i (TakeAt o shelf) r ⌝ }
+    ensures { λ r. ⌜ OfferIs (settled (takes 1 (viewShelf shelf) (viewCore o) i)) i (TakeAt o shelf) r ⌝ }
 {
     if shelf.len <= i {
         return Offer::Refused(10);
@@ -35,7 +35,7 @@ fn take_offer(o: Side, shelf: Shelf, i: usize) -> Offer
 // Take: shelf i, not yet taken, is marked and added to the lobby as down on `mid`.
 pub fn take(o: Side, shelf: Shelf, i: usize) -> SideStep
     requires { ⌜ (Sane o) × (fitsShelf shelf ≡ true) ⌝ }
-    ensures { λ r. ⌜ StepIs (settled (takes (viewShelf shelf) (viewCore o) i)) o r ⌝ }
+    ensures { λ r. ⌜ StepIs (settled (takes 1 (viewShelf shelf) (viewCore o) i)) o r ⌝ }
 {
     let a = take_offer(o, shelf, i);
     let Offer::At(k) = a else {

@@ -4,13 +4,14 @@ use mathlib.Core.Bool.{Bool}
 use mathlib.Core.List.{List, _∷_, _++_}
 use mathlib.Core.Logic.{_⊎_, inl, inr}
 use mathlib.Core.Option.{some}
-use Prim.Native.Nat.{ℕ, _+_, _*_, _<_, _≤_}
+use Prim.Native.Nat.{ℕ, _*_, _<_, _≤_}
 use native.Mathlib.Omega.{arith}
 use borrow.Author.Tests.{lt-ltb, le-ltb}
 use lib.ListN.{length, take, drop, length-take}
 use lib.Seq.{length-take-le, take-length, take-at}
 use Rattle.model.specs.Basics.{choose}
 use Rattle.model.specs.Side.{State}
+use Rattle.model.specs.Table.{Table}
 use Rattle.model.specs.Load.{Composition, Refused, Loaded, refused, ok, load}
 use Rattle.model.specs.Step.{Step, Answer}
 use Rattle.model.specs.Runs.{answers}
@@ -124,7 +125,9 @@ same-loads w v a b c d e f g h p q r s t = rw (p, q, r, s, t)
 pub given-whole : (i : Input) (p : Places) (l : Lists) → Holds i p l → Given i (p .wrapper) (take (p .nodes1) (l .nodes1)) (take (p .pool1) (l .pool1)) (take (p .nodes2) (l .nodes2)) (take (p .pool2) (l .pool2)) (take (p .words) (l .steps))
 given-whole i p l h =
     record {
-      loads = same-loads _ _ _ _ _ _ _ _ _ _ (h .wrapper) (h .nodes1 .words) (h .pool1 .words) (h .nodes2 .words) (h .pool2 .words);
+      loads =
+          same-loads _ _ _ _ _ _ _ _ _ _ (h .wrapper) (h .nodes1 .words) (h .pool1 .words) (h .nodes2 .words) (h .pool2 .words)
+          ∙ ap (λ (l : List Table). record { wrapper = i .loads .wrapper; tables = l }) (sym (h .tables));
       words = h .words .words;
       few = omega (arith, h .steps, h .inside .steps);
     }

@@ -1,14 +1,14 @@
 -- Laws of names, words, values and tags that pass 11: one for each way that the code goes.
 use mathlib.Core.Path.{_≡_, sym, ap, _∙_}
-use mathlib.Core.Bool.{Bool, true, false, cond}
+use mathlib.Core.Bool.{Bool, true, false}
 use mathlib.Core.List.{List}
 use Prim.Native.Nat.{ℕ, _-_, _/_, _%_, _<_, _≤_}
 use native.Mathlib.Omega.{arith}
-use borrow.Author.Tests.{le-leb, lt-leb, eq-eqb, ne-eqb}
-use lib.Dec.{ltb, eqb}
+use borrow.Author.Tests.{le-leb, lt-leb}
+use lib.Dec.{ltb}
 use Rattle.model.specs.Basics.{_&_, _or_, every}
 use Rattle.model.specs.Values.{isMinted, isValue}
-use Rattle.model.specs.WellFormed.{Counts, held, heldWord, wfValue, wfTag}
+use Rattle.model.specs.WellFormed.{Counts, countOf, held, heldWord, wfValue, wfTag}
 use Rattle.values.proofs.Words.{minted-none, minted-one, minted-gap, minted-two}
 use Rattle.sides.specs.Views.{viewTag}
 use Rattle.sides.specs.declared.Tag.{Tag}
@@ -35,16 +35,16 @@ module _ (k : Counts) (w : ℕ) where
   held-high h = none (omega arith) (sym (lt-leb w 131327 h) ∙ minted-two w (omega arith))
 
   -- a minted name of side 1, and one of side 2
-  minted : (c : ℕ) (s : ℕ) → 63 < w → true ≡ isMinted w → w % 65536 ≡ s → cond (eqb (w / 65536) 1) (k .c1) (k .c2) ≡ c → ltb s c ≡ held k w
+  minted : (c : ℕ) (s : ℕ) → 63 < w → true ≡ isMinted w → w % 65536 ≡ s → countOf k (w / 65536) ≡ c → ltb s c ≡ held k w
   unfolding held _or_ _&_
   minted c s h e p q = rw (lt-leb w 63 h, ← e, p, q)
 
-  pub held-one : 65536 ≤ w → w ≤ 65791 → ltb (w - 65536) (k .c1) ≡ held k w
-  held-one h l = minted (k .c1) (w - 65536) (omega arith) (minted-one w h l) (omega arith) (rw (eq-eqb (w / 65536) 1 (omega arith)))
+  pub held-one : 65536 ≤ w → w ≤ 65791 → ltb (w - 65536) (countOf k 1) ≡ held k w
+  held-one h l = minted (countOf k 1) (w - 65536) (omega arith) (minted-one w h l) (omega arith) (let e : w / 65536 ≡ 1 = omega arith in ap (countOf k) e)
 
-  pub held-two : 131072 ≤ w → w ≤ 131327 → ltb (w - 131072) (k .c2) ≡ held k w
+  pub held-two : 131072 ≤ w → w ≤ 131327 → ltb (w - 131072) (countOf k 2) ≡ held k w
   held-two h l =
-      minted (k .c2) (w - 131072) (omega arith) (sym (le-leb w 131327 l) ∙ minted-two w h) (omega arith) (rw (ne-eqb (w / 65536) 1 (λ z. omega arith)))
+      minted (countOf k 2) (w - 131072) (omega arith) (sym (le-leb w 131327 l) ∙ minted-two w h) (omega arith) (let e : w / 65536 ≡ 2 = omega arith in ap (countOf k) e)
 
   pub word-tuple : 4000000 ≤ w → true ≡ heldWord k w
   unfolding heldWord _or_

@@ -1,13 +1,15 @@
 -- Laws of boxes, marks and messages: one for each way that the code goes.
-use mathlib.Core.Path.{_≡_, refl, ap}
-use mathlib.Core.Bool.{Bool, true, false, not}
+use mathlib.Core.Path.{_≡_, refl, ap, _∙_}
+use mathlib.Core.Bool.{Bool, true, false, not, cond}
 use mathlib.Core.List.{List, [], _∷_}
-use Prim.Native.Nat.{ℕ, _+_, _%_, _<_, _≤_}
-use borrow.Author.Tests.{lt-ltb, le-ltb, ne-eqb}
+use Prim.Native.Nat.{ℕ, suc, _+_, _/_, _%_, _<_, _≤_}
+use native.Mathlib.Omega.{arith}
+use borrow.Author.Tests.{lt-ltb, le-ltb, ne-eqb, ltb-true, ltb-false}
 use lib.Dec.{ltb, eqb}
-use Rattle.model.specs.Basics.{_&_, _or_}
+use lib.ListN.{length}
+use Rattle.model.specs.Basics.{_&_, _or_, implies}
 use Rattle.model.specs.Side.{Box, Status, down, arrived, leaving}
-use Rattle.model.specs.WellFormed.{Counts, held, wfValue, wfBoxes, wfMessage, wfLeft}
+use Rattle.model.specs.WellFormed.{Counts, countOf, held, wfValue, wfBoxes, wfMessage, wfLeft}
 use Rattle.sides.specs.Views.{viewStatus}
 use Rattle.sides.specs.declared.Status as dec
 use Rattle.sides.specs.declared.Status.the-variants.{Down, Arrived, Leaving}
@@ -20,10 +22,20 @@ module _ (k : Counts) where
   boxes-from i [] = refl
   boxes-from i (x ∷ l) = ap (λ (b : Bool). boxAt k i x & b) (boxes-from (i + 1) l)
 
-  pub left-from : (i : ℕ) (l : List Bool) → everyFrom (markAt k) i l ≡ wfLeft k i l
+  -- the side of a place among the marks
+  side-at : (i : ℕ) → i < 512 → cond (ltb i 256) (countOf k 1) (countOf k 2) ≡ countOf k (suc (i / 256))
+  side-at i h = go (ltb i 256) refl
+    where
+      go : (t : Bool) → ltb i 256 ≡ t → cond t (countOf k 1) (countOf k 2) ≡ countOf k (suc (i / 256))
+      go true e = let l = ltb-true i 256 e in let z : 0 ≡ i / 256 = omega arith in ap (λ (n : ℕ). countOf k (suc n)) z
+      go false e = let l = ltb-false i 256 e in let z : 1 ≡ i / 256 = omega arith in ap (λ (n : ℕ). countOf k (suc n)) z
+
+  pub left-from : (i : ℕ) (l : List Bool) → i + length l ≤ 512 → everyFrom (markAt k) i l ≡ wfLeft k i l
   unfolding everyFrom markAt wfLeft
-  left-from i [] = refl
-  left-from i (x ∷ l) = ap (λ (b : Bool). markAt k i x & b) (left-from (i + 1) l)
+  left-from i [] h = refl
+  left-from i (x ∷ l) h =
+      ap (λ (b : Bool). markAt k i x & b) (left-from (i + 1) l (omega (arith, h))) ∙
+      ap (λ (c : ℕ). implies x (ltb (i % 256) c) & wfLeft k (i + 1) l) (side-at i (omega (arith, h)))
 
   module _ (i : ℕ) (x : Box) where
     pub box-zero : i ≡ 0 → true ≡ boxAt k i x
@@ -39,11 +51,11 @@ module _ (k : Counts) where
     box-orphan n h = rw (ne-eqb i 0 n, le-ltb (x .parent) i h)
 
   module _ (i : ℕ) (x : Bool) where
-    pub mark-one : x ≡ true → i < 256 → ltb (i % 256) (k .c1) ≡ markAt k i x
+    pub mark-one : x ≡ true → i < 256 → ltb (i % 256) (countOf k 1) ≡ markAt k i x
     unfolding markAt
     mark-one e h = rw (e, lt-ltb i 256 h)
 
-    pub mark-two : x ≡ true → 256 ≤ i → ltb (i % 256) (k .c2) ≡ markAt k i x
+    pub mark-two : x ≡ true → 256 ≤ i → ltb (i % 256) (countOf k 2) ≡ markAt k i x
     unfolding markAt
     mark-two e h = rw (e, le-ltb i 256 h)
 

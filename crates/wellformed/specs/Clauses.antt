@@ -1,6 +1,6 @@
 -- Single clauses of well-formedness, as the functions test them: one box, one mark, one message's channel, one particle, one side's shelf.
 use mathlib.Core.Bool.{Bool, not, cond}
-use mathlib.Core.List.{List}
+use mathlib.Core.List.{List, [], _∷_}
 use Prim.Native.Nat.{ℕ, _%_}
 use lib.Dec.{leb, ltb, eqb}
 use lib.ListN.{length, drop}
@@ -8,11 +8,13 @@ use Rattle.model.specs.Basics.{_&_, _or_, implies, every}
 use Rattle.model.specs.Table.{Table, term, scope, kind, count}
 use Rattle.model.specs.Side.{Tag, Box, Status, down, arrived, leaving, Side}
 use Rattle.model.specs.Unfolding.{defined}
-use Rattle.model.specs.WellFormed.{Counts, held, wfValue, wfTag, envAt, wfSide, clear, isNoSide}
+use Rattle.model.specs.Wrapper.{filter, pipeline}
+use Rattle.model.specs.Load.{Setting}
+use Rattle.model.specs.WellFormed.{Counts, countOf, held, wfValue, wfTag, envAt, wfCore, wfLeft, clear, isNoSide}
 
 -- how many names each side has minted
 abbrev pub countsOf : ℕ → ℕ → Counts
-countsOf a b = record { c1 = a; c2 = b }
+countsOf a b = a ∷ b ∷ []
 
 -- box i is box 0, or has an earlier box as parent and a name that is held
 unfoldable pub boxAt : Counts → ℕ → Box → Bool
@@ -20,7 +22,7 @@ boxAt k i x = eqb i 0 or (ltb (x .parent) i & held k (x .name))
 
 -- place i of the marks of names that have left is not marked, or the name is below its side's count
 unfoldable pub markAt : Counts → ℕ → Bool → Bool
-markAt k i x = implies x (ltb (i % 256) (cond (ltb i 256) (k .c1) (k .c2)))
+markAt k i x = implies x (ltb (i % 256) (cond (ltb i 256) (countOf k 1) (countOf k 2)))
 
 -- where a message of a status may stand
 unfoldable pub channelFits : Bool → Status → ℕ → Bool
@@ -52,6 +54,18 @@ takenFits shelf one two = clear one & clear (drop (length shelf) two)
 unfoldable pub allZero : ℕ → ℕ → ℕ → ℕ → ℕ → Bool
 allZero a b c d e = eqb a 0 & (eqb b 0 & (eqb c 0 & (eqb d 0 & eqb e 0)))
 
--- side 2 is well formed under the pipeline, and nothing under the filter
+-- the wrapper that a state is tested for: the pipeline, and the filter for every other number
+abbrev pub testedFor : ℕ → ℕ
+testedFor w = cond (eqb w 2) 2 1
+
+-- what a side is tested with, by its number and by whether the wrapper is the pipeline
+abbrev pub settingOf : ℕ → Bool → Table → Setting
+settingOf i p t = record { wrapper = cond p pipeline filter; side = i; table = t }
+
+-- a side but for its taken marks
+unfoldable pub sideFits : Setting → Counts → Side → Bool
+sideFits c k s = wfCore c k (s .core) & (eqb (length (s .left)) 512 & wfLeft k 0 (s .left))
+
+-- side 2 but for its taken marks is well formed under the pipeline, and nothing under the filter
 unfoldable pub sideTwo : Bool → Table → Counts → Side → Bool
-sideTwo pipeline t k s = cond pipeline (wfSide (record { side = 2; pipeline = pipeline; table = t }) k s) (isNoSide s)
+sideTwo p t k s = cond p (sideFits (settingOf 2 p t) k s) (isNoSide s)

@@ -167,11 +167,11 @@ pub(crate) fn none_left(left: [bool; 512]) -> bool
 }
 
 // Whether no shelf place from i on is marked as taken.
-pub fn clear_from(marks: [bool; 32], i: usize) -> bool
+pub fn clear_from(marks: [bool; 64], i: usize) -> bool
     ensures { λ r. ⌜ r ≡ clear (drop i marks) ⌝ }
 {
     let mut k: usize = i;
-    while k < 32 {
+    while k < 64 {
         if marks[k] {
             return false;
         }

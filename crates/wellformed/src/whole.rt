@@ -1,13 +1,14 @@
 // A side and a state.
 ghost use mathlib.Core.Path.{_≡_};
 ghost use mathlib.Core.Bool.{true};
+ghost use mathlib.Core.List.{[], _∷_};
 ghost use lib.Dec.{eqb};
 ghost use Rattle.model.specs.Basics.{_&_};
-ghost use Rattle.model.specs.WellFormed.{wfContents, wfSide, isNoSide, wfState};
+ghost use Rattle.model.specs.WellFormed.{wfContents, isNoSide, wfState};
 ghost use Rattle.tables.specs.Nodes.{table};
 ghost use Rattle.tables.specs.Checks.{Passes};
 ghost use Rattle.sides.specs.Views.{viewShelf, viewContents, viewCore, viewSide, viewState, fitsArrays};
-ghost use Rattle.wellformed.specs.Clauses.{countsOf, shelfAllowed, takenFits, allZero, sideTwo};
+ghost use Rattle.wellformed.specs.Clauses.{countsOf, shelfAllowed, takenFits, allZero, testedFor, settingOf, sideFits, sideTwo};
 use super::lists::boxes_ok;
 use super::lists::clear_from;
 use super::lists::left_ok;
@@ -66,7 +67,7 @@ pub fn side_ok(
     c2: usize,
     o: Side,
 ) -> bool
-    ensures { λ r. ⌜ (Passes (table (now (nodes .entry)) (now (pool .entry))) → r ≡ wfSide (record { side = side; pipeline = pipeline; table = table (now (nodes .entry)) (now (pool .entry)) }) (countsOf c1 c2) (viewSide o)) ⌝ }
+    ensures { λ r. ⌜ (Passes (table (now (nodes .entry)) (now (pool .entry))) → r ≡ sideFits (settingOf side pipeline (table (now (nodes .entry)) (now (pool .entry)))) (countsOf c1 c2) (viewSide o)) ⌝ }
 {
     let shelved = shelves(side, pipeline);
     let l = o.lobby;
@@ -87,7 +88,7 @@ pub fn side_ok(
 }
 
 // Whether no place is marked as taken on side 1, and only filled shelf places are on side 2.
-fn taken_ok(h: Shelf, one: [bool; 32], two: [bool; 32]) -> bool
+fn taken_ok(h: Shelf, one: [bool; 64], two: [bool; 64]) -> bool
     ensures { λ r. ⌜ r ≡ takenFits (viewShelf h) one two ⌝ }
 {
     if clear_from(one, 0) {
@@ -145,7 +146,8 @@ fn side_two_ok(nodes: &[u32], pool: &[u32], pipeline: bool, c1: usize, c2: usize
     }
 }
 
-// Whether a state is well formed for its tables, which pass the checks: table 1, and table 2 under the pipeline.
+// Whether a state is well formed for its tables, which pass the checks: table 1, and table 2 under the pipeline. Every wrapper but the
+// pipeline is taken for the filter.
 pub fn well_formed(
     wrapper: u32,
     nodes1: &[u32],
@@ -154,7 +156,7 @@ pub fn well_formed(
     pool2: &[u32],
     s: State,
 ) -> bool
-    ensures { λ r. ⌜ (Passes (table (now (nodes1 .entry)) (now (pool1 .entry))) → (wrapper ≡ 2 → Passes (table (now (nodes2 .entry)) (now (pool2 .entry)))) → r ≡ fitsArrays s & wfState (record { wrapper = wrapper; table1 = table (now (nodes1 .entry)) (now (pool1 .entry)); table2 = table (now (nodes2 .entry)) (now (pool2 .entry)) }) (viewState s)) ⌝ }
+    ensures { λ r. ⌜ (Passes (table (now (nodes1 .entry)) (now (pool1 .entry))) → (wrapper ≡ 2 → Passes (table (now (nodes2 .entry)) (now (pool2 .entry)))) → r ≡ fitsArrays s & wfState (record { wrapper = testedFor wrapper; tables = table (now (nodes1 .entry)) (now (pool1 .entry)) ∷ table (now (nodes2 .entry)) (now (pool2 .entry)) ∷ [] }) (viewState s)) ⌝ }
 {
     let one = s.one;
     let two = s.two;

@@ -1,5 +1,6 @@
-use mathlib.Core.Path.{refl}
+use mathlib.Core.Path.{refl, _∙_}
 use Rattle.sides.specs.Views.{viewCore}
+use Rattle.sides.proofs.Shelving.{shelves-is}
 use Rattle.dispatch.specs.Stepping.{settingOf}
 use Rattle.dispatch.proofs.StepLaws.{own-sane, step-by, two-descend, two-meet, two-one, two-bad}
 use borrow.Author.Needs.{needs}
@@ -25,7 +26,7 @@ one-place-requires : tie.Need-one-place-requires
 one-place-requires c κs = let a = c .before .before .before .before .before .before .args in let C = viewCore (a .o) in let S = settingOf (a .side) (a .pipeline) (a .nodes .now) (a .pool .now) in own-sane S (a .o) (c .before .before .before .before .before .before .pre)
 
 returns-3 : tie.Need-returns-3
-returns-3 c = let a = c .before .before .before .before .before .before .before .args in let C = viewCore (a .o) in let S = settingOf (a .side) (a .pipeline) (a .nodes .now) (a .pool .now) in step-by _ _ _ _ (two-one S C (a .kind) (a .i) (a .j) (c .before .before .before .before .if1 .left) (c .before .before .before .if2 .left) (c .before .before .if3 .taken)) (c .one-place .ensures S (c .before .shelving .ensures))
+returns-3 c = let a = c .before .before .before .before .before .before .before .args in let C = viewCore (a .o) in let S = settingOf (a .side) (a .pipeline) (a .nodes .now) (a .pool .now) in step-by _ _ _ _ (two-one S C (a .kind) (a .i) (a .j) (c .before .before .before .before .if1 .left) (c .before .before .before .if2 .left) (c .before .before .if3 .taken)) (c .one-place .ensures S (shelves-is (a .side) (a .pipeline) ∙ c .before .shelving .ensures))
 
 refusal-requires : tie.Need-refusal-requires
 refusal-requires c κs = search needs

@@ -1,5 +1,5 @@
 -- `run_test::unchanged_from` meets its contract.
-use Prim.Native.Nat.{_-_, _≤_}
+use Prim.Native.Nat.{_≤_}
 use lib.ListN.{length}
 use borrow.Author.Needs.{needs}
 use Rattle.run_test.proofs.unchanged_from.Statement.{statement}

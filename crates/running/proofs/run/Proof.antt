@@ -1,6 +1,5 @@
 use mathlib.Core.Path.{_≡_, sym, ap, _∙_}
 use mathlib.Core.Option.{some}
-use Prim.Native.Nat.{_-_}
 use Rattle.format.specs.Words.{stepsOf}
 use Rattle.interpreter.specs.Loading.{composition}
 use Rattle.running.specs.Running.{countOf, countedOf}

@@ -1,7 +1,7 @@
 use mathlib.Core.Path.{sym, _∙_}
 use Rattle.interpreter.specs.Loading.{composition}
 use Rattle.interpreter.proofs.LoadLaws.{taken}
-use Rattle.interpreter.proofs.AnswerLaws.{unready-is, ready-is}
+use Rattle.interpreter.proofs.AnswerLaws.{unready-is, tested-is, ready-is}
 use borrow.Author.Needs.{needs}
 use Rattle.interpreter.proofs.whole.is_ready.Statement.{statement}
 use Rattle.interpreter.proofs.whole.is_ready.Tie as tie
@@ -22,7 +22,7 @@ well-formed-requires : tie.Need-well-formed-requires
 well-formed-requires c κs = search needs
 
 returns-2 : tie.Need-returns-2
-returns-2 c = let x = c .before .before .before .before .before .before .before .before in let b = composition (x .args .wrapper) (x .args .nodes1 .now) (x .args .pool1 .now) (x .args .nodes2 .now) (x .args .pool2 .now) in let k = taken b (sym (c .before .before .before .load-verdict .ensures) ∙ c .before .enum-told .given .1) in ready-is b (x .args .s) (c .before .before .before .load-verdict .result) _ (c .before .before .before .load-verdict .ensures) (c .before .enum-told .given .1) (c .well-formed .ensures (k .one .passes) (λ w. k .pipeline w .0 .passes))
+returns-2 c = let x = c .before .before .before .before .before .before .before .before in let b = composition (x .args .wrapper) (x .args .nodes1 .now) (x .args .pool1 .now) (x .args .nodes2 .now) (x .args .pool2 .now) in let k = taken b (sym (c .before .before .before .load-verdict .ensures) ∙ c .before .enum-told .given .1) in ready-is b (x .args .s) (c .before .before .before .load-verdict .result) _ (c .before .before .before .load-verdict .ensures) (c .before .enum-told .given .1) (c .well-formed .ensures (k .one .passes) (λ w. k .pipeline w .0 .passes) ∙ tested-is b (x .args .s) (k .wrapper))
 
 pub is-ready-spec : {M : Type 1} → statement M
 is-ready-spec =

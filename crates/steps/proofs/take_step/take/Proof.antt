@@ -34,22 +34,22 @@ plain-requires : tie.Need-plain-requires
 plain-requires c κs = search needs
 
 returns : tie.Need-returns
-returns c = let x = c .before .before .before .before .before in let o = x .args .o in let h = x .args .t2 in let i = x .args .i in offer-refused (settled (takes (viewShelf h) (viewCore o) i)) i (TakeAt o h) (c .before .before .before .before .take-offer .result) (c .before .before .before .before .take-offer .ensures) _ (c .before .number .result) o _ (c .before .before .enum-told .given .1) (c .before .number .ensures) (c .plain .ensures)
+returns c = let x = c .before .before .before .before .before in let o = x .args .o in let h = x .args .t2 in let i = x .args .i in offer-refused (settled (takes 1 (viewShelf h) (viewCore o) i)) i (TakeAt o h) (c .before .before .before .before .take-offer .result) (c .before .before .before .before .take-offer .ensures) _ (c .before .number .result) o _ (c .before .before .enum-told .given .1) (c .before .number .ensures) (c .plain .ensures)
 
 mul-v : tie.Need-mul-v
-mul-v c = let x = c .before .before .before .before in let o = x .args .o in let h = x .args .t2 in let i = x .args .i in let w = offer-at (settled (takes (viewShelf h) (viewCore o) i)) i (TakeAt o h) (c .before .before .before .take-offer .result) (c .before .before .before .take-offer .ensures) _ (c .before .a .given .1) in omega (arith, w .1 .held, shelf-short h (x .pre .1))
+mul-v c = let x = c .before .before .before .before in let o = x .args .o in let h = x .args .t2 in let i = x .args .i in let w = offer-at (settled (takes 1 (viewShelf h) (viewCore o) i)) i (TakeAt o h) (c .before .before .before .take-offer .result) (c .before .before .before .take-offer .ensures) _ (c .before .a .given .1) in omega (arith, w .1 .held, shelf-short h (x .pre .1))
 
 element-copy-out-v : tie.Need-element-copy-out-v
-element-copy-out-v c = let x = c .before .before .before .before in let o = x .args .o in let h = x .args .t2 in let i = x .args .i in let w = offer-at (settled (takes (viewShelf h) (viewCore o) i)) i (TakeAt o h) (c .before .before .before .take-offer .result) (c .before .before .before .take-offer .ensures) _ (c .before .a .given .1) in omega (arith, w .1 .held, shelf-short h (x .pre .1))
+element-copy-out-v c = let x = c .before .before .before .before in let o = x .args .o in let h = x .args .t2 in let i = x .args .i in let w = offer-at (settled (takes 1 (viewShelf h) (viewCore o) i)) i (TakeAt o h) (c .before .before .before .take-offer .result) (c .before .before .before .take-offer .ensures) _ (c .before .a .given .1) in omega (arith, w .1 .held, shelf-short h (x .pre .1))
 
 new-requires : tie.Need-new-requires
 new-requires c κs = search needs
 
 array-write-t : tie.Need-array-write-t
-array-write-t c = let x = c .before .before .before .before .before .before .before .before in let o = x .args .o in let h = x .args .t2 in let i = x .args .i in let w = offer-at (settled (takes (viewShelf h) (viewCore o) i)) i (TakeAt o h) (c .before .before .before .before .before .before .before .take-offer .result) (c .before .before .before .before .before .before .before .take-offer .ensures) _ (c .before .before .before .before .before .a .given .1) in omega (arith, w .1 .held, shelf-short h (x .pre .1))
+array-write-t c = let x = c .before .before .before .before .before .before .before .before in let o = x .args .o in let h = x .args .t2 in let i = x .args .i in let w = offer-at (settled (takes 1 (viewShelf h) (viewCore o) i)) i (TakeAt o h) (c .before .before .before .before .before .before .before .take-offer .result) (c .before .before .before .before .before .before .before .take-offer .ensures) _ (c .before .before .before .before .before .a .given .1) in omega (arith, w .1 .held, shelf-short h (x .pre .1))
 
 with-requires : tie.Need-with-requires
-with-requires c κs = let x = c .before .before .before .before .before .before .before .before in let o = x .args .o in let h = x .args .t2 in let i = x .args .i in let w = offer-at (settled (takes (viewShelf h) (viewCore o) i)) i (TakeAt o h) (c .before .before .before .before .before .before .before .take-offer .result) (c .before .before .before .before .before .before .before .take-offer .ensures) _ (c .before .before .before .before .before .a .given .1) in w .1 .room
+with-requires c κs = let x = c .before .before .before .before .before .before .before .before in let o = x .args .o in let h = x .args .t2 in let i = x .args .i in let w = offer-at (settled (takes 1 (viewShelf h) (viewCore o) i)) i (TakeAt o h) (c .before .before .before .before .before .before .before .take-offer .result) (c .before .before .before .before .before .before .before .take-offer .ensures) _ (c .before .before .before .before .before .a .given .1) in w .1 .room
 
 with-lobby-requires : tie.Need-with-lobby-requires
 with-lobby-requires c κs = search needs
@@ -61,7 +61,7 @@ plain-requires-2 : tie.Need-plain-requires-2
 plain-requires-2 c κs = search needs
 
 returns-2 : tie.Need-returns-2
-returns-2 c = let x = c .before .before .before .before .before .before .before .before .before .before .before .before in let o = x .args .o in let h = x .args .t2 in let i = x .args .i in let w = offer-at (settled (takes (viewShelf h) (viewCore o) i)) i (TakeAt o h) (c .before .before .before .before .before .before .before .before .before .before .before .take-offer .result) (c .before .before .before .before .before .before .before .before .before .before .before .take-offer .ensures) _ (c .before .before .before .before .before .before .before .before .before .a .given .1) in take-did o i _ h (w .0) (x .pre .0) (full x) (rows x) (x .pre .1) _ _ (c .before .before .before .before .before .new .result) (c .before .before .before .with .result) (c .before .before .with-lobby .result) (c .before .with-taken .result) _ _ (w .1) (c .before .before .before .before .before .new .ensures) (c .before .before .before .with .ensures) (c .before .before .with-lobby .ensures) refl (c .before .with-taken .ensures) (c .plain2 .ensures)
+returns-2 c = let x = c .before .before .before .before .before .before .before .before .before .before .before .before in let o = x .args .o in let h = x .args .t2 in let i = x .args .i in let w = offer-at (settled (takes 1 (viewShelf h) (viewCore o) i)) i (TakeAt o h) (c .before .before .before .before .before .before .before .before .before .before .before .take-offer .result) (c .before .before .before .before .before .before .before .before .before .before .before .take-offer .ensures) _ (c .before .before .before .before .before .before .before .before .before .a .given .1) in take-did o i _ h (w .0) (x .pre .0) (full x) (rows x) (x .pre .1) _ _ (c .before .before .before .before .before .new .result) (c .before .before .before .with .result) (c .before .before .with-lobby .result) (c .before .with-taken .result) _ _ (w .1) (c .before .before .before .before .before .new .ensures) (c .before .before .before .with .ensures) (c .before .before .with-lobby .ensures) refl (c .before .with-taken .ensures) (c .plain2 .ensures)
 
 pub take-spec : {M : Type 1} → statement M
 take-spec =

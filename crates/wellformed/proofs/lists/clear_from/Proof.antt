@@ -13,7 +13,7 @@ abbrev Inv-loop : tie.InvT-loop
 Inv-loop i marks k₀ k = Passed (λ j x. not x) marks i k
 
 abbrev μ-loop : tie.MeasureT-loop
-μ-loop i marks k₀ k = 32 - k
+μ-loop i marks k₀ k = 64 - k
 
 loop-holds : tie.Need-loop-holds Inv-loop μ-loop
 loop-holds c = refl
@@ -25,7 +25,7 @@ returns : tie.Need-returns Inv-loop μ-loop
 returns c =
     let a = c .before .before .before .args in
     let l = a .t1 in
-    let full : length l ≡ 32 = search needs in
+    let full : length l ≡ 64 = search needs in
     passed-not (λ j x. not x) l (a .i) (c .before .before .loop .k) false (omega arith) (ap not (c .if1 .taken)) (c .before .before .loop .inv) ∙ from-every not (a .i) (drop (a .i) l)
 
 add-k : tie.Need-add-k Inv-loop μ-loop
@@ -38,14 +38,14 @@ loop-again : tie.Need-loop-again Inv-loop μ-loop
 loop-again c =
     let a = c .before .before .before .args in
     let l = a .t1 in
-    let full : length l ≡ 32 = search needs in
+    let full : length l ≡ 64 = search needs in
     passed-more (λ j x. not x) l (a .i) (c .before .before .loop .k) false (omega arith) (ap not (c .if1 .left)) (c .before .before .loop .inv)
 
 returns-2 : tie.Need-returns-2 Inv-loop μ-loop
 returns-2 c =
     let a = c .before .before .args in
     let l = a .t1 in
-    let full : length l ≡ 32 = search needs in
+    let full : length l ≡ 64 = search needs in
     passed-all (λ j x. not x) l (a .i) (c .before .loop .k) (omega arith) (c .before .loop .inv) ∙ from-every not (a .i) (drop (a .i) l)
 
 pub clear-from-spec : {M : Type 1} → statement M

@@ -46,7 +46,7 @@ returns c =
     let k = countsOf (a .c1) (a .c2) in
     let l = a .t3 in
     let full : length l ≡ 512 = search needs in
-    passed-not (markAt k) l 0 (c .before .before .before .loop .k) false (omega arith) (sym (c .before .mark-ok .ensures) ∙ c .if1 .left) (c .before .before .before .loop .inv .1) ∙ left-from k 0 l
+    passed-not (markAt k) l 0 (c .before .before .before .loop .k) false (omega arith) (sym (c .before .mark-ok .ensures) ∙ c .if1 .left) (c .before .before .before .loop .inv .1) ∙ left-from k 0 l (omega arith)
 
 returns-2 : tie.Need-returns-2 Inv-loop μ-loop
 returns-2 c =
@@ -54,7 +54,7 @@ returns-2 c =
     let k = countsOf (a .c1) (a .c2) in
     let l = a .t3 in
     let full : length l ≡ 512 = search needs in
-    passed-all (markAt k) l 0 (c .before .loop .k) (omega arith) (c .before .loop .inv .1) ∙ left-from k 0 l
+    passed-all (markAt k) l 0 (c .before .loop .k) (omega arith) (c .before .loop .inv .1) ∙ left-from k 0 l (omega arith)
 
 pub left-ok-spec : {M : Type 1} → statement M
 left-ok-spec = tie.close (tie.spec Inv-loop μ-loop loop-holds array-read-mark-ok mark-ok-requires add-k loop-less loop-again returns returns-2)

@@ -1,0 +1,129 @@
+// Load, a step and the question `stranded`, with one pool for both sides, and how the lines about them begin.
+ghost use Prim.Native.Nat.{_≤_};
+use changes::word;
+use changes::write;
+use interpreter::Found;
+use interpreter::Stepped;
+use interpreter::load;
+use interpreter::step;
+use interpreter::stranded;
+use sides::State;
+
+// So many, or none.
+fn count_if(lent: bool, n: usize) -> usize
+    ensures { λ r. ⌜ r ≤ n ⌝ }
+{
+    if lent { n } else { 0 }
+}
+
+// The state that load gives. Where side 2 has no nodes it has no pool.
+pub fn start(wrapper: u32, nodes1: &[u32], nodes2: &[u32], pool: &[u32]) -> State {
+    let n = count_if(0 < nodes2.len(), pool.len());
+    let a = load(wrapper, nodes1, pool, nodes2, &pool[0..n]);
+    a.state
+}
+
+// A step with one position. What enters, kind 1, is the pool.
+pub fn stepped(
+    wrapper: u32,
+    nodes1: &[u32],
+    nodes2: &[u32],
+    pool: &[u32],
+    s: State,
+    kind: u32,
+    side: u32,
+    i: usize,
+) -> Stepped {
+    let n = count_if(0 < nodes2.len(), pool.len());
+    let m = count_if(kind == 1, pool.len());
+    let given = &pool[0..m];
+    step(
+        wrapper,
+        nodes1,
+        pool,
+        nodes2,
+        &pool[0..n],
+        s,
+        kind,
+        side,
+        i,
+        0,
+        given,
+    )
+}
+
+// The state after it.
+pub fn after(
+    wrapper: u32,
+    nodes1: &[u32],
+    nodes2: &[u32],
+    pool: &[u32],
+    s: State,
+    kind: u32,
+    side: u32,
+    i: usize,
+) -> State {
+    let r = stepped(wrapper, nodes1, nodes2, pool, s, kind, side, i);
+    r.state
+}
+
+// What is stranded on a side.
+fn lost_at(
+    wrapper: u32,
+    nodes1: &[u32],
+    nodes2: &[u32],
+    pool: &[u32],
+    s: State,
+    side: u32,
+) -> Found {
+    let n = count_if(0 < nodes2.len(), pool.len());
+    stranded(wrapper, nodes1, pool, nodes2, &pool[0..n], s, side)
+}
+
+// A wrapper's name, or its number where it is none.
+fn wrapper_name(wrapper: u32) {
+    if wrapper == 1 {
+        write(b" filter");
+        return;
+    }
+    if wrapper == 2 {
+        write(b" pipeline");
+        return;
+    }
+    write(b" wrapper");
+    word(wrapper);
+}
+
+// How a line begins: what is asked, the wrapper, the side that is asked, and what the state or the tables are.
+pub fn begin(question: &[u8], name: &[u8], wrapper: u32, side: u32) {
+    write(question);
+    wrapper_name(wrapper);
+    write(b" side");
+    word(side);
+    write(b", ");
+    write(name);
+    write(b":");
+}
+
+// The position of a stranded message, or none.
+fn position(f: Found) {
+    match f {
+        Found::At(k) => changes::number(k),
+        Found::Nothing => write(b" none"),
+    }
+}
+
+// A line: what is stranded on the side that is asked.
+pub fn line(
+    name: &[u8],
+    wrapper: u32,
+    nodes1: &[u32],
+    nodes2: &[u32],
+    pool: &[u32],
+    s: State,
+    side: u32,
+) {
+    begin(b"stranded", name, wrapper, side);
+    position(lost_at(wrapper, nodes1, nodes2, pool, s, side));
+    write(b"\n");
+}

@@ -1,0 +1,50 @@
+// What the question `stranded` answers: in lobbies that load and steps give, of a side that is not there, and where tables are refused or the
+// state is not well formed. Then the side in a refusal.
+mod calls; // load, a step and the question `stranded`
+mod lobbies; // what is stranded in lobbies by load and steps
+mod refusals; // the side of a refused step
+mod unready; // what is stranded where tables are refused or the state is broken
+
+use schedules::lists::node;
+
+// A handler that sends its parent a message on `out`, on `in`, on `mid` and on a minted name:
+// out^parent 20 | (in^parent 20 | (mid^parent 20 | new n. n^parent 20))
+fn sender_nodes(nodes: &mut [u32; 4400]) {
+    node(nodes, 0, 1, 1, 2, 0, 0);
+    node(nodes, 1, 4, 1, 1, 0, 0);
+    node(nodes, 2, 1, 3, 4, 0, 0);
+    node(nodes, 3, 4, 0, 1, 0, 0);
+    node(nodes, 4, 1, 5, 6, 0, 0);
+    node(nodes, 5, 4, 2, 1, 0, 0);
+    node(nodes, 6, 3, 10, 7, 0, 0);
+    node(nodes, 7, 4, 10, 1, 0, 0);
+}
+
+// What is stranded, and what a refused step answers, with the first n words of a list as the handler's nodes.
+fn asked(list: &[u32], n: usize) {
+    let pool = [20u32];
+    let nil = [0u32; 5];
+    let unknown = [7u32, 0, 0, 0, 0];
+    if n <= list.len() {
+        let nodes = &list[0..n];
+        lobbies::lines(nodes, &pool);
+        unready::lines(nodes, &pool, &nil, &unknown);
+        refusals::lines(nodes, &pool, &unknown);
+    }
+}
+
+// The same with a list of its fixed length.
+fn asked_list(list: &[u32; 4400], n: usize) {
+    asked(list, n);
+}
+
+// The questions with that handler.
+fn questions() {
+    let mut nodes = [0u32; 4400];
+    sender_nodes(&mut nodes);
+    asked_list(&nodes, 40);
+}
+
+fn main() {
+    questions();
+}

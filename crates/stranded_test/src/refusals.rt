@@ -1,0 +1,93 @@
+// A refused step gives the side as asked, length 0, and the state before.
+use crate::calls::begin;
+use crate::calls::start;
+use crate::calls::stepped;
+use changes::put;
+use changes::same_state;
+use changes::word;
+use changes::write;
+use interpreter::Stepped;
+use sides::State;
+use steps::Said;
+
+// A label, or a refusal with its number.
+fn say(said: Said) {
+    match said {
+        Said::In => write(b" in"),
+        Said::Out => write(b" out"),
+        Said::Silent => write(b" tau"),
+        Said::Refused(n) => {
+            write(b" no");
+            word(n);
+        },
+    }
+}
+
+// What the answer holds, and whether the state after it is the one before.
+fn answer(s: State, r: Stepped) {
+    let said = r.said;
+    let v = r.value;
+    let t = r.state;
+    say(said);
+    word(r.side);
+    write(b" length");
+    changes::number(v.len);
+    if same_state(s, t) {
+        write(b" kept\n");
+    } else {
+        write(b" changed\n");
+    }
+}
+
+// A line: a side is asked to let the pool enter, the name 20.
+fn line(
+    name: &[u8],
+    wrapper: u32,
+    nodes1: &[u32],
+    nodes2: &[u32],
+    pool: &[u32],
+    s: State,
+    side: u32,
+) {
+    begin(b"enter", name, wrapper, side);
+    answer(s, stepped(wrapper, nodes1, nodes2, pool, s, 1, side, 0));
+}
+
+// The filter has side 1.
+fn filtered(nodes: &[u32], pool: &[u32]) {
+    let none = &nodes[..0];
+    let s = start(1, nodes, none, pool);
+    line(b"loaded", 1, nodes, none, pool, s, 1);
+    line(b"loaded", 1, nodes, none, pool, s, 0);
+    line(b"loaded", 1, nodes, none, pool, s, 2);
+    line(b"loaded", 1, nodes, none, pool, s, 3);
+    line(b"loaded", 1, nodes, none, pool, s, 4294967295);
+}
+
+// The pipeline has sides 1 and 2.
+fn piped(nodes: &[u32], pool: &[u32], s: State) {
+    line(b"loaded", 2, nodes, nodes, pool, s, 1);
+    line(b"loaded", 2, nodes, nodes, pool, s, 2);
+    line(b"loaded", 2, nodes, nodes, pool, s, 0);
+    line(b"loaded", 2, nodes, nodes, pool, s, 3);
+    line(b"loaded", 2, nodes, nodes, pool, s, 4294967295);
+}
+
+// A state that is not well formed, tables that load refuses, and no wrapper: a side that is there, and one that is not.
+fn unready(nodes: &[u32], pool: &[u32], unknown: &[u32], s: State) {
+    let t = put(s, 2, 9, 257);
+    line(b"257 names minted on side 2", 2, nodes, nodes, pool, t, 1);
+    line(b"257 names minted on side 2", 2, nodes, nodes, pool, t, 7);
+    line(b"unknown kind on side 2", 2, nodes, unknown, pool, s, 1);
+    line(b"unknown kind on side 2", 2, nodes, unknown, pool, s, 7);
+    line(b"no wrapper", 3, nodes, nodes, pool, s, 1);
+    line(b"no wrapper", 3, nodes, nodes, pool, s, 7);
+}
+
+// Sides that the wrappers have and lack, then states and tables that no step is made with.
+pub fn lines(nodes: &[u32], pool: &[u32], unknown: &[u32]) {
+    let s = start(2, nodes, nodes, pool);
+    filtered(nodes, pool);
+    piped(nodes, pool, s);
+    unready(nodes, pool, unknown, s);
+}

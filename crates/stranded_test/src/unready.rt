@@ -1,0 +1,78 @@
+// Nothing is stranded where load refuses the tables or the state is not well formed for them, whatever stands in a lobby.
+use crate::calls::line;
+use crate::lobbies::stranded_on_1;
+use crate::lobbies::stranded_on_both;
+use changes::put;
+use sides::State;
+
+// Two lines: both sides of the pipeline are asked.
+fn both(name: &[u8], nodes1: &[u32], nodes2: &[u32], pool: &[u32], s: State) {
+    line(name, 2, nodes1, nodes2, pool, s, 1);
+    line(name, 2, nodes1, nodes2, pool, s, 2);
+}
+
+// A state with a stranded message on both sides, with tables that are not its own: any that load takes suit it, as no input waits in it.
+fn tables(nodes: &[u32], pool: &[u32], nil: &[u32], unknown: &[u32], s: State) {
+    let none = &nodes[..0];
+    both(b"other tables", nil, nil, pool, s);
+    both(b"unknown kind on side 1", unknown, nodes, pool, s);
+    both(b"unknown kind on side 2", nodes, unknown, pool, s);
+    line(b"no nodes on side 2", 2, nodes, none, pool, s, 1);
+}
+
+// The same with wrappers that are none, and states under the other wrapper.
+fn wrappers(nodes: &[u32], pool: &[u32], s: State) {
+    let none = &nodes[..0];
+    let f = stranded_on_1(1, nodes, none, pool);
+    line(b"no wrapper", 0, nodes, nodes, pool, s, 1);
+    line(b"no wrapper", 3, nodes, nodes, pool, s, 2);
+    line(b"tables for side 2", 1, nodes, nodes, pool, f, 1);
+    line(b"state of the pipeline", 1, nodes, none, pool, s, 1);
+    line(b"state of the filter", 2, nodes, nodes, pool, f, 1);
+}
+
+// States of the pipeline that are broken elsewhere than in a lobby.
+fn elsewhere(nodes: &[u32], pool: &[u32], s: State) {
+    let minted = put(s, 1, 9, 257);
+    let taken = put(s, 1, 32, 63);
+    both(b"257 names minted on side 1", nodes, nodes, pool, minted);
+    both(b"taken mark on side 1", nodes, nodes, pool, taken);
+}
+
+// A line: a side of the pipeline is asked, whose first message arrived on a channel.
+fn arrived(name: &[u8], nodes: &[u32], pool: &[u32], s: State, side: u32, channel: usize) {
+    let t = put(s, side, 29, channel);
+    line(name, 2, nodes, nodes, pool, t, side);
+}
+
+// The stranded message itself: on `mid`, which side 1's lobby may not have, on the last public name, and on a number that is no name.
+fn channels(nodes: &[u32], pool: &[u32], s: State) {
+    arrived(b"arrived on mid", nodes, pool, s, 1, 2);
+    arrived(b"arrived on mid", nodes, pool, s, 2, 2);
+    arrived(b"arrived on 63", nodes, pool, s, 1, 63);
+    arrived(b"arrived on 64", nodes, pool, s, 1, 64);
+    arrived(b"arrived on 64", nodes, pool, s, 2, 64);
+}
+
+// The first of 16 messages, the first of 17, and one of the filter's side 2.
+fn counts(nodes: &[u32], pool: &[u32], s: State) {
+    let none = &nodes[..0];
+    let f = stranded_on_1(1, nodes, none, pool);
+    let full = put(put(s, 2, 5, 16), 2, 29, 0);
+    let over = put(put(s, 2, 5, 17), 2, 29, 0);
+    let second = put(put(f, 2, 5, 1), 2, 29, 0);
+    line(b"first of 16", 2, nodes, nodes, pool, full, 2);
+    line(b"first of 17", 2, nodes, nodes, pool, over, 2);
+    line(b"message on side 2", 1, nodes, none, pool, second, 1);
+    line(b"message on side 2", 1, nodes, none, pool, second, 2);
+}
+
+// Tables and wrappers, then states of the pipeline put anew.
+pub fn lines(nodes: &[u32], pool: &[u32], nil: &[u32], unknown: &[u32]) {
+    let s = stranded_on_both(nodes, pool);
+    tables(nodes, pool, nil, unknown, s);
+    wrappers(nodes, pool, s);
+    elsewhere(nodes, pool, s);
+    channels(nodes, pool, s);
+    counts(nodes, pool, s);
+}
