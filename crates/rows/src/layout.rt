@@ -1,0 +1,49 @@
+// The numbers of the layout that specs/Layout.antt defines. Contracts and definitions are no code: they write the numbers out.
+use crate::Row;
+use crate::Rows;
+
+impl Rows {
+    // The words of a row, and of an environment.
+    pub const WIDTH: usize = 144;
+
+    // The rows of a side.
+    pub const COUNT: usize = 32;
+
+    // The words of a side.
+    pub const WORDS: usize = 4608;
+
+    // The words of a row before its places for values; an environment has its names there.
+    pub const HEAD: usize = 8;
+
+    // The places for values of a row.
+    pub const VALUES: usize = 8;
+
+    // The words of a place: a value's length, then its words.
+    pub const PLACE: usize = 17;
+
+    // The most words of a value.
+    pub const LONGEST: u32 = 16;
+}
+
+impl Row {
+    // 1 in an output's row, 0 in a waiting input's.
+    pub const OUTPUT: usize = 0;
+
+    // The box that the particle is in.
+    pub const BOX: usize = 1;
+
+    // An output's channel.
+    pub const CHANNEL: usize = 2;
+
+    // Which of the five tags an output has.
+    pub const TAG: usize = 3;
+
+    // The child that the tag names.
+    pub const CHILD: usize = 4;
+
+    // A waiting input's node.
+    pub const NODE: usize = 5;
+
+    // How many values a waiting input holds.
+    pub const HELD: usize = 6;
+}
