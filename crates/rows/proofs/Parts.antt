@@ -85,9 +85,6 @@ module _ (w n : ℕ) (l : List ℕ) (i : ℕ) (r : List ℕ) (h : i < n) (m : w 
   pub back-part : getD (parts w n (putMid (w * i) (w * i + w - w * i) l r)) i [] ≡ r
   back-part = ap (λ (y : List (List ℕ)). getD y i []) back-parts ∙ getD-set-same (parts w n l) i r [] (rw (parts-length w n l) h)
 
-  pub back-others : parts w n (putMid (w * i) (w * i + w - w * i) l r) ≡ set (parts w n l) i (getD (parts w n (putMid (w * i) (w * i + w - w * i) l r)) i [])
-  back-others = back-parts ∙ ap (set (parts w n l) i) (sym back-part)
-
 -- the first parts, the parts from one on
 pub parts-take : (w n m : ℕ) (l : List ℕ) → m ≤ n → take m (parts w n l) ≡ parts w m l
 unfolding parts
