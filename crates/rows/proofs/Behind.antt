@@ -6,14 +6,14 @@ use mathlib.Core.List.{List, [], _∷_, _++_, map}
 use native.Mathlib.Omega.{arith}
 use lib.Dec.{leb}
 use lib.ListN.{length, take, drop, getD, set, length-take, length-drop}
-use lib.Seq.{sets}
+use lib.Seq.{sets, drop-set-lt}
 use Rattle.model.specs.Basics.{_&_, every}
 use Rattle.model.specs.Side.{Box}
 use Rattle.model.proofs.Tests.{both}
 use Rattle.sides.specs.declared.Tag.{Tag}
 use Rattle.sides.proofs.Lists.{view-push, view-length, fits-with}
 use Rattle.rows.specs.Layout.{parts, rowsOf, boxesOf, shelfOf, viewBox, viewBoxes, viewPlace, fitsPlace, viewShelf, fitsShelf}
-use Rattle.rows.specs.Stored.{kindOf, nameOf, placed, headPut, sentPut, valuesPut, inputPut, rowGone, boxPut, shelfPut}
+use Rattle.rows.specs.Stored.{kindOf, nameOf, placed, headPut, sentPut, movedTo, valuesPut, inputPut, rowGone, boxPut, shelfPut}
 use Rattle.rows.proofs.Sets.{drop-sets-lt, drop-sets-add, getD-sets-at}
 use Rattle.rows.proofs.Parts.{part-length, parts-past, sets-behind}
 use Rattle.rows.proofs.Reading.{boxes-count, shelf-count}
@@ -25,6 +25,11 @@ unfolding placed headPut sentPut
 behind-sent l i box channel t x h m =
     let hs : List ℕ = 1 ∷ box ∷ channel ∷ kindOf t ∷ nameOf t ∷ [] in
     drop-sets-lt 4608 (length x ∷ x) (sets l (144 * i) hs) (144 * i + 8) (omega arith) ∙ drop-sets-lt 4608 hs l (144 * i) (omega arith)
+
+pub behind-moved : (l : List ℕ) (i box : ℕ) (t : Tag) → i < 32 → drop 4608 (movedTo l (144 * i) box t) ≡ drop 4608 l
+unfolding movedTo
+behind-moved l i box t h =
+    drop-sets-lt 4608 (kindOf t ∷ nameOf t ∷ []) (set l (144 * i + 1) box) (144 * i + 3) (omega arith) ∙ drop-set-lt 4608 l (144 * i + 1) box (omega arith)
 
 pub behind-input : (l : List ℕ) (i box node : ℕ) (e : List ℕ) (n : ℕ) → i < 32 → n ≤ 8 → drop 4608 (inputPut l (144 * i) box node e n) ≡ drop 4608 l
 unfolding valuesPut inputPut

@@ -8,8 +8,8 @@ use native.Mathlib.Nat.{add-zero, zero-add}
 use native.Mathlib.Omega.{arith}
 use borrow.Author.Tests.{le-leb}
 use lib.Dec.{leb}
-use lib.ListN.{length, take, drop, getD, set, length-take, length-drop}
-use lib.Seq.{sets, length-sets, length-take-le, getD-set-same, getD-set-other}
+use lib.ListN.{length, take, drop, getD, set, length-set, length-take, length-drop}
+use lib.Seq.{sets, length-sets, length-take-le, getD-set-same, getD-set-other, drop-set-lt}
 use Rattle.model.specs.Basics.{_&_, every, remove}
 use Rattle.model.specs.Side.{Tag, Particle, output, input}
 use Rattle.model.proofs.Tests.{snd, both, every-remove}
@@ -18,11 +18,11 @@ use Rattle.sides.specs.declared.Tag.{Tag as dTag}
 use Rattle.sides.specs.Views.{viewTag}
 use Rattle.sides.proofs.Lists.{view-push, view-set, map-remove, fits-with, fits-put}
 use Rattle.rows.specs.declared.Output.{Output}
-use Rattle.rows.specs.Layout.{parts, rowsOf, rowAt, placesOf, tagOf, viewPlace, fitsPlace, viewRow, fitsRow, viewRows, fitsRows, viewOutput}
-use Rattle.rows.specs.Stored.{kindOf, nameOf, placed, headPut, sentPut, outputPut, valuesPut, inputPut, rowGone}
-use Rattle.rows.proofs.Sets.{getD-sets-below, getD-sets-at, take-sets-lt, drop-sets-add}
+use Rattle.rows.specs.Layout.{parts, rowsOf, rowAt, placesOf, tagOf, tagIn, viewPlace, fitsPlace, viewRow, fitsRow, viewRows, fitsRows, viewOutput}
+use Rattle.rows.specs.Stored.{kindOf, nameOf, placed, headPut, sentPut, outputPut, movedTo, valuesPut, inputPut, rowGone}
+use Rattle.rows.proofs.Sets.{getD-sets-below, getD-sets-at, take-sets-lt, drop-sets-lt, drop-sets-add}
 use Rattle.rows.proofs.Parts.{parts-sets, parts-more, parts-take, parts-gone, parts-gone-rest, part-length}
-use Rattle.rows.proofs.Reading.{rows-count, first-place}
+use Rattle.rows.proofs.Reading.{rows-count, first-place, first-fits}
 use Rattle.rows.proofs.Viewing.{output-view, input-view, output-fits, input-fits, tag-back, placed-view, placed-fits, values-places}
 
 -- m is l with the particle p at row i: the row is p and fits, and every other row has its very words
@@ -96,6 +96,53 @@ sent-put l i box channel t x long h short =
 pub output-put : (l : List ℕ) (i : ℕ) (o : Output) → length l ≡ 5184 → i < 32 → o .value .len ≤ 16 → RowPut l i (viewOutput o) (outputPut l (144 * i) o)
 unfolding outputPut
 output-put l i o long h m = sent-put l i (o .at) (o .channel) (o .tag) (viewValue (o .value)) long h (omega (arith, length-take (o .value .len) (o .value .words)))
+
+-- AN OUTPUT MOVED: another box and another tag
+module _ (r : List ℕ) (box : ℕ) (t : dTag) (hr : length r ≡ 144) where
+  moved-words : (getD (movedTo r 0 box t) 0 0 ≡ getD r 0 0) × (getD (movedTo r 0 box t) 1 0 ≡ box) × (getD (movedTo r 0 box t) 2 0 ≡ getD r 2 0) × (tagIn (movedTo r 0 box t) ≡ viewTag t)
+  unfolding movedTo
+  moved-words =
+      let s : List ℕ = set r 1 box in
+      let vs : List ℕ = kindOf t ∷ nameOf t ∷ [] in
+      let sl : length s ≡ 144 = length-set r 1 box ∙ hr in
+      let m : List ℕ = sets s 3 vs in
+      let kind : getD m 3 0 ≡ kindOf t = getD-sets-at vs s 3 0 0 (omega arith) (omega arith) in
+      let name : getD m 4 0 ≡ nameOf t = getD-sets-at vs s 3 1 0 (omega arith) (omega arith) in (
+        getD-sets-below vs s 3 0 0 (omega arith) ∙ getD-set-other r 1 0 box 0 (λ e. omega arith),
+        getD-sets-below vs s 3 1 0 (omega arith) ∙ getD-set-same r 1 box 0 (omega arith),
+        getD-sets-below vs s 3 2 0 (omega arith) ∙ getD-set-other r 1 2 box 0 (λ e. omega arith),
+        ap (λ (k : ℕ). tagOf k (getD m 4 0)) kind ∙ ap (tagOf (kindOf t)) name ∙ tag-back t,
+      )
+
+  moved-places : placesOf (movedTo r 0 box t) ≡ placesOf r
+  unfolding movedTo
+  moved-places = ap (parts 17 8) (drop-sets-lt 8 (kindOf t ∷ nameOf t ∷ []) (set r 1 box) 3 (omega arith) ∙ drop-set-lt 8 r 1 box (omega arith))
+
+  module _ (e : getD r 0 0 ≡ 1) where
+    moved-view : viewRow (movedTo r 0 box t) ≡ output box (getD r 2 0) (viewTag t) (viewPlace (getD (placesOf r) 0 []))
+    moved-view =
+        let m : List ℕ = movedTo r 0 box t in
+        let w = moved-words in
+        output-view m (w .0 ∙ e) ∙ ap (λ (b : ℕ). output b (getD m 2 0) (tagIn m) (viewPlace (getD (placesOf m) 0 []))) (w .1) ∙
+        ap (λ (c : ℕ). output box c (tagIn m) (viewPlace (getD (placesOf m) 0 []))) (w .2) ∙ ap (λ (g : Tag). output box (getD r 2 0) g (viewPlace (getD (placesOf m) 0 []))) (w .3) ∙
+        ap (λ (y : List (List ℕ)). output box (getD r 2 0) (viewTag t) (viewPlace (getD y 0 []))) moved-places
+
+    moved-fits : fitsRow r ≡ true → fitsRow (movedTo r 0 box t) ≡ true
+    moved-fits f =
+        let w = moved-words in
+        output-fits (movedTo r 0 box t) (w .0 ∙ e) (ap (λ (y : List (List ℕ)). fitsPlace (getD y 0 [])) moved-places ∙ ap fitsPlace (first-place r) ∙ first-fits r f e)
+
+rows-moved : (l : List ℕ) (i box : ℕ) (t : dTag) → i < 32 → rowsOf (movedTo l (144 * i) box t) ≡ set (rowsOf l) i (movedTo (rowAt l i) 0 box t)
+unfolding movedTo
+rows-moved l i box t h =
+    parts-more 144 32 l (set l (144 * i + 1) box) i (set (rowAt l i) 1 box) 3 (kindOf t ∷ nameOf t ∷ []) h (omega arith) (parts-sets 144 32 l i 1 (box ∷ []) h (omega arith))
+
+pub moved-put : (l : List ℕ) (i box : ℕ) (t : dTag) → length l ≡ 5184 → i < 32 → getD (rowAt l i) 0 0 ≡ 1 → fitsRow (rowAt l i) ≡ true →
+    RowPut l i (output box (getD (rowAt l i) 2 0) (viewTag t) (viewPlace (getD (placesOf (rowAt l i)) 0 []))) (movedTo l (144 * i) box t)
+moved-put l i box t long h e f =
+    let r : List ℕ = rowAt l i in
+    let hr : length r ≡ 144 = part-length 144 32 l i h (omega arith) in
+    record { row = movedTo r 0 box t; rows = rows-moved l i box t h; view = moved-view r box t hr e; fits = moved-fits r box t hr e f }
 
 -- A WAITING INPUT PUT AT ROW i
 module _ (r : List ℕ) (box node : ℕ) (e : List ℕ) (n : ℕ) (hr : length r ≡ 144) (he : length e ≡ 144) (h : n ≤ 8) where

@@ -1,19 +1,19 @@
 -- What each function that writes leaves, as the definitions of specs/Stored.antt say it.
-use Prim.Native.Nat.{ℕ, _+_, _-_, _*_, _<_, _≤_}
+use Prim.Native.Nat.{ℕ, suc, _+_, _-_, _*_, _<_, _≤_}
 use mathlib.Core.Path.{_≡_, sym, _∙_, ap}
 use mathlib.Core.List.{List, [], _∷_}
 use native.Mathlib.Nat.{add-zero, zero-add}
 use native.Mathlib.Numerals.{add-one}
 use native.Mathlib.Omega.{arith}
 use borrow.Rule.Slice.PartMut.{midOf, putMid}
-use lib.ListN.{length, take, drop, getD, set, length-take, length-drop}
+use lib.ListN.{length, take, drop, getD, set, length-set, length-take, length-drop}
 use lib.Seq.{sets, length-sets, length-take-le, take-all, getD-drop}
 use Rattle.values.specs.declared.Value.{Value}
 use Rattle.values.specs.Env.{viewValue}
 use Rattle.sides.specs.declared.Tag.{Tag}
 use Rattle.rows.specs.declared.Output.{Output}
 use Rattle.rows.specs.Layout.{rowAt}
-use Rattle.rows.specs.Stored.{kindOf, nameOf, placed, headPut, sentPut, outputPut, boxPut, shelfPut, valuesPut, inputPut, rowGone}
+use Rattle.rows.specs.Stored.{kindOf, nameOf, placed, headPut, sentPut, outputPut, movedTo, boxPut, shelfPut, valuesPut, inputPut, rowGone}
 use Rattle.rows.proofs.Sets.{set-sets, sets-turn, getD-sets-above, sets-lent, run-lent}
 use Rattle.rows.proofs.Parts.{part-lent, part-behind, part-length}
 
@@ -63,6 +63,14 @@ box-stored l j name parent = ap (λ (k : ℕ). set (set l (4608 + 2 * j) name) k
 pub head-stored : (r : List ℕ) (box channel : ℕ) (t : Tag) (k n : ℕ) → k ≡ kindOf t → n ≡ nameOf t → sets r 0 (1 ∷ box ∷ channel ∷ k ∷ n ∷ []) ≡ headPut r 0 box channel t
 unfolding headPut
 head-stored r box channel t k n p q = ap (λ (j : ℕ). sets r 0 (1 ∷ box ∷ channel ∷ j ∷ n ∷ [])) p ∙ ap (λ (j : ℕ). sets r 0 (1 ∷ box ∷ channel ∷ kindOf t ∷ j ∷ [])) q
+
+-- an output's box and tag
+pub move-stored : (l : List ℕ) (a box : ℕ) (t : Tag) (k n : ℕ) → k ≡ kindOf t → n ≡ nameOf t → set (set (set l (a + 1) box) (a + 3) k) (a + 4) n ≡ movedTo l a box t
+unfolding movedTo
+move-stored l a box t k n p q =
+    let e : a + 4 ≡ suc (a + 3) = omega arith in
+    ap (λ (j : ℕ). set (set (set l (a + 1) box) (a + 3) k) j n) e ∙ ap (λ (j : ℕ). set (set (set l (a + 1) box) (a + 3) j) (suc (a + 3)) n) p ∙
+    ap (set (set (set l (a + 1) box) (a + 3) (kindOf t)) (suc (a + 3))) q
 
 -- how long a value that fits is
 value-length : (x : Value) → x .len ≤ 16 → length (viewValue x) ≤ 16
@@ -190,6 +198,10 @@ module _ (l : List ℕ) (a : ℕ) where
 pub output-length : (l : List ℕ) (a : ℕ) (o : Output) → length (outputPut l a o) ≡ length l
 unfolding outputPut
 output-length l a o = sent-length l a (o .at) (o .channel) (o .tag) (viewValue (o .value))
+
+pub moved-length : (l : List ℕ) (a box : ℕ) (t : Tag) → length (movedTo l a box t) ≡ length l
+unfolding movedTo
+moved-length l a box t = length-sets (set l (a + 1) box) (a + 3) (kindOf t ∷ nameOf t ∷ []) ∙ length-set l (a + 1) box
 
 pub box-length : (l : List ℕ) (j name parent : ℕ) → length (boxPut l j name parent) ≡ length l
 unfolding boxPut

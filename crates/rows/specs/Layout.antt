@@ -39,10 +39,14 @@ viewPlace v = take (getD v 0 0) (drop 1 v)
 unfoldable pub tagOf : (kind name : ℕ) → Tag
 tagOf k n = cond (eqb k 0) within (cond (eqb k 1) toParent (cond (eqb k 2) fromParent (cond (eqb k 3) (toChild n) (fromChild n))))
 
+-- the tag of an output's row
+abbrev pub tagIn : List ℕ → Tag
+tagIn r = tagOf (getD r 3 0) (getD r 4 0)
+
 -- a row as a particle: an output's value is in the first place, a waiting input's values are in the first places
 unfoldable pub viewRow : List ℕ → Particle
 viewRow r =
-    cond (eqb (getD r 0 0) 1) (output (getD r 1 0) (getD r 2 0) (tagOf (getD r 3 0) (getD r 4 0)) (viewPlace (getD (placesOf r) 0 [])))
+    cond (eqb (getD r 0 0) 1) (output (getD r 1 0) (getD r 2 0) (tagIn r) (viewPlace (getD (placesOf r) 0 [])))
     (input (getD r 1 0) (getD r 5 0) (map viewPlace (take (getD r 6 0) (placesOf r))))
 
 -- a value's length is within its place

@@ -2,3 +2,4 @@ pub mod Layout
 pub mod Stored
 pub mod Environments
 pub mod Sides
+pub mod Puts

@@ -1,7 +1,7 @@
 -- All words after each function that writes, as runs of stores over the words before. `a` is where a row or a place begins.
 use mathlib.Core.List.{List, [], _∷_}
 use Prim.Native.Nat.{ℕ, _+_, _-_, _*_}
-use lib.ListN.{length, take, drop}
+use lib.ListN.{length, take, drop, set}
 use lib.Seq.{sets}
 use Rattle.values.specs.Env.{viewValue}
 use Rattle.sides.specs.declared.Tag.{Tag}
@@ -39,6 +39,10 @@ sentPut l a box channel t x = placed (headPut l a box channel t) (a + 8) x
 -- an output struct in the row at a
 unfoldable pub outputPut : List ℕ → (a : ℕ) → Output → List ℕ
 outputPut l a o = sentPut l a (o .at) (o .channel) (o .tag) (viewValue (o .value))
+
+-- the output in the row at a, in another box and with another tag
+unfoldable pub movedTo : List ℕ → (a box : ℕ) → Tag → List ℕ
+movedTo l a box t = sets (set l (a + 1) box) (a + 3) (kindOf t ∷ nameOf t ∷ [])
 
 -- the first n values of the row, or the environment, r in the places of the row at a
 unfoldable pub valuesPut : List ℕ → (a : ℕ) → List ℕ → (n : ℕ) → List ℕ

@@ -6,8 +6,9 @@ ghost use Prim.Native.Nat.{_+_, _-_, _*_, _^_, _<_, _≤_};
 ghost use lib.ListN.{length, take, getD};
 ghost use Rattle.model.specs.Basics.{every};
 ghost use Rattle.model.specs.Values.{substitute};
-ghost use Rattle.rows.specs.Layout.{rowAt, placesOf, viewPlace, fitsPlace, viewRow, fitsRow, fitsRows, ValueIs, OutputIs};
-ghost use Rattle.rows.specs.Stored.{outputPut, sentPut, inputPut, valuesPut, rowGone};
+ghost use Rattle.sides.specs.Views.{viewTag};
+ghost use Rattle.rows.specs.Layout.{rowAt, placesOf, tagIn, viewPlace, fitsPlace, viewRow, fitsRow, fitsRows, ValueIs, OutputIs};
+ghost use Rattle.rows.specs.Stored.{outputPut, sentPut, movedTo, inputPut, valuesPut, rowGone};
 ghost use Rattle.rows.specs.Environments.{envOf};
 use crate::Output;
 use crate::Row;
@@ -20,6 +21,9 @@ use crate::outputs::put_head;
 use crate::outputs::write_output;
 use crate::places::value_in;
 use crate::places::wide;
+use crate::tags::tag_kind;
+use crate::tags::tag_name;
+use crate::tags::tag_of;
 use sides::Tag;
 use values::Value;
 
@@ -29,6 +33,14 @@ pub fn word_at(rows: &[u32], i: usize, k: usize) -> u32
     ensures { λ r. ⌜ r ≡ getD (rowAt (now (rows .entry)) i) k 0 ⌝ }
 {
     rows[Rows::WIDTH * i + k]
+}
+
+// The tag of the output at row i.
+pub fn tag_at(rows: &[u32], i: usize) -> Tag
+    requires { ⌜ (length (now rows) ≡ 5184) × (i < 32) ⌝ }
+    ensures { λ r. ⌜ viewTag r ≡ tagIn (rowAt (now (rows .entry)) i) ⌝ }
+{
+    tag_of(word_at(rows, i, Row::TAG), word_at(rows, i, Row::CHILD))
 }
 
 // The output at row i.
@@ -80,6 +92,17 @@ pub fn put_sent(
     let z = b + Rows::PLACE;
     put_head(&mut rows[a..b], at, channel, tag);
     put_substituted(&mut rows[b..z], e, n, s);
+}
+
+// The output at row i, in another box and with another tag.
+pub fn move_output(rows: &mut [u32], i: usize, at: usize, tag: Tag)
+    requires { ⌜ (length (now rows) ≡ 5184) × (i < 32) × (at < 2 ^ 32) ⌝ }
+    ensures { λ _. ⌜ now (rows .exit) ≡ movedTo (now (rows .entry)) (144 * i) at tag ⌝ }
+{
+    let a = Rows::WIDTH * i;
+    rows[a + Row::BOX] = at as u32;
+    rows[a + Row::TAG] = tag_kind(tag);
+    rows[a + Row::CHILD] = tag_name(tag);
 }
 
 // An output behind the n rows that are held, and how many are held then.

@@ -1,0 +1,35 @@
+// The rest of a side, with one of its parts put anew.
+ghost use mathlib.Core.Path.{_≡_};
+ghost use Rattle.rows.specs.Puts.{putParticles, putShelved, putLobby, putTaken};
+use crate::Rest;
+use sides::Lobby;
+
+impl Rest {
+    pub fn with_particles(mut self, n: usize) -> Self
+        ensures { λ r. ⌜ r ≡ putParticles self n ⌝ }
+    {
+        self.particles = n;
+        self
+    }
+
+    pub fn with_shelved(mut self, n: usize) -> Self
+        ensures { λ r. ⌜ r ≡ putShelved self n ⌝ }
+    {
+        self.shelved = n;
+        self
+    }
+
+    pub fn with_lobby(mut self, x: Lobby) -> Self
+        ensures { λ r. ⌜ r ≡ putLobby self x ⌝ }
+    {
+        self.lobby = x;
+        self
+    }
+
+    pub fn with_taken(mut self, x: [bool; 64]) -> Self
+        ensures { λ r. ⌜ r ≡ putTaken self x ⌝ }
+    {
+        self.taken = x;
+        self
+    }
+}
