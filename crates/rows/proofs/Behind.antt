@@ -10,10 +10,12 @@ use lib.Seq.{sets, drop-set-lt}
 use Rattle.model.specs.Basics.{_&_, every}
 use Rattle.model.specs.Side.{Box}
 use Rattle.model.proofs.Tests.{both}
+use Rattle.values.specs.Env.{viewValue}
 use Rattle.sides.specs.declared.Tag.{Tag}
 use Rattle.sides.proofs.Lists.{view-push, view-length, fits-with}
+use Rattle.rows.specs.declared.Output.{Output}
 use Rattle.rows.specs.Layout.{parts, rowsOf, boxesOf, shelfOf, viewBox, viewBoxes, viewPlace, fitsPlace, viewShelf, fitsShelf}
-use Rattle.rows.specs.Stored.{kindOf, nameOf, placed, headPut, sentPut, movedTo, valuesPut, inputPut, rowGone, boxPut, shelfPut}
+use Rattle.rows.specs.Stored.{kindOf, nameOf, placed, headPut, sentPut, outputPut, movedTo, valuesPut, inputPut, rowGone, boxPut, shelfPut}
 use Rattle.rows.proofs.Sets.{drop-sets-lt, drop-sets-add, getD-sets-at}
 use Rattle.rows.proofs.Parts.{part-length, parts-past, sets-behind}
 use Rattle.rows.proofs.Reading.{boxes-count, shelf-count}
@@ -25,6 +27,10 @@ unfolding placed headPut sentPut
 behind-sent l i box channel t x h m =
     let hs : List ℕ = 1 ∷ box ∷ channel ∷ kindOf t ∷ nameOf t ∷ [] in
     drop-sets-lt 4608 (length x ∷ x) (sets l (144 * i) hs) (144 * i + 8) (omega arith) ∙ drop-sets-lt 4608 hs l (144 * i) (omega arith)
+
+pub behind-output : (l : List ℕ) (i : ℕ) (o : Output) → i < 32 → o .value .len ≤ 16 → drop 4608 (outputPut l (144 * i) o) ≡ drop 4608 l
+unfolding outputPut
+behind-output l i o h m = behind-sent l i (o .at) (o .channel) (o .tag) (viewValue (o .value)) h (omega (arith, length-take (o .value .len) (o .value .words)))
 
 pub behind-moved : (l : List ℕ) (i box : ℕ) (t : Tag) → i < 32 → drop 4608 (movedTo l (144 * i) box t) ≡ drop 4608 l
 unfolding movedTo

@@ -19,7 +19,7 @@ pub fn box_name(rows: &[u32], j: usize) -> u32
 // The box that box j stands in.
 pub fn box_parent(rows: &[u32], j: usize) -> usize
     requires { ⌜ (length (now rows) ≡ 5184) × (j < 16) ⌝ }
-    ensures { λ r. ⌜ r ≡ viewBox (getD (boxesOf (now (rows .entry))) j []) .parent ⌝ }
+    ensures { λ r. ⌜ (r ≡ viewBox (getD (boxesOf (now (rows .entry))) j []) .parent) × (r < 2 ^ 32) ⌝ }
 {
     wide(rows[Rows::BOXES + Rows::BOX * j + 1])
 }

@@ -2,6 +2,7 @@
 ghost use mathlib.Core.Path.{_≡_};
 ghost use Rattle.rows.specs.Puts.{putParticles, putShelved, putLobby, putTaken};
 use crate::Rest;
+use crate::Sides;
 use sides::Lobby;
 
 impl Rest {
@@ -26,7 +27,7 @@ impl Rest {
         self
     }
 
-    pub fn with_taken(mut self, x: [bool; 64]) -> Self
+    pub fn with_taken(mut self, x: [bool; Sides::TAKEN]) -> Self
         ensures { λ r. ⌜ r ≡ putTaken self x ⌝ }
     {
         self.taken = x;

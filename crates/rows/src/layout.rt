@@ -1,6 +1,7 @@
 // The numbers of the layout that specs/Layout.antt defines. Contracts and definitions are no code: they write the numbers out.
 use crate::Row;
 use crate::Rows;
+use crate::Sides;
 
 impl Rows {
     // The words of a row, and of an environment.
@@ -54,4 +55,15 @@ impl Row {
 
     // How many values a waiting input holds.
     pub const HELD: usize = 6;
+}
+
+impl Sides {
+    // The sides that are lent tables and have a place in a state.
+    pub const COUNT: usize = 2;
+
+    // A side's marks of minted names: 256 for the names of each side.
+    pub const MARKS: usize = 256 * Sides::COUNT;
+
+    // A side's taken marks: 32 for the shelf of each side.
+    pub const TAKEN: usize = 32 * Sides::COUNT;
 }

@@ -46,6 +46,9 @@ pub struct Rows;
 // The places of a row's words: layout.rt.
 pub struct Row;
 
+// How many sides there are, and what follows from it: layout.rt.
+pub struct Sides;
+
 // An output, out of its row.
 pub struct Output {
     pub at: usize,
@@ -62,5 +65,5 @@ pub struct Rest {
     pub shelved: usize,
     pub minted: usize,
     pub lobby: Lobby,
-    pub taken: [bool; 64],
+    pub taken: [bool; Sides::TAKEN],
 }

@@ -1,11 +1,16 @@
 use mathlib.Core.Path.{sym, _∙_}
+use Prim.Native.Nat.{_+_, _*_}
 use Rattle.rows.proofs.Parts.{word-behind}
+use native.Mathlib.Omega.{arith}
 use borrow.Author.Needs.{needs}
 use Rattle.rows.proofs.boxes.box_parent.Statement.{statement}
 use Rattle.rows.proofs.boxes.box_parent.Tie as tie
 
 returns : tie.Need-returns
-returns c = let x = c .before .before .before in c .wide .ensures ∙ sym (word-behind 2 16 4608 (x .args .rows .now) (x .args .j) 1 (x .pre .1) (search needs))
+returns c =
+    let x = c .before .before .before in
+    let e = c .wide .ensures in
+    (e ∙ sym (word-behind 2 16 4608 (x .args .rows .now) (x .args .j) 1 (x .pre .1) (search needs)), omega (arith, e, c .before .shared-slice-known2 .given (4608 + 2 * x .args .j + 1) .fits))
 
 pub box-parent-spec : {M : Type 1} → statement M
 box-parent-spec =

@@ -1,0 +1,90 @@
+-- What the checks of the steps answer, and what is known of a side where they answer a position.
+use mathlib.Core.Path.{_≡_}
+use mathlib.Core.Bool.{Bool, true, false, not}
+use mathlib.Core.List.{List, []}
+use Prim.Native.Nat.{ℕ, _<_, _≤_}
+use lib.ListN.{length, getD}
+use Rattle.model.specs.Basics.{_or_, every, oneOf}
+use Rattle.model.specs.Values.{isValue, isMinted}
+use Rattle.model.specs.Wrapper.{allSides}
+use Rattle.model.specs.Side.{takenAt}
+use Rattle.model.specs.Step.{isDown, isArrived, isLeaving, isToParent, isToChild, marked}
+use Rattle.values.specs.Env.{Stores}
+use Rattle.sides.specs.declared.Message.{Message}
+use Rattle.sides.specs.Views.{viewStatus}
+use Rattle.rows.specs.declared.Rest.{Rest}
+use Rattle.rows.specs.Layout.{rowAt, placesOf, tagIn, viewPlace, boxesOf, viewBox, fitsShelf}
+use Rattle.steps.specs.declared.Said.{Said}
+use Rattle.row_steps.specs.declared.RestStep.{RestStep}
+
+-- said, with no value, beside the rest o
+pub record Says (s : Said) (o : Rest) (r : RestStep) : Type 0 where
+  pub says : r .said ≡ s
+  pub value : Stores [] (r .value)
+  pub rest : r .rest ≡ o
+
+-- lobby i is down, and there is room for a particle
+pub record DownAt (o : Rest) (i : ℕ) : Type 0 where
+  pub held : i < o .lobby .len
+  pub status : (d : Message) → isDown (viewStatus (getD (o .lobby .msgs) i d .status)) ≡ true
+  pub room : o .particles < 32
+
+-- lobby i has arrived on `out`
+pub record PassAt (o : Rest) (i : ℕ) : Type 0 where
+  pub held : i < o .lobby .len
+  pub status : (d : Message) → isArrived (viewStatus (getD (o .lobby .msgs) i d .status)) ≡ true
+  pub chan : (d : Message) → getD (o .lobby .msgs) i d .channel ≡ 1
+
+-- lobby i is leaving
+pub record LeaveAt (o : Rest) (i : ℕ) : Type 0 where
+  pub held : i < o .lobby .len
+  pub status : (d : Message) → isLeaving (viewStatus (getD (o .lobby .msgs) i d .status)) ≡ true
+
+-- the channel and the value of the output at row i
+abbrev pub channelIn : List ℕ → ℕ → ℕ
+channelIn l i = getD (rowAt l i) 2 0
+
+abbrev pub valueIn : List ℕ → ℕ → List ℕ
+valueIn l i = viewPlace (getD (placesOf (rowAt l i)) 0 [])
+
+-- particle i is an output with tag parent
+pub record UpAt (l : List ℕ) (o : Rest) (i : ℕ) : Type 0 where
+  pub held : i < o .particles
+  pub is : getD (rowAt l i) 0 0 ≡ 1
+  pub tag : isToParent (tagIn (rowAt l i)) ≡ true
+
+-- particle i is an output whose tag names box j, a child of its box
+pub record DescendAt (l : List ℕ) (o : Rest) (j i : ℕ) : Type 0 where
+  pub held : i < o .particles
+  pub box : j < o .boxes
+  pub inner : (j ≡ 0 → ⊥)
+  pub is : getD (rowAt l i) 0 0 ≡ 1
+  pub parent : viewBox (getD (boxesOf l) j []) .parent ≡ getD (rowAt l i) 1 0
+  pub tag : isToChild (tagIn (rowAt l i)) (viewBox (getD (boxesOf l) j []) .name) ≡ true
+
+-- a minted name that has left by an outlet: marks for each side
+abbrev pub knownBy : List (List Bool) → ℕ → Bool
+knownBy ms w = oneOf (λ l. marked l w) ms
+
+-- a word that passes 12
+abbrev pub mayEnter : List (List Bool) → ℕ → Bool
+mayEnter ms w = not (isMinted w) or knownBy ms w
+
+-- the words ws are a value that may enter, and the lobby has room for a place k
+pub record EnterAt (ms : List (List Bool)) (ws : List ℕ) (k : ℕ) : Type 0 where
+  pub shape : isValue ws ≡ true
+  pub names : every (mayEnter ms) ws ≡ true
+  pub room : k < 16
+
+-- the words l of a source have n values on their shelf
+pub record Source (source : ℕ) (l : List ℕ) (n : ℕ) : Type 0 where
+  pub first : 0 < source
+  pub last : source ≤ length allSides
+  pub long : length l ≡ 5184
+  pub fits : fitsShelf l n ≡ true
+
+-- shelf i of a source with n values on it is not yet taken, and there is room for a message
+pub record TakeAt (o : Rest) (source n i : ℕ) : Type 0 where
+  pub held : i < n
+  pub fresh : getD (o .taken) (takenAt source i) false ≡ false
+  pub room : o .lobby .len < 16

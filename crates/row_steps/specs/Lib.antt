@@ -1,0 +1,2 @@
+pub mod StepIs
+pub mod Asked

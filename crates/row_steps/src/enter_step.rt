@@ -1,0 +1,86 @@
+// Enter: a value comes in by the inlet.
+ghost use mathlib.Core.Path.{_≡_};
+ghost use lib.ListN.{length};
+ghost use Rattle.model.specs.Basics.{every};
+ghost use Rattle.model.specs.Wrapper.{allSides};
+ghost use Rattle.model.specs.Step.{enter, settled};
+ghost use Rattle.rows.specs.Sides.{coreOf};
+ghost use Rattle.steps.specs.Asked.{OfferIs};
+ghost use Rattle.row_steps.specs.Asked.{EnterAt, knownBy, mayEnter};
+ghost use Rattle.row_steps.specs.StepIs.{Sane, StepIs};
+use crate::RestStep;
+use crate::left_marks::may_enter;
+use rows::Rest;
+use rows::Sides;
+use sides::Message;
+use sides::Side;
+use sides::Status;
+use steps::Offer;
+use steps::Said;
+use values::Value;
+use values::is_value;
+
+// Whether every minted name among the words has left by an outlet.
+fn all_may_enter(marks: &[[bool; Sides::MARKS]; Sides::COUNT], words: &[u32]) -> bool
+    requires { ⌜ length (now marks) ≡ length allSides ⌝ }
+    ensures { λ r. ⌜ r ≡ every (mayEnter (now (marks .entry))) (now (words .entry)) ⌝ }
+{
+    let mut k: usize = 0;
+    while k < words.len() {
+        if may_enter(marks, words[k]) {
+            k += 1;
+        } else {
+            return false;
+        }
+    }
+    true
+}
+
+// Whether the words are a value that may enter, with room for a message more. The position is the lobby place that it takes.
+fn enter_offer(
+    rows: &[u32],
+    o: Rest,
+    marks: &[[bool; Sides::MARKS]; Sides::COUNT],
+    words: &[u32],
+) -> Offer
+    requires { ⌜ (Sane (now rows) o) × (length (now marks) ≡ length allSides) ⌝ }
+    ensures { λ r. ⌜ OfferIs (settled (enter (knownBy (now (marks .entry))) (coreOf (now (rows .entry)) o) (now (words .entry)))) (o .lobby .len) (EnterAt (now (marks .entry)) (now (words .entry))) r ⌝ }
+{
+    if !is_value(words) {
+        return Offer::Refused(11);
+    }
+    if !all_may_enter(marks, words) {
+        return Offer::Refused(12);
+    }
+    let l = o.lobby;
+    let n = l.len;
+    if !Side::lobby_within(n + 1) {
+        return Offer::Refused(17);
+    }
+    Offer::At(n)
+}
+
+// Enter: a down message on `in` is added to the lobby. No word changes.
+pub fn enter(
+    rows: &[u32],
+    o: Rest,
+    marks: &[[bool; Sides::MARKS]; Sides::COUNT],
+    words: &[u32],
+) -> RestStep
+    requires { ⌜ (Sane (now rows) o) × (length (now marks) ≡ length allSides) ⌝ }
+    ensures { λ r. ⌜ StepIs (settled (enter (knownBy (now (marks .entry))) (coreOf (now (rows .entry)) o) (now (words .entry)))) (now (rows .entry)) o (now (rows .entry)) r ⌝ }
+{
+    let a = enter_offer(rows, o, marks, words);
+    let Offer::At(_) = a else {
+        return RestStep::plain(Said::Refused(a.number()), o);
+    };
+    let l = o.lobby;
+    let value = Value::of(words);
+    let m = Message::new(Status::Down, 0, value);
+    let rest = o.with_lobby(l.with(m));
+    RestStep {
+        said: Said::In,
+        value,
+        rest,
+    }
+}

@@ -1,0 +1,163 @@
+// Down, pass and leave: the steps that act on a lobby message.
+ghost use mathlib.Core.Path.{_≡_};
+ghost use Rattle.model.specs.Step.{isDown, isArrived, isLeaving, goDown, pass, leave, settled};
+ghost use Rattle.sides.specs.Views.{viewStatus};
+ghost use Rattle.rows.specs.Sides.{coreOf};
+ghost use Rattle.steps.specs.Asked.{OfferIs};
+ghost use Rattle.row_steps.specs.Asked.{DownAt, PassAt, LeaveAt};
+ghost use Rattle.row_steps.specs.StepIs.{Sane, StepIs};
+use crate::RestStep;
+use rows::Output;
+use rows::Rest;
+use rows::add_output;
+use sides::Message;
+use sides::Side;
+use sides::Status;
+use sides::Tag;
+use steps::Offer;
+use steps::Said;
+
+fn is_down(s: Status) -> bool
+    ensures { λ r. ⌜ r ≡ isDown (viewStatus s) ⌝ }
+{
+    match s {
+        Status::Down => true,
+        Status::Arrived => false,
+        Status::Leaving => false,
+    }
+}
+
+fn is_arrived(s: Status) -> bool
+    ensures { λ r. ⌜ r ≡ isArrived (viewStatus s) ⌝ }
+{
+    match s {
+        Status::Down => false,
+        Status::Arrived => true,
+        Status::Leaving => false,
+    }
+}
+
+fn is_leaving(s: Status) -> bool
+    ensures { λ r. ⌜ r ≡ isLeaving (viewStatus s) ⌝ }
+{
+    match s {
+        Status::Down => false,
+        Status::Arrived => false,
+        Status::Leaving => true,
+    }
+}
+
+// Whether lobby i is down, with room for a particle more.
+fn down_offer(rows: &[u32], o: Rest, i: usize) -> Offer
+    requires { ⌜ Sane (now rows) o ⌝ }
+    ensures { λ r. ⌜ OfferIs (settled (goDown (coreOf (now (rows .entry)) o) i)) i (DownAt o) r ⌝ }
+{
+    let l = o.lobby;
+    if l.len <= i {
+        return Offer::Refused(10);
+    }
+    let m = l.msgs[i];
+    let s = m.status;
+    if !is_down(s) {
+        return Offer::Refused(13);
+    }
+    if !Side::particles_within(o.particles + 1) {
+        return Offer::Refused(17);
+    }
+    Offer::At(i)
+}
+
+// Down: lobby i, being down, becomes a particle of box 0, received from the parent.
+pub fn down(rows: &mut [u32], o: Rest, i: usize) -> RestStep
+    requires { ⌜ Sane (now rows) o ⌝ }
+    ensures { λ r. ⌜ StepIs (settled (goDown (coreOf (now (rows .entry)) o) i)) (now (rows .entry)) o (now (rows .exit)) r ⌝ }
+{
+    let a = down_offer(rows, o, i);
+    let Offer::At(k) = a else {
+        return RestStep::plain(Said::Refused(a.number()), o);
+    };
+    let l = o.lobby;
+    let m = l.msgs[k];
+    let v = m.value;
+    let p = Output {
+        at: 0,
+        channel: m.channel,
+        tag: Tag::FromParent,
+        value: v,
+    };
+    let n = add_output(rows, o.particles, p);
+    RestStep::plain(Said::Silent, o.with_particles(n).with_lobby(l.without(k)))
+}
+
+// Whether lobby i has arrived on `out`.
+fn pass_offer(rows: &[u32], o: Rest, i: usize) -> Offer
+    requires { ⌜ Sane (now rows) o ⌝ }
+    ensures { λ r. ⌜ OfferIs (settled (pass (coreOf (now (rows .entry)) o) i)) i (PassAt o) r ⌝ }
+{
+    let l = o.lobby;
+    if l.len <= i {
+        return Offer::Refused(10);
+    }
+    let m = l.msgs[i];
+    let s = m.status;
+    if !is_arrived(s) {
+        return Offer::Refused(13);
+    }
+    if m.channel != 1 {
+        return Offer::Refused(13);
+    }
+    Offer::At(i)
+}
+
+// Pass: lobby i, arrived on `out`, becomes leaving. No word changes.
+pub fn pass(rows: &[u32], o: Rest, i: usize) -> RestStep
+    requires { ⌜ Sane (now rows) o ⌝ }
+    ensures { λ r. ⌜ StepIs (settled (pass (coreOf (now (rows .entry)) o) i)) (now (rows .entry)) o (now (rows .entry)) r ⌝ }
+{
+    let a = pass_offer(rows, o, i);
+    let Offer::At(k) = a else {
+        return RestStep::plain(Said::Refused(a.number()), o);
+    };
+    let l = o.lobby;
+    let m = l.msgs[k];
+    let v = m.value;
+    let n = Message::new(Status::Leaving, 1, v);
+    RestStep::plain(Said::Silent, o.with_lobby(l.replaced(k, n)))
+}
+
+// Whether lobby i is leaving.
+fn leave_offer(rows: &[u32], o: Rest, i: usize) -> Offer
+    requires { ⌜ Sane (now rows) o ⌝ }
+    ensures { λ r. ⌜ OfferIs (settled (leave (coreOf (now (rows .entry)) o) i)) i (LeaveAt o) r ⌝ }
+{
+    let l = o.lobby;
+    if l.len <= i {
+        return Offer::Refused(10);
+    }
+    let m = l.msgs[i];
+    let s = m.status;
+    if !is_leaving(s) {
+        return Offer::Refused(13);
+    }
+    Offer::At(i)
+}
+
+// Leave: lobby i, leaving, is removed and said with its value. No word changes; the marks of left names follow from the label.
+pub fn leave(rows: &[u32], o: Rest, i: usize) -> RestStep
+    requires { ⌜ Sane (now rows) o ⌝ }
+    ensures { λ r. ⌜ StepIs (settled (leave (coreOf (now (rows .entry)) o) i)) (now (rows .entry)) o (now (rows .entry)) r ⌝ }
+{
+    let a = leave_offer(rows, o, i);
+    let Offer::At(k) = a else {
+        return RestStep::plain(Said::Refused(a.number()), o);
+    };
+    let l = o.lobby;
+    let m = l.msgs[k];
+    let value = m.value;
+    let rest = o.with_lobby(l.without(k));
+    RestStep {
+        said: Said::Out,
+        value,
+        rest,
+    }
+}
