@@ -1,0 +1,4 @@
+pub mod Slots
+pub mod Sizes
+pub mod LongWalk
+pub mod Marks
