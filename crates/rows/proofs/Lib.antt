@@ -5,3 +5,5 @@ pub mod Reading
 pub mod Substituting
 pub mod Viewing
 pub mod Putting
+pub mod Binding
+pub mod Behind

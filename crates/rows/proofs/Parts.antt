@@ -2,7 +2,7 @@
 use Prim.Native.Nat.{ℕ, zero, suc, _+_, _-_, _*_, _<_, _≤_}
 use mathlib.Core.Path.{_≡_, refl, sym, _∙_, ap}
 use mathlib.Core.List.{List, [], _∷_, _++_, append-assoc}
-use native.Mathlib.Nat.{mul-zero, mul-suc, mul-add, sub-zero, add-comm, add-assoc, zero-add, suc-add, add-sub-cancel-left, add-sub-of-le}
+use native.Mathlib.Nat.{add-zero, mul-zero, mul-suc, mul-add, sub-zero, add-comm, add-assoc, zero-add, suc-add, add-sub-cancel-left, add-sub-of-le}
 use native.Mathlib.Omega.{arith}
 use borrow.Rule.Slice.PartMut.{midOf, putMid, post-is}
 use lib.ListN.{length, take, drop, getD, set, length-take, length-drop, take-append-drop}
@@ -40,6 +40,17 @@ parts-word w n l i k h m = ap (λ (r : List ℕ). getD r k 0) (parts-at w n l i 
 
 pub part-length : (w n : ℕ) (l : List ℕ) (i : ℕ) → i < n → w * i + w ≤ length l → length (getD (parts w n l) i []) ≡ w
 part-length w n l i h m = ap length (parts-at w n l i h) ∙ length-take-le w (drop (w * i) l) (omega (arith, length-drop (w * i) l))
+
+-- a word of a part of what stands behind the first a words
+pub word-behind : (w n a : ℕ) (l : List ℕ) (i k : ℕ) → i < n → k < w → getD (getD (parts w n (drop a l)) i []) k 0 ≡ getD l (a + w * i + k) 0
+word-behind w n a l i k h m = parts-word w n (drop a l) i k h m ∙ getD-drop a l (w * i + k) 0 ∙ ap (λ (j : ℕ). getD l j 0) (sym (add-assoc a (w * i) k))
+
+pub first-behind : (w n a : ℕ) (l : List ℕ) (i : ℕ) → i < n → 0 < w → getD (getD (parts w n (drop a l)) i []) 0 0 ≡ getD l (a + w * i) 0
+first-behind w n a l i h m = word-behind w n a l i 0 h m ∙ ap (λ (j : ℕ). getD l j 0) (add-zero (a + w * i))
+
+-- such a part, as the words that are lent
+pub part-behind : (w n a : ℕ) (l : List ℕ) (i : ℕ) → i < n → take (a + w * i + w - (a + w * i)) (drop (a + w * i) l) ≡ getD (parts w n (drop a l)) i []
+part-behind w n a l i h = ap (λ (k : ℕ). take k (drop (a + w * i) l)) (add-sub-cancel-left (a + w * i) w) ∙ ap (take w) (sym (drop-drop (w * i) a l)) ∙ sym (parts-at w n (drop a l) i h)
 
 -- a first part and what follows it
 cons-part : (w n : ℕ) (a b : List ℕ) → length a ≡ w → parts w (suc n) (a ++ b) ≡ a ∷ parts w n b
@@ -138,6 +149,23 @@ parts-sets w (suc n) l (suc i) j vs h m =
     let e : w * suc i + j ≡ w + (w * i + j) = let z = mul-next w i in omega arith in
     ap (λ (k : ℕ). parts w (suc n) (sets l k vs)) e ∙ rw (take-sets-le w vs l (w + (w * i + j)) (omega arith), drop-sets-add w vs l (w * i + j))
     (ap (λ (y : List (List ℕ)). take w l ∷ y) (parts-sets w n (drop w l) i j vs (omega arith) m))
+
+-- words stored behind all parts
+pub parts-past : (w n : ℕ) (l : List ℕ) (a : ℕ) (vs : List ℕ) → w * n ≤ a → parts w n (sets l a vs) ≡ parts w n l
+unfolding parts
+parts-past w zero l a vs h = refl
+parts-past w (suc n) l a vs h =
+    let z = mul-next w n in
+    let e : a ≡ w + (a - w) = omega arith in
+    ap (λ (y : List ℕ). y ∷ parts w n (drop w (sets l a vs))) (take-sets-le w vs l a (omega arith)) ∙
+    ap (λ (y : List ℕ). take w l ∷ parts w n y) (ap (λ (k : ℕ). drop w (sets l k vs)) e ∙ drop-sets-add w vs l (a - w)) ∙
+    ap (λ (y : List (List ℕ)). take w l ∷ y) (parts-past w n (drop w l) (a - w) vs (omega arith))
+
+-- words stored in part i of what stands behind the first a words
+pub sets-behind : (w n a : ℕ) (l : List ℕ) (i : ℕ) (vs : List ℕ) → i < n → length vs ≤ w →
+    parts w n (drop a (sets l (a + w * i) vs)) ≡ set (parts w n (drop a l)) i (sets (getD (parts w n (drop a l)) i []) 0 vs)
+sets-behind w n a l i vs h m =
+    ap (parts w n) (drop-sets-add a vs l (w * i)) ∙ ap (λ (k : ℕ). parts w n (sets (drop a l) k vs)) (sym (add-zero (w * i))) ∙ parts-sets w n (drop a l) i 0 vs h (omega arith)
 
 -- words stored in a part that was put anew
 pub parts-more : (w n : ℕ) (l m : List ℕ) (i : ℕ) (r : List ℕ) (j : ℕ) (vs : List ℕ) → i < n → j + length vs ≤ w → parts w n m ≡ set (parts w n l) i r →

@@ -19,7 +19,7 @@ use Rattle.sides.specs.Views.{viewTag}
 use Rattle.sides.proofs.Lists.{view-push, view-set, map-remove, fits-with, fits-put}
 use Rattle.rows.specs.declared.Output.{Output}
 use Rattle.rows.specs.Layout.{parts, rowsOf, rowAt, placesOf, tagOf, viewPlace, fitsPlace, viewRow, fitsRow, viewRows, fitsRows, viewOutput}
-use Rattle.rows.specs.Stored.{kindOf, nameOf, placed, headPut, outputPut, valuesPut, inputPut, rowGone}
+use Rattle.rows.specs.Stored.{kindOf, nameOf, placed, headPut, sentPut, outputPut, valuesPut, inputPut, rowGone}
 use Rattle.rows.proofs.Sets.{getD-sets-below, getD-sets-at, take-sets-lt, drop-sets-add}
 use Rattle.rows.proofs.Parts.{parts-sets, parts-more, parts-take, parts-gone, parts-gone-rest, part-length}
 use Rattle.rows.proofs.Reading.{rows-count, first-place}
@@ -79,9 +79,10 @@ rows-output l i box channel t x h short =
     let first : rowsOf (sets l (144 * i) hs) ≡ set (rowsOf l) i (sets (rowAt l i) 0 hs) = ap (λ (k : ℕ). rowsOf (sets l k hs)) (sym (add-zero (144 * i))) ∙ parts-sets 144 32 l i 0 hs h (omega arith) in
     parts-more 144 32 l (sets l (144 * i) hs) i (sets (rowAt l i) 0 hs) 8 (length x ∷ x) h (omega arith) first
 
-pub words-put : (l : List ℕ) (i box channel : ℕ) (t : dTag) (x : List ℕ) → length l ≡ 4608 → i < 32 → length x ≤ 16 →
-    RowPut l i (output box channel (viewTag t) x) (placed (headPut l (144 * i) box channel t) (144 * i + 8) x)
-words-put l i box channel t x long h short =
+pub sent-put : (l : List ℕ) (i box channel : ℕ) (t : dTag) (x : List ℕ) → length l ≡ 5184 → i < 32 → length x ≤ 16 →
+    RowPut l i (output box channel (viewTag t) x) (sentPut l (144 * i) box channel t x)
+unfolding sentPut
+sent-put l i box channel t x long h short =
     let r : List ℕ = rowAt l i in
     let hr : length r ≡ 144 = part-length 144 32 l i h (omega arith) in
     record {
@@ -92,9 +93,9 @@ words-put l i box channel t x long h short =
     }
 
 -- an output struct
-pub output-put : (l : List ℕ) (i : ℕ) (o : Output) → length l ≡ 4608 → i < 32 → o .value .len ≤ 16 → RowPut l i (viewOutput o) (outputPut l (144 * i) o)
+pub output-put : (l : List ℕ) (i : ℕ) (o : Output) → length l ≡ 5184 → i < 32 → o .value .len ≤ 16 → RowPut l i (viewOutput o) (outputPut l (144 * i) o)
 unfolding outputPut
-output-put l i o long h m = words-put l i (o .at) (o .channel) (o .tag) (viewValue (o .value)) long h (omega (arith, length-take (o .value .len) (o .value .words)))
+output-put l i o long h m = sent-put l i (o .at) (o .channel) (o .tag) (viewValue (o .value)) long h (omega (arith, length-take (o .value .len) (o .value .words)))
 
 -- A WAITING INPUT PUT AT ROW i
 module _ (r : List ℕ) (box node : ℕ) (e : List ℕ) (n : ℕ) (hr : length r ≡ 144) (he : length e ≡ 144) (h : n ≤ 8) where
@@ -146,7 +147,7 @@ rows-input l i box node e n h m =
     parts-more 144 32 l (sets l (144 * i) a) i (sets (rowAt l i) 0 a) 5 b h (omega arith) first in
     parts-more 144 32 l (sets (sets l (144 * i) a) (144 * i + 5) b) i (sets (sets (rowAt l i) 0 a) 5 b) 8 vs h (omega arith) second
 
-pub input-put : (l : List ℕ) (i box node : ℕ) (e : List ℕ) (n : ℕ) → length l ≡ 4608 → i < 32 → length e ≡ 144 → n ≤ 8 → every fitsPlace (take n (placesOf e)) ≡ true →
+pub input-put : (l : List ℕ) (i box node : ℕ) (e : List ℕ) (n : ℕ) → length l ≡ 5184 → i < 32 → length e ≡ 144 → n ≤ 8 → every fitsPlace (take n (placesOf e)) ≡ true →
     RowPut l i (input box node (map viewPlace (take n (placesOf e)))) (inputPut l (144 * i) box node e n)
 input-put l i box node e n long h he m f =
     let r : List ℕ = rowAt l i in
@@ -181,7 +182,7 @@ module _ (l m : List ℕ) (i : ℕ) (p : Particle) (x : RowPut l i p m) where
   add-fits h f = ap (λ (y : List (List ℕ)). leb (i + 1) 32 & every fitsRow (take (i + 1) y)) (x .rows) ∙ fits-with fitsRow (rowsOf l) 32 (rows-count l) i (x .row) h (both _ _ f (x .fits))
 
 -- A ROW REMOVED: the held rows are the others, the rows from the new end on have their very words
-module _ (l : List ℕ) (i n : ℕ) (long : length l ≡ 4608) (h : i < n) (m : n ≤ 32) where
+module _ (l : List ℕ) (i n : ℕ) (long : length l ≡ 5184) (h : i < n) (m : n ≤ 32) where
   gone-rows : take (n - 1) (rowsOf (rowGone l i n)) ≡ remove (take n (rowsOf l)) i
   unfolding rowGone
   gone-rows =

@@ -14,9 +14,9 @@ use Rattle.values.specs.declared.Value.{Value}
 use Rattle.values.specs.Env.{Stores}
 use Rattle.sides.specs.Views.{viewTag}
 use Rattle.rows.specs.declared.Output.{Output}
-use Rattle.rows.specs.Layout.{parts, rowsOf, rowAt, placesOf, tagOf, viewPlace, fitsPlace, viewRow, fitsRow, ValueIs, OutputIs}
+use Rattle.rows.specs.Layout.{parts, rowsOf, rowAt, placesOf, tagOf, viewPlace, fitsPlace, viewRow, fitsRow, boxesOf, shelfOf, ValueIs, OutputIs}
 use Rattle.rows.specs.Environments.{lastOf}
-use Rattle.rows.proofs.Parts.{part-of-part, parts-length, parts-word, parts-at}
+use Rattle.rows.proofs.Parts.{part-of-part, parts-length, parts-at, first-behind}
 
 -- how many rows and places there are
 pub rows-count : (l : List ℕ) → length (rowsOf l) ≡ 32
@@ -24,6 +24,12 @@ rows-count l = parts-length 144 32 l
 
 pub places-count : (r : List ℕ) → length (placesOf r) ≡ 8
 places-count r = parts-length 17 8 (drop 8 r)
+
+pub boxes-count : (l : List ℕ) → length (boxesOf l) ≡ 16
+boxes-count l = parts-length 2 16 (drop 4608 l)
+
+pub shelf-count : (l : List ℕ) → length (shelfOf l) ≡ 32
+shelf-count l = parts-length 17 32 (drop 4640 l)
 
 -- A VALUE OUT OF ITS PLACE
 pub place-short : (v : List ℕ) → fitsPlace v ≡ true → getD v 0 0 ≤ 16
@@ -66,11 +72,15 @@ output-read r o e a b c t v = record { view = rw (eq-eqb (getD r 0 0) 1 e, first
 
 -- THE ARRAY TEST: a row's, by its kind
 pub place-word : (r : List ℕ) (k : ℕ) → k < 8 → getD (getD (placesOf r) k []) 0 0 ≡ getD r (8 + 17 * k) 0
-place-word r k h = parts-word 17 8 (drop 8 r) k 0 h (omega arith) ∙ getD-drop 8 r (17 * k + 0) 0 ∙ ap (λ (n : ℕ). getD r (8 + n) 0) (add-zero (17 * k))
+place-word r k h = first-behind 17 8 8 r k h (omega arith)
 
 pub place-fits : (r : List ℕ) (k : ℕ) (b : Bool) → k < 8 → leb (getD r (8 + 17 * k) 0) 16 ≡ b → fitsPlace (getD (placesOf r) k []) ≡ b
 unfolding fitsPlace
 place-fits r k b h e = rw (place-word r k h) e
+
+pub shelf-fits : (l : List ℕ) (k : ℕ) (b : Bool) → k < 32 → leb (getD l (4640 + 17 * k) 0) 16 ≡ b → fitsPlace (getD (shelfOf l) k []) ≡ b
+unfolding fitsPlace
+shelf-fits l k b h e = rw (first-behind 17 32 4640 l k h (omega arith)) e
 
 pub row-fits-output : (r : List ℕ) → getD r 0 0 ≡ 1 → leb (getD r 8 0) 16 ≡ fitsRow r
 unfolding fitsRow

@@ -9,16 +9,16 @@ use native.Mathlib.Omega.{arith}
 use borrow.Author.Tests.{lt-ltb, le-ltb, le-leb, lt-leb}
 use lib.Dec.{eqb}
 use lib.ListN.{length, take, drop, getD, set, length-append, take-append-drop}
-use lib.Seq.{sets, take-suc, take-all, drop-drop}
+use lib.Seq.{sets, take-suc, take-all, drop-drop, getD-take, getD-drop}
 use Rattle.model.specs.Basics.{every}
-use Rattle.model.specs.Values.{Env, lookup, value, substitute}
+use Rattle.model.specs.Values.{Env, lookup, value, word, substitute}
 use Rattle.values.specs.Env.{standsFor}
 use Rattle.sides.proofs.Lists.{every-at}
 use Rattle.rows.specs.Layout.{placesOf, viewPlace, fitsPlace}
 use Rattle.rows.specs.Stored.{placed}
 use Rattle.rows.specs.Environments.{envOf, lastOf, slotValue}
 use Rattle.rows.proofs.Sets.{sets-append, set-sets}
-use Rattle.rows.proofs.Parts.{part-of-part, parts-at}
+use Rattle.rows.proofs.Parts.{part-of-part, parts-at, word-behind}
 use Rattle.rows.proofs.Reading.{places-count, place-word, place-short}
 
 -- one name more
@@ -56,6 +56,29 @@ module _ (e : List ℕ) (n w : ℕ) (long : length e ≡ 144) (h : n ≤ 8) wher
   -- the word itself, where no slot has it
   pub slot-none : (k : ℕ) → k ≡ lastOf e n w n → n ≤ k → value (envOf e n) w ≡ w ∷ []
   slot-none k p m = slot-says k p ∙ slot-out e n w k m
+
+  -- the first word of what it stands for
+  module _ (k : ℕ) (p : k ≡ lastOf e n w n) where
+    pub word-none : n ≤ k → w ≡ word (envOf e n) w
+    word-none m = sym (ap (λ (x : List ℕ). getD x 0 0) (slot-none k p m))
+
+    slot-word : (x : ℕ) → k < n → getD (viewPlace (getD (placesOf e) k [])) 0 0 ≡ x → x ≡ word (envOf e n) w
+    slot-word x m q = sym (ap (λ (y : List ℕ). getD y 0 0) (slot-says k p ∙ slot-in e n w k m) ∙ q)
+
+    pub word-empty : k < n → getD e (8 + 17 * k) 0 ≡ 0 → 0 ≡ word (envOf e n) w
+    unfolding viewPlace
+    word-empty m z =
+        let v : List ℕ = getD (placesOf e) k [] in
+        let k8 : k < 8 = omega arith in
+        slot-word 0 m (ap (λ (c : ℕ). getD (take c (drop 1 v)) 0 0) (place-word e k k8 ∙ z))
+
+    pub word-first : k < n → (getD e (8 + 17 * k) 0 ≡ 0 → ⊥) → getD e (8 + 17 * k + 1) 0 ≡ word (envOf e n) w
+    unfolding viewPlace
+    word-first m z =
+        let v : List ℕ = getD (placesOf e) k [] in
+        let k8 : k < 8 = omega arith in
+        let some : 0 < getD v 0 0 = omega (arith, place-word e k k8, z) in
+        slot-word (getD e (8 + 17 * k + 1) 0) m (getD-take (getD v 0 0) (drop 1 v) 0 0 some ∙ getD-drop 1 v 0 0 ∙ word-behind 17 8 8 e k 1 k8 (omega arith))
 
   module _ (f : every fitsPlace (take n (placesOf e)) ≡ true) (k : ℕ) (m : k < n) where
     pub slot-size : getD e (8 + 17 * k) 0 ≤ 16

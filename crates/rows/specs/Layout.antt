@@ -1,5 +1,6 @@
--- A side's particles as words: 32 rows of 144. A row's words: 0 is 1 for an output; 1 box, 2 channel, 3 and 4 tag, 5 node,
--- 6 how many values, 7 unused; from 8 on eight places for values, 17 words each: a length, then at most 16 words.
+-- A side's words, 5,184: its particles, 32 rows of 144; from 4,608 on its boxes, 16 of two words, a name and a parent; from 4,640
+-- on its shelf, 32 places for values. A row's words: 0 is 1 for an output; 1 box, 2 channel, 3 and 4 tag, 5 node, 6 how many
+-- values, 7 unused; from 8 on eight places for values. A place has 17 words: a length, then at most 16 words.
 use mathlib.Core.Path.{_≡_}
 use mathlib.Core.Bool.{Bool, cond}
 use mathlib.Core.List.{List, [], _∷_, map}
@@ -7,7 +8,7 @@ use Prim.Native.Nat.{ℕ, zero, suc, _^_, _<_, _≤_}
 use lib.Dec.{leb, eqb}
 use lib.ListN.{getD, take, drop}
 use Rattle.model.specs.Basics.{_&_, every}
-use Rattle.model.specs.Side.{Tag, within, toParent, fromParent, toChild, fromChild, Particle, output, input}
+use Rattle.model.specs.Side.{Tag, within, toParent, fromParent, toChild, fromChild, Particle, output, input, Box}
 use Rattle.values.specs.Env.{viewValue}
 use Rattle.values.specs.declared.Value.{Value}
 use Rattle.sides.specs.Views.{viewTag}
@@ -59,6 +60,30 @@ viewRows l n = map viewRow (take n (rowsOf l))
 -- the number of particles and each held row are within their arrays
 abbrev pub fitsRows : List ℕ → ℕ → Bool
 fitsRows l n = leb n 32 & every fitsRow (take n (rowsOf l))
+
+-- the 16 boxes of a side
+abbrev pub boxesOf : List ℕ → List (List ℕ)
+boxesOf l = parts 2 16 (drop 4608 l)
+
+-- the words of a box
+abbrev pub viewBox : List ℕ → Box
+viewBox b = record { name = getD b 0 0; parent = getD b 1 0 }
+
+-- the first n boxes
+abbrev pub viewBoxes : List ℕ → ℕ → List Box
+viewBoxes l n = map viewBox (take n (boxesOf l))
+
+-- the 32 places of a side's shelf
+abbrev pub shelfOf : List ℕ → List (List ℕ)
+shelfOf l = parts 17 32 (drop 4640 l)
+
+-- the values in the first n of them
+abbrev pub viewShelf : List ℕ → ℕ → List (List ℕ)
+viewShelf l n = map viewPlace (take n (shelfOf l))
+
+-- the number of values on the shelf and each held one's length are within their arrays
+abbrev pub fitsShelf : List ℕ → ℕ → Bool
+fitsShelf l n = leb n 32 & every fitsPlace (take n (shelfOf l))
 
 -- an output struct as a particle
 abbrev pub viewOutput : Output → Particle

@@ -1,3 +1,4 @@
 pub mod Layout
 pub mod Stored
 pub mod Environments
+pub mod Sides

@@ -33,8 +33,12 @@ unfoldable pub headPut : List ℕ → (a box channel : ℕ) → Tag → List ℕ
 headPut l a box channel t = sets l a (1 ∷ box ∷ channel ∷ kindOf t ∷ nameOf t ∷ [])
 
 -- an output in the row at a: those words, and its value in the first place
+unfoldable pub sentPut : List ℕ → (a box channel : ℕ) → Tag → List ℕ → List ℕ
+sentPut l a box channel t x = placed (headPut l a box channel t) (a + 8) x
+
+-- an output struct in the row at a
 unfoldable pub outputPut : List ℕ → (a : ℕ) → Output → List ℕ
-outputPut l a o = placed (headPut l a (o .at) (o .channel) (o .tag)) (a + 8) (viewValue (o .value))
+outputPut l a o = sentPut l a (o .at) (o .channel) (o .tag) (viewValue (o .value))
 
 -- the first n values of the row, or the environment, r in the places of the row at a
 unfoldable pub valuesPut : List ℕ → (a : ℕ) → List ℕ → (n : ℕ) → List ℕ
@@ -47,3 +51,11 @@ inputPut l a box node e n = valuesPut (sets (sets l a (0 ∷ box ∷ [])) (a + 5
 -- row i of n gone: the words of the rows above it, stored a row further down
 unfoldable pub rowGone : List ℕ → (i n : ℕ) → List ℕ
 rowGone l i n = sets l (144 * i) (take (144 * (n - 1 - i)) (drop (144 * i + 144) l))
+
+-- box j: its name and its parent
+unfoldable pub boxPut : List ℕ → (j name parent : ℕ) → List ℕ
+boxPut l j name parent = sets l (4608 + 2 * j) (name ∷ parent ∷ [])
+
+-- a value in place i of the shelf
+unfoldable pub shelfPut : List ℕ → (i : ℕ) → List ℕ → List ℕ
+shelfPut l i x = placed l (4640 + 17 * i) x

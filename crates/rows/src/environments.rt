@@ -1,17 +1,22 @@
 // An environment in 144 lent words: eight names, then the places for their values. Values substituted straight into their places.
 ghost use mathlib.Core.Path.{_≡_};
 ghost use mathlib.Core.Bool.{true};
-ghost use Prim.Native.Nat.{_+_, _≤_};
+ghost use mathlib.Core.List.{[], _∷_};
+ghost use Prim.Native.Nat.{_+_, _<_, _≤_};
 ghost use lib.ListN.{length, take};
 ghost use lib.Seq.{sets};
 ghost use Rattle.model.specs.Basics.{every};
-ghost use Rattle.model.specs.Values.{value, substitute};
+ghost use Rattle.model.specs.Values.{value, word, substitute};
+ghost use Rattle.model.specs.Unfolding.{tagOf};
+ghost use Rattle.sides.specs.Views.{viewTag};
 ghost use Rattle.rows.specs.Layout.{placesOf, fitsPlace};
 ghost use Rattle.rows.specs.Stored.{placed};
-ghost use Rattle.rows.specs.Environments.{envOf, lastOf};
+ghost use Rattle.rows.specs.Environments.{envOf, lastOf, bound};
 use crate::Rows;
 use crate::places::append_words;
+use crate::places::put_words;
 use crate::places::wide;
+use sides::Tag;
 
 // The last of the n names that is w; n where there is none.
 pub fn slot_of(e: &[u32], n: usize, w: u32) -> usize
@@ -27,6 +32,58 @@ pub fn slot_of(e: &[u32], n: usize, w: u32) -> usize
         k = j;
     }
     n
+}
+
+// The first word of what the name w stands for.
+pub fn word_in(e: &[u32], n: usize, w: u32) -> u32
+    requires { ⌜ (length (now e) ≡ 144) × (n ≤ 8) ⌝ }
+    ensures { λ r. ⌜ r ≡ word (envOf (now (e .entry)) n) w ⌝ }
+{
+    let k = slot_of(e, n, w);
+    if k < n {
+        let a = Rows::HEAD + Rows::PLACE * k;
+        if e[a] == 0 {
+            return 0;
+        }
+        return e[a + 1];
+    }
+    w
+}
+
+// The tag of a tag word.
+pub fn tag_in(e: &[u32], n: usize, g: u32) -> Tag
+    requires { ⌜ (length (now e) ≡ 144) × (n ≤ 8) ⌝ }
+    ensures { λ r. ⌜ viewTag r ≡ tagOf (envOf (now (e .entry)) n) g ⌝ }
+{
+    if g == 0 {
+        return Tag::Within;
+    }
+    if g == 1 {
+        return Tag::ToParent;
+    }
+    Tag::ToChild(word_in(e, n, g - 2))
+}
+
+// Name n, and its value: one word.
+pub fn bind_name(e: &mut [u32], n: usize, name: u32, w: u32)
+    requires { ⌜ (length (now e) ≡ 144) × (n < 8) ⌝ }
+    ensures { λ _. ⌜ now (e .exit) ≡ bound (now (e .entry)) n name (w ∷ []) ⌝ }
+{
+    let a = Rows::HEAD + Rows::PLACE * n;
+    e[n] = name;
+    e[a] = 1;
+    e[a + 1] = w;
+}
+
+// Name n, and its value: the words s.
+pub fn bind_words(e: &mut [u32], n: usize, name: u32, s: &[u32])
+    requires { ⌜ (length (now e) ≡ 144) × (n < 8) × (length (now s) ≤ 16) ⌝ }
+    ensures { λ _. ⌜ now (e .exit) ≡ bound (now (e .entry)) n name (now (s .entry)) ⌝ }
+{
+    let a = Rows::HEAD + Rows::PLACE * n;
+    let z = a + Rows::PLACE;
+    e[n] = name;
+    put_words(&mut e[a..z], s);
 }
 
 // What the name w stands for behind the m words of a place, and how many there are then.

@@ -9,8 +9,16 @@ impl Rows {
     // The rows of a side.
     pub const COUNT: usize = 32;
 
-    // The words of a side.
-    pub const WORDS: usize = 4608;
+    // The words of a side: its rows, its boxes, its shelf.
+    pub const WORDS: usize = 5184;
+
+    // Where its boxes begin, and the words of a box.
+    pub const BOXES: usize = 4608;
+
+    pub const BOX: usize = 2;
+
+    // Where its shelf begins.
+    pub const SHELF: usize = 4640;
 
     // The words of a row before its places for values; an environment has its names there.
     pub const HEAD: usize = 8;

@@ -1,26 +1,41 @@
-// The particles of a side as rows of words in lent memory, and an environment in the words of one row (specs/Layout.antt).
+// A side's words in lent memory: its particles as rows, its boxes, its shelf; and an environment in the words of one row
+// (specs/Layout.antt). The rest of a side goes by value.
+use sides::Lobby;
 use sides::Tag;
 use values::Value;
 
+mod boxes;
 mod environments;
 mod inputs;
 mod layout;
 mod list;
 mod outputs;
 mod places;
+mod shelf;
 mod tags;
 
+pub use boxes::box_name;
+pub use boxes::box_parent;
+pub use boxes::put_box;
+pub use environments::bind_name;
+pub use environments::bind_words;
 pub use environments::put_substituted;
 pub use environments::slot_of;
+pub use environments::tag_in;
+pub use environments::word_in;
 pub use list::add_output;
 pub use list::output_at;
 pub use list::put_input;
 pub use list::put_output;
+pub use list::put_sent;
 pub use list::remove_row;
 pub use list::rows_fit;
 pub use list::take_values;
 pub use list::value_at;
 pub use list::word_at;
+pub use shelf::put_shelf;
+pub use shelf::shelf_fits;
+pub use shelf::shelf_value;
 
 // The sizes of the layout: layout.rt.
 pub struct Rows;
@@ -34,4 +49,15 @@ pub struct Output {
     pub channel: u32,
     pub tag: Tag,
     pub value: Value,
+}
+
+// A side but for its words: how many particles, boxes and shelf values it has, how many names it has minted, its lobby, and which
+// shelf places it has taken.
+pub struct Rest {
+    pub particles: usize,
+    pub boxes: usize,
+    pub shelved: usize,
+    pub minted: usize,
+    pub lobby: Lobby,
+    pub taken: [bool; 64],
 }

@@ -3,23 +3,29 @@ ghost use mathlib.Core.Path.{_≡_};
 ghost use mathlib.Core.Bool.{true};
 ghost use mathlib.Core.List.{[]};
 ghost use Prim.Native.Nat.{_+_, _-_, _*_, _^_, _<_, _≤_};
-ghost use lib.ListN.{length, getD};
+ghost use lib.ListN.{length, take, getD};
+ghost use Rattle.model.specs.Basics.{every};
+ghost use Rattle.model.specs.Values.{substitute};
 ghost use Rattle.rows.specs.Layout.{rowAt, placesOf, viewPlace, fitsPlace, viewRow, fitsRow, fitsRows, ValueIs, OutputIs};
-ghost use Rattle.rows.specs.Stored.{outputPut, inputPut, valuesPut, rowGone};
+ghost use Rattle.rows.specs.Stored.{outputPut, sentPut, inputPut, valuesPut, rowGone};
+ghost use Rattle.rows.specs.Environments.{envOf};
 use crate::Output;
 use crate::Row;
 use crate::Rows;
+use crate::environments::put_substituted;
 use crate::inputs::copy_values;
 use crate::inputs::write_input;
 use crate::outputs::output_in;
+use crate::outputs::put_head;
 use crate::outputs::write_output;
 use crate::places::value_in;
 use crate::places::wide;
+use sides::Tag;
 use values::Value;
 
 // Word k of row i.
 pub fn word_at(rows: &[u32], i: usize, k: usize) -> u32
-    requires { ⌜ (length (now rows) ≡ 4608) × (i < 32) × (k < 144) ⌝ }
+    requires { ⌜ (length (now rows) ≡ 5184) × (i < 32) × (k < 144) ⌝ }
     ensures { λ r. ⌜ r ≡ getD (rowAt (now (rows .entry)) i) k 0 ⌝ }
 {
     rows[Rows::WIDTH * i + k]
@@ -27,7 +33,7 @@ pub fn word_at(rows: &[u32], i: usize, k: usize) -> u32
 
 // The output at row i.
 pub fn output_at(rows: &[u32], i: usize) -> Output
-    requires { ⌜ (length (now rows) ≡ 4608) × (i < 32) × (fitsRow (rowAt (now rows) i) ≡ true) × (getD (rowAt (now rows) i) 0 0 ≡ 1) ⌝ }
+    requires { ⌜ (length (now rows) ≡ 5184) × (i < 32) × (fitsRow (rowAt (now rows) i) ≡ true) × (getD (rowAt (now rows) i) 0 0 ≡ 1) ⌝ }
     ensures { λ o. ⌜ OutputIs (viewRow (rowAt (now (rows .entry)) i)) o ⌝ }
 {
     let a = Rows::WIDTH * i;
@@ -37,7 +43,7 @@ pub fn output_at(rows: &[u32], i: usize) -> Output
 
 // Value k of the waiting input at row i.
 pub fn value_at(rows: &[u32], i: usize, k: usize) -> Value
-    requires { ⌜ (length (now rows) ≡ 4608) × (i < 32) × (k < 8) × (fitsPlace (getD (placesOf (rowAt (now rows) i)) k []) ≡ true) ⌝ }
+    requires { ⌜ (length (now rows) ≡ 5184) × (i < 32) × (k < 8) × (fitsPlace (getD (placesOf (rowAt (now rows) i)) k []) ≡ true) ⌝ }
     ensures { λ r. ⌜ ValueIs (viewPlace (getD (placesOf (rowAt (now (rows .entry)) i)) k [])) r ⌝ }
 {
     let a = Rows::WIDTH * i + Rows::HEAD + Rows::PLACE * k;
@@ -47,7 +53,7 @@ pub fn value_at(rows: &[u32], i: usize, k: usize) -> Value
 
 // An output at row i.
 pub fn put_output(rows: &mut [u32], i: usize, o: Output)
-    requires { ⌜ (length (now rows) ≡ 4608) × (i < 32) × (o .at < 2 ^ 32) × (o .value .len ≤ 16) ⌝ }
+    requires { ⌜ (length (now rows) ≡ 5184) × (i < 32) × (o .at < 2 ^ 32) × (o .value .len ≤ 16) ⌝ }
     ensures { λ _. ⌜ now (rows .exit) ≡ outputPut (now (rows .entry)) (144 * i) o ⌝ }
 {
     let a = Rows::WIDTH * i;
@@ -55,9 +61,30 @@ pub fn put_output(rows: &mut [u32], i: usize, o: Output)
     write_output(&mut rows[a..e], o);
 }
 
+// An output at row i, its value a table's with its bound names replaced. The caller has seen that it has at most 16 words then.
+pub fn put_sent(
+    rows: &mut [u32],
+    i: usize,
+    at: usize,
+    channel: u32,
+    tag: Tag,
+    e: &[u32],
+    n: usize,
+    s: &[u32],
+)
+    requires { ⌜ (length (now rows) ≡ 5184) × (i < 32) × (at < 2 ^ 32) × (length (now e) ≡ 144) × (n ≤ 8) × (every fitsPlace (take n (placesOf (now e))) ≡ true) × (length (substitute (envOf (now e) n) (now s)) ≤ 16) ⌝ }
+    ensures { λ _. ⌜ now (rows .exit) ≡ sentPut (now (rows .entry)) (144 * i) at channel tag (substitute (envOf (now (e .entry)) n) (now (s .entry))) ⌝ }
+{
+    let a = Rows::WIDTH * i;
+    let b = a + Rows::HEAD;
+    let z = b + Rows::PLACE;
+    put_head(&mut rows[a..b], at, channel, tag);
+    put_substituted(&mut rows[b..z], e, n, s);
+}
+
 // An output behind the n rows that are held, and how many are held then.
 pub fn add_output(rows: &mut [u32], n: usize, o: Output) -> usize
-    requires { ⌜ (length (now rows) ≡ 4608) × (n < 32) × (o .at < 2 ^ 32) × (o .value .len ≤ 16) ⌝ }
+    requires { ⌜ (length (now rows) ≡ 5184) × (n < 32) × (o .at < 2 ^ 32) × (o .value .len ≤ 16) ⌝ }
     ensures { λ r. ⌜ (r ≡ n + 1) × (now (rows .exit) ≡ outputPut (now (rows .entry)) (144 * n) o) ⌝ }
 {
     put_output(rows, n, o);
@@ -66,7 +93,7 @@ pub fn add_output(rows: &mut [u32], n: usize, o: Output) -> usize
 
 // Row i of n goes, those above it move down a row. How many are held then.
 pub fn remove_row(rows: &mut [u32], i: usize, n: usize) -> usize
-    requires { ⌜ (length (now rows) ≡ 4608) × (i < n) × (n ≤ 32) ⌝ }
+    requires { ⌜ (length (now rows) ≡ 5184) × (i < n) × (n ≤ 32) ⌝ }
     ensures { λ r. ⌜ (r ≡ n - 1) × (now (rows .exit) ≡ rowGone (now (rows .entry)) i n) ⌝ }
 {
     let a = Rows::WIDTH * i;
@@ -81,7 +108,7 @@ pub fn remove_row(rows: &mut [u32], i: usize, n: usize) -> usize
 
 // A waiting input at row i, with the first n values of the environment e.
 pub fn put_input(rows: &mut [u32], i: usize, at: usize, node: usize, e: &[u32], n: usize)
-    requires { ⌜ (length (now rows) ≡ 4608) × (i < 32) × (at < 2 ^ 32) × (node < 2 ^ 32) × (length (now e) ≡ 144) × (n ≤ 8) ⌝ }
+    requires { ⌜ (length (now rows) ≡ 5184) × (i < 32) × (at < 2 ^ 32) × (node < 2 ^ 32) × (length (now e) ≡ 144) × (n ≤ 8) ⌝ }
     ensures { λ _. ⌜ now (rows .exit) ≡ inputPut (now (rows .entry)) (144 * i) at node (now (e .entry)) n ⌝ }
 {
     let a = Rows::WIDTH * i;
@@ -91,7 +118,7 @@ pub fn put_input(rows: &mut [u32], i: usize, at: usize, node: usize, e: &[u32], 
 
 // The first n values of row i into the environment e.
 pub fn take_values(e: &mut [u32], rows: &[u32], i: usize, n: usize)
-    requires { ⌜ (length (now e) ≡ 144) × (length (now rows) ≡ 4608) × (i < 32) × (n ≤ 8) ⌝ }
+    requires { ⌜ (length (now e) ≡ 144) × (length (now rows) ≡ 5184) × (i < 32) × (n ≤ 8) ⌝ }
     ensures { λ _. ⌜ now (e .exit) ≡ valuesPut (now (e .entry)) 0 (rowAt (now (rows .entry)) i) n ⌝ }
 {
     let a = Rows::WIDTH * i;
@@ -124,7 +151,7 @@ fn row_fits(r: &[u32]) -> bool
 
 // The array test: at most 32 rows are held, and each one's counts are within their places.
 pub fn rows_fit(rows: &[u32], n: usize) -> bool
-    requires { ⌜ length (now rows) ≡ 4608 ⌝ }
+    requires { ⌜ length (now rows) ≡ 5184 ⌝ }
     ensures { λ b. ⌜ b ≡ fitsRows (now (rows .entry)) n ⌝ }
 {
     if Rows::COUNT < n {

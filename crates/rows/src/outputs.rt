@@ -4,7 +4,7 @@ ghost use mathlib.Core.Bool.{true};
 ghost use Prim.Native.Nat.{_^_, _<_, _≤_};
 ghost use lib.ListN.{length, getD};
 ghost use Rattle.rows.specs.Layout.{viewRow, fitsRow, OutputIs};
-ghost use Rattle.rows.specs.Stored.{outputPut};
+ghost use Rattle.rows.specs.Stored.{headPut, outputPut};
 use crate::Output;
 use crate::Row;
 use crate::Rows;
@@ -14,6 +14,7 @@ use crate::places::wide;
 use crate::tags::tag_kind;
 use crate::tags::tag_name;
 use crate::tags::tag_of;
+use sides::Tag;
 
 // The output that a row holds.
 pub(crate) fn output_in(r: &[u32]) -> Output
@@ -29,6 +30,18 @@ pub(crate) fn output_in(r: &[u32]) -> Output
         tag,
         value,
     }
+}
+
+// The first words of an output.
+pub(crate) fn put_head(r: &mut [u32], at: usize, channel: u32, tag: Tag)
+    requires { ⌜ (length (now r) ≡ 8) × (at < 2 ^ 32) ⌝ }
+    ensures { λ _. ⌜ now (r .exit) ≡ headPut (now (r .entry)) 0 at channel tag ⌝ }
+{
+    r[Row::OUTPUT] = 1;
+    r[Row::BOX] = at as u32;
+    r[Row::CHANNEL] = channel;
+    r[Row::TAG] = tag_kind(tag);
+    r[Row::CHILD] = tag_name(tag);
 }
 
 // An output into a row: the words that an output does not use stay.

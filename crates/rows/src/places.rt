@@ -40,6 +40,15 @@ pub(crate) fn put_value(v: &mut [u32], x: Value)
     }
 }
 
+// The words s into a place: the words behind them stay.
+pub(crate) fn put_words(v: &mut [u32], s: &[u32])
+    requires { ⌜ (length (now v) ≡ 17) × (length (now s) ≤ 16) ⌝ }
+    ensures { λ _. ⌜ now (v .exit) ≡ placed (now (v .entry)) 0 (now (s .entry)) ⌝ }
+{
+    let n = append_words(v, 0, s);
+    v[0] = n as u32;
+}
+
 // The words s behind the m words of a place, and how many there are then. The length is not written.
 pub(crate) fn append_words(v: &mut [u32], m: usize, s: &[u32]) -> usize
     requires { ⌜ (length (now v) ≡ 17) × (m + length (now s) ≤ 16) ⌝ }

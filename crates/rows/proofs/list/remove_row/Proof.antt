@@ -9,7 +9,7 @@ use Rattle.rows.proofs.list.remove_row.Statement.{statement}
 use Rattle.rows.proofs.list.remove_row.Tie as tie
 
 abbrev Inv-loop : tie.InvT-loop
-Inv-loop rows₀ i n a m k₀ rows k = (k ≤ m) × (length rows ≡ 4608) × (rows ≡ sets rows₀ (144 * i) (take k (drop (144 * i + 144) rows₀)))
+Inv-loop rows₀ i n a m k₀ rows k = (k ≤ m) × (length rows ≡ 5184) × (rows ≡ sets rows₀ (144 * i) (take k (drop (144 * i + 144) rows₀)))
 
 abbrev μ-loop : tie.MeasureT-loop
 μ-loop rows₀ i n a m k₀ rows k = m - k
