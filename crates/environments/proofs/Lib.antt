@@ -2,3 +2,4 @@ pub mod Slots
 pub mod Sizes
 pub mod LongWalk
 pub mod Marks
+pub mod Waiting

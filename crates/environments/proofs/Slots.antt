@@ -14,7 +14,7 @@ use Rattle.model.proofs.Environments.{Sized}
 use Rattle.values.specs.Env.{tupleOf}
 use Rattle.rows.specs.Layout.{placesOf, viewPlace, fitsPlace}
 use Rattle.rows.specs.Environments.{envOf, lastOf, slotValue}
-use Rattle.rows.proofs.Parts.{parts-word, part-length}
+use Rattle.rows.proofs.Parts.{word-behind, part-length}
 use Rattle.rows.proofs.Reading.{places-count, place-word}
 use Rattle.rows.proofs.Substituting.{slot-says, slot-size}
 use Rattle.environments.specs.Fits.{Fits}
@@ -43,8 +43,7 @@ module _ (e : List ℕ) (k : ℕ) (h : k < 8) where
   tuple-some z =
       let v : List ℕ = getD (placesOf e) k [] in
       let s : getD v 0 0 ≡ getD e (8 + 17 * k) 0 = place-word e k h in
-      let at : 8 + (17 * k + 1) ≡ 8 + 17 * k + 1 = omega arith in
-      let first : getD v 1 0 ≡ getD e (8 + 17 * k + 1) 0 = parts-word 17 8 (drop 8 e) k 1 h (omega arith) ∙ getD-drop 8 e (17 * k + 1) 0 ∙ ap (λ (j : ℕ). getD e j 0) at in
+      let first : getD v 1 0 ≡ getD e (8 + 17 * k + 1) 0 = word-behind 17 8 8 e k 1 h (omega arith) in
       let some : 0 < getD v 0 0 = omega arith in
       let word : getD (take (getD v 0 0) (drop 1 v)) 0 0 ≡ getD e (8 + 17 * k + 1) 0 = getD-take (getD v 0 0) (drop 1 v) 0 0 some ∙ getD-drop 1 v 0 0 ∙ first in
       not-below 4000000 (getD e (8 + 17 * k + 1) 0) ∙ ap (λ (w : ℕ). not (ltb w 4000000)) (sym word)

@@ -2,9 +2,11 @@
 ghost use mathlib.Core.Path.{_≡_};
 
 mod defined;
+mod inputs;
 mod long;
 
 pub use defined::defined_at;
+pub use inputs::input_env;
 pub use long::too_long;
 
 // A word as a number of places.

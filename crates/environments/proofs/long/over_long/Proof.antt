@@ -27,7 +27,8 @@ loop-again : tie.Need-loop-again Inv-loop μ-loop
 loop-again c =
     let a = c .before .before .before .before .before .before .args in
     let l = c .before .before .before .before .loop in
-    (search needs, omega (arith, c .if1 .left, l .inv .1), size-next (a .t .of) (a .s .now) (l .i) (l .n) _ (c .before .before .before .loop-test .taken) (l .inv .2) (c .before .size-for .ensures))
+    let sum = size-next (a .t .of) (a .s .now) (l .i) (l .n) _ (c .before .before .before .loop-test .taken) (l .inv .2) (c .before .size-for .ensures) in
+    (search needs, omega (arith, c .if1 .left, l .inv .1), sum)
 
 returns-2 : tie.Need-returns-2 Inv-loop μ-loop
 returns-2 c =

@@ -20,7 +20,9 @@ loop-holds c =
     (search needs, search needs, ones)
 
 cast-m : tie.Need-cast-m Inv-loop μ-loop
-cast-m c = let a = c .before .before .before .before .args in omega (arith, size-short (a .e .now) (a .n) (c .before .before .before .before .pre) (c .before .before .loop .k) (c .before .loop-test .taken))
+cast-m c =
+    let x = c .before .before .before .before in
+    omega (arith, size-short (x .args .e .now) (x .args .n) (x .pre) (c .before .before .loop .k) (c .before .loop-test .taken))
 
 loop-again : tie.Need-loop-again Inv-loop μ-loop
 loop-again c =
