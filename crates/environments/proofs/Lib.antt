@@ -3,3 +3,5 @@ pub mod Sizes
 pub mod LongWalk
 pub mod Marks
 pub mod Waiting
+pub mod Patterns
+pub mod Bindings

@@ -2,12 +2,12 @@
 use mathlib.Core.Path.{_≡_, refl, sym, ap, ap₂, _∙_}
 use mathlib.Core.Bool.{Bool, true, false, cond}
 use mathlib.Core.List.{List, [], _∷_, _++_}
-use Prim.Native.Nat.{ℕ, zero, suc, _+_, _-_, _<_, _≤_}
+use Prim.Native.Nat.{ℕ, _+_, _<_, _≤_}
 use native.Mathlib.Nat.{add-assoc, zero-add, add-zero}
 use native.Mathlib.Numerals.{add-one}
 use native.Mathlib.Omega.{arith}
 use borrow.Author.Tests.{lt-ltb, le-ltb, le-leb, lt-leb, leb-true, eqb-true, eqb-false}
-use lib.Dec.{leb, ltb, eqb}
+use lib.Dec.{ltb, eqb}
 use lib.ListN.{length, getD, set, take, drop, length-set, length-append, take-append-drop}
 use lib.Seq.{take-suc, take-all, getD-set-same, getD-set-other}
 use Rattle.model.specs.Basics.{_or_}
@@ -49,7 +49,7 @@ module _ (ts s : List ℕ) (i n m : ℕ) (h : i < length s) (p : n ≡ sizeBy ts
   -- the sum only grows
   pub size-over : 16 < n + m → true ≡ ltb 16 (sizeBy ts s)
   size-over lt =
-      let all : sizeBy ts s ≡ sizeBy ts (take (i + 1) s) + sizeBy ts (drop (i + 1) s) = ap (sizeBy ts) (sym (take-append-drop (i + 1) s)) ∙ size-append ts (take (i + 1) s) (drop (i + 1) s) in
+      let all = ap (sizeBy ts) (sym (take-append-drop (i + 1) s)) ∙ size-append ts (take (i + 1) s) (drop (i + 1) s) in
       sym (lt-ltb 16 (sizeBy ts s) (omega (arith, all, size-next)))
 
 pub size-all : (ts s : List ℕ) (i n : ℕ) → length s ≤ i → n ≡ sizeBy ts (take i s) → n ≤ 16 → false ≡ ltb 16 (sizeBy ts s)

@@ -1,7 +1,7 @@
 -- The places of an environment by their words, and a list over the names of a table, 0 to 63, filled from an environment's slots.
 use mathlib.Core.Path.{_≡_, refl, sym, ap, _∙_}
 use mathlib.Core.Bool.{Bool, true, false, not, cond}
-use mathlib.Core.List.{List, [], _∷_, map}
+use mathlib.Core.List.{List, [], _∷_}
 use Prim.Native.Nat.{ℕ, _+_, _*_, _<_, _≤_}
 use native.Mathlib.Numerals.{add-one}
 use native.Mathlib.Omega.{arith}
@@ -12,7 +12,7 @@ use lib.Seq.{length-take-le, getD-take, getD-drop, getD-set-same, getD-set-other
 use Rattle.model.specs.Values.{value}
 use Rattle.model.proofs.Environments.{Sized}
 use Rattle.values.specs.Env.{tupleOf}
-use Rattle.rows.specs.Layout.{placesOf, viewPlace, fitsPlace}
+use Rattle.rows.specs.Layout.{placesOf, viewPlace}
 use Rattle.rows.specs.Environments.{envOf, lastOf, slotValue}
 use Rattle.rows.proofs.Parts.{word-behind, part-length}
 use Rattle.rows.proofs.Reading.{places-count, place-word}

@@ -1,10 +1,10 @@
 -- The environment of a waiting input: how its words come about, and what they are.
-use mathlib.Core.Path.{_≡_, refl, sym, ap, ap₂, _∙_}
+use mathlib.Core.Path.{_≡_, sym, ap, ap₂, _∙_}
 use mathlib.Core.List.{List, map}
-use Prim.Native.Nat.{ℕ, _+_, _-_, _*_, _<_, _≤_}
+use Prim.Native.Nat.{ℕ, _+_, _-_, _<_, _≤_}
 use native.Mathlib.Nat.{zero-add}
 use native.Mathlib.Omega.{arith}
-use lib.ListN.{length, take, drop, getD, set, length-drop, length-map, length-take}
+use lib.ListN.{length, take, drop, getD, set, length-drop, length-map}
 use lib.Seq.{sets, length-sets, length-take-le, take-all}
 use Rattle.model.specs.Values.{Env}
 use Rattle.model.specs.Table.{Table, scope}
