@@ -9,7 +9,7 @@ use native.Mathlib.Omega.{arith}
 use borrow.Author.Tests.{leb-true}
 use lib.ListN.{length, getD, take, drop, length-append, length-map, length-take, length-drop, drop-of-length-le}
 use lib.Seq.{take-nil, take-suc, take-all, length-take-le}
-use Rattle.model.specs.Basics.{done, every}
+use Rattle.model.specs.Basics.{refuse, done, every}
 use Rattle.model.specs.Values.{Env, Fit, extend, binders, matches}
 use Rattle.model.proofs.Tests.{fst, snd}
 use Rattle.values.specs.declared.Part.{Part}
@@ -27,7 +27,7 @@ use Rattle.rows.proofs.Binding.{bound-length, env-bound, fits-bound}
 use Rattle.environments.specs.declared.matching.Binding.{Binding}
 use Rattle.environments.specs.Fits.{Fits}
 use Rattle.environments.specs.Matching.{patternAt, boundAll, Bindable, Matchable, namesAfter, wordsAfter, BindingIs}
-use Rattle.environments.proofs.Patterns.{isShort, pattern-binds}
+use Rattle.environments.proofs.Patterns.{isShort, pattern-binds, match-no, match-yes}
 
 -- A PART OF A VALUE, by the way that the code goes
 module _ (v : List ℕ) (p : Part) where
@@ -168,12 +168,24 @@ module _ (pool : List ℕ) (place : ℕ) (e : List ℕ) (n : ℕ) (v : Value) (g
     unfolding namesAfter wordsAfter
     binding-no y = let no = matched-no p x m f′ y in record { fits = rw no; count = rw no; words = rw no }
 
-  -- for a caller: where the pattern takes the value, the environment is extended by what it binds
-  pub binding-env : (e′ : List ℕ) (r : Binding) → BindingIs p x e n e′ r → Fits e n → (m : Fit) → matches p 1 x ≡ done m →
+  -- FOR A CALLER: where the pattern takes the value, the environment is extended by what it binds
+  env-after : (e′ : List ℕ) (r : Binding) → BindingIs p x e n e′ r → Fits e n → (m : Fit) → matches p 1 x ≡ done m →
       (envOf e′ (r .n) ≡ extend (envOf e n) (binders p) (m .bound)) × Fits e′ (r .n)
   unfolding namesAfter wordsAfter
-  binding-env e′ r is fits m q =
+  env-after e′ r is fits m q =
       let each = pattern-binds pool place x m q few in
       let count : r .n ≡ n + length (binders p) = is .count ∙ rw q in
       let words : e′ ≡ boundAll e n (binders p) (m .bound) = is .words ∙ rw q in
       rw (count, words) (all-env (binders p) (m .bound) e n fits (g .room) (each .0) (each .1))
+
+  pub binding-env : (e′ : List ℕ) (r : Binding) → BindingIs p x e n e′ r → Fits e n → r .fits ≡ true →
+      (m : Fit) × (matches p 1 x ≡ done m) × (envOf e′ (r .n) ≡ extend (envOf e n) (binders p) (m .bound)) × Fits e′ (r .n)
+  binding-env e′ r is fits y =
+      let (m, q) = match-yes p x (sym (is .fits) ∙ y) in
+      let (view, all) = env-after e′ r is fits m q in
+      (m, q, view, all)
+
+  -- and where it does not, 14 is the refusal, and all is as it was
+  pub binding-none : (e′ : List ℕ) (r : Binding) → BindingIs p x e n e′ r → r .fits ≡ false → (matches p 1 x ≡ refuse 14) × (r .n ≡ n) × (e′ ≡ e)
+  unfolding namesAfter wordsAfter
+  binding-none e′ r is y = let q = match-no p x (sym (is .fits) ∙ y) in (q, is .count ∙ rw q, is .words ∙ rw q)
