@@ -89,7 +89,7 @@ pub grown-none : (e : List ℕ) (n : ℕ) (p v : List ℕ) (b : values.Bound) �
 unfolding boundAll
 grown-none e n p v b = record { names = refl; words = refl }
 
-module _ (e : List ℕ) (n : ℕ) (p v : List ℕ) (b : values.Bound) (i k : ℕ) (x : List ℕ) (g : Grown e n p v b i k x) where
+module _ {e : List ℕ} {n : ℕ} {p v : List ℕ} {b : values.Bound} {i k : ℕ} {x : List ℕ} (g : Grown e n p v b i k x) where
   pub grown-length : length x ≡ length e
   grown-length = ap length (g .words) ∙ all-length (binders (take i p)) (map (partOf v) (take k (b .rows))) e n
 

@@ -1,10 +1,9 @@
-use Prim.Native.Nat.{_-_, _/_}
 use lib.ListN.{length}
 use Rattle.values.specs.Span.{leafOf}
 use Rattle.tables.proofs.WalkLaws.{on-left, on-right, on-box, on-new}
 use Rattle.environments.proofs.LongWalk.{left-yes, left-no, box-is, new-is, out-is, rest-is}
 use borrow.Author.Needs.{needs}
-use Prim.Native.Nat.{ℕ, _<_}
+use Prim.Native.Nat.{ℕ, _-_, _/_, _<_}
 use borrow.Fn.Kinds.{In}
 use borrow.Fn.PlainCycle.{Measures, is, falls, and}
 use Rattle.environments.proofs.long.long_in.Reads as long-in

@@ -20,67 +20,54 @@ loop-holds c = let a = c .before .before .before .args in (search needs, grown-n
 element-copy-out-q : tie.Need-element-copy-out-q Inv-loop μ-loop
 element-copy-out-q c =
     let x = c .before .before .before .before .before .before .before in
-    let a = x .args in
     let l = c .before .before .before .loop in
     let g = l .inv .1 in
     let more = c .before .before .loop-test .taken in
     let name = c .if1 .taken in
-    let room = grown-room (a .e .now) (a .n) (a .p .now) (a .v .now) (a .t5) (l .i) (l .k) (l .e) g more name in
+    let room = grown-room g more name in
     omega (arith, x .pre .room)
 
 bind-words-requires : tie.Need-bind-words-requires Inv-loop μ-loop
 bind-words-requires c κs =
     let x = c .before .before .before .before .before .before .before .before .before .before in
-    let a = x .args in
     let l = c .before .before .before .before .before .before .loop in
     let g = l .inv .1 in
     let more = c .before .before .before .before .before .loop-test .taken in
     let name = c .before .before .before .if1 .taken in
-    let room = grown-room (a .e .now) (a .n) (a .p .now) (a .v .now) (a .t5) (l .i) (l .k) (l .e) g more name in
-    let long = grown-length (a .e .now) (a .n) (a .p .now) (a .v .now) (a .t5) (l .i) (l .k) (l .e) g ∙ x .pre .long in
+    let room = grown-room g more name in
+    let long = grown-length g ∙ x .pre .long in
     let part = simp (length-take, length-drop) at (ap length (c .part-of .ensures)) in
     (long, omega (arith, x .pre .room), omega (arith, x .pre .short))
 
 loop-again : tie.Need-loop-again Inv-loop μ-loop
 loop-again c =
     let x = c .before .before .before .before .before .before .before .before .before .before .before .before .before in
-    let a = x .args in
     let l = c .before .before .before .before .before .before .before .before .before .loop in
     let g = l .inv .1 in
     let more = c .before .before .before .before .before .before .before .before .loop-test .taken in
     let name = c .before .before .before .before .before .before .if1 .taken in
-    let room = grown-room (a .e .now) (a .n) (a .p .now) (a .v .now) (a .t5) (l .i) (l .k) (l .e) g more name in
-    let full : length (a .t5 .rows) ≡ 8 = search (needs, unmap, x .good) in
+    let room = grown-room g more name in
+    let full : length (x .args .t5 .rows) ≡ 8 = search (needs, unmap, x .good) in
     let part = c .before .before .before .part-of .ensures in
     let words = c .before .before .bind-words .ensures in
-    let grown = grown-name (a .e .now) (a .n) (a .p .now) (a .v .now) (a .t5) (l .i) (l .k) (l .e) g more name (omega (arith, x .pre .room)) _ _ _ part words in
+    let grown = grown-name g more name (omega (arith, x .pre .room)) _ _ _ part words in
     (search needs, grown, omega (arith, x .pre .room))
 
 loop-again-2 : tie.Need-loop-again-2 Inv-loop μ-loop
 loop-again-2 c =
-    let x = c .before .before .before .before .before .before .before in
-    let a = x .args in
     let l = c .before .before .before .loop in
-    let g = l .inv .1 in
     let other = c .if1 .left in
-    let grown = grown-other (a .e .now) (a .n) (a .p .now) (a .v .now) (a .t5) (l .i) (l .k) (l .e) g (c .before .before .loop-test .taken) other in
+    let grown = grown-other (l .inv .1) (c .before .before .loop-test .taken) other in
     (search needs, grown, l .inv .2)
 
 same-length : tie.Need-same-length Inv-loop μ-loop
-same-length c =
-    let x = c .before .before .before .before .before in
-    let a = x .args in
-    let l = c .before .loop in
-    let g = l .inv .1 in
-    grown-length (a .e .now) (a .n) (a .p .now) (a .v .now) (a .t5) (l .i) (l .k) (l .e) g
+same-length c = grown-length (c .before .loop .inv .1)
 
 returns : tie.Need-returns Inv-loop μ-loop
 returns c =
     let x = c .before .before .before .before .before in
-    let a = x .args in
     let l = c .before .loop in
-    let g = l .inv .1 in
-    grown-all (a .e .now) (a .n) (a .p .now) (a .v .now) (a .t5) (l .i) (l .k) (l .e) g (c .loop-test .left) (x .pre .each)
+    grown-all (l .inv .1) (c .loop-test .left) (x .pre .each)
 
 pub bind-parts-spec : {M : Type 1} → statement M
 bind-parts-spec =
