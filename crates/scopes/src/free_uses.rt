@@ -75,7 +75,7 @@ fn hide_names(ts: Marks, s: &[u32]) -> Marks
 
 // Whether no marked name is free as a channel, tag or box name in the term at node n. The nodes above n are the falling
 // measure.
-fn clear(nodes: &[u32], pool: &[u32], n: usize, ts: Marks) -> bool
+pub fn clear(nodes: &[u32], pool: &[u32], n: usize, ts: Marks) -> bool
     ensures { λ r. ⌜ (Walks (table (now (nodes .entry)) (now (pool .entry))) n → r ≡ clearAt (table (now (nodes .entry)) (now (pool .entry))) n (ts .on)) ⌝ }
 {
     let c = nodes.len() / 5;

@@ -1,0 +1,4 @@
+pub mod Fits
+pub mod Long
+pub mod Inputs
+pub mod Matching
