@@ -1,0 +1,24 @@
+use Rattle.wrappers.proofs.Described.{filter-side, first-side, second-side, no-sides}
+use borrow.Author.Needs.{needs}
+use Rattle.wrappers.proofs.has_side.Statement.{statement}
+use Rattle.wrappers.proofs.has_side.Tie as tie
+
+returns : tie.Need-returns
+returns c = let a = c .before .args in filter-side (a .w) (c .if1 .taken) (a .n)
+
+returns-2 : tie.Need-returns-2
+returns-2 c = let a = c .before .before .before .args in first-side (a .w) (c .before .if2 .taken) (a .n) (c .if3 .taken)
+
+returns-3 : tie.Need-returns-3
+returns-3 c = let a = c .before .before .before .args in second-side (a .w) (c .before .if2 .taken) (a .n) (c .if3 .left)
+
+returns-4 : tie.Need-returns-4
+returns-4 c = let a = c .before .before .args in no-sides (a .w) (c .if2 .left) (a .n) (c .before .if1 .left)
+
+pub has-side-spec : {M : Type 1} → statement M
+has-side-spec = tie.close
+    (tie.spec
+    returns
+    returns-2
+    returns-3
+    returns-4)
