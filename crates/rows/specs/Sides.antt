@@ -1,13 +1,17 @@
--- A side of the model: from its words, and the rest of it by value.
-use mathlib.Core.Bool.{Bool}
-use mathlib.Core.List.{List}
+-- A side of the model: from its words, and the rest of it by value. A state, from the struct.
+use mathlib.Core.Bool.{Bool, cond}
+use mathlib.Core.List.{List, map}
+use mathlib.Core.Option.{Option, none, some}
 use Prim.Native.Nat.{ℕ}
 use lib.Dec.{leb}
-use Rattle.model.specs.Basics.{_&_}
+use Rattle.model.specs.Basics.{_&_, every}
 use Rattle.model.specs.Side.{Contents, Core}
+use Rattle.model.specs.Side.{Side as MSide, State as MState}
 use Rattle.sides.specs.Views.{viewLobby, fitsLobby}
 use Rattle.rows.specs.Layout.{viewRows, viewBoxes, viewShelf, fitsRows, fitsShelf}
 use Rattle.rows.specs.declared.Rest.{Rest}
+use Rattle.rows.specs.declared.Side.{Side}
+use Rattle.rows.specs.declared.State.{State}
 
 -- what unfolding adds to: so many rows and boxes, and the count of minted names
 abbrev pub contentsOf : List ℕ → (particles boxes minted : ℕ) → Contents
@@ -20,3 +24,22 @@ coreOf l o = record { contents = contentsOf l (o .particles) (o .boxes) (o .mint
 -- every count is within its array
 abbrev pub fitsSide : List ℕ → Rest → Bool
 fitsSide l o = fitsRows l (o .particles) & (leb (o .boxes) 16 & (fitsLobby (o .lobby) & fitsShelf l (o .shelved)))
+
+-- a side, with its marks
+abbrev pub sideOf : List ℕ → Rest → List Bool → MSide
+sideOf l o m = record { core = coreOf l o; left = m }
+
+abbrev pub viewSide : Side → MSide
+viewSide s = sideOf (s .words) (s .rest) (s .left)
+
+-- all sides
+abbrev pub viewState : State → MState
+viewState s = record { sides = map viewSide (s .sides) }
+
+-- the array test: every count that says how much of an array is used is at most the array's length
+abbrev pub fitsArrays : State → Bool
+fitsArrays s = every (λ o. fitsSide (o .words) (o .rest)) (s .sides)
+
+-- the state that a struct is; none where a count passes its array
+abbrev pub stateOf : State → Option MState
+stateOf s = cond (fitsArrays s) (some (viewState s)) none

@@ -67,3 +67,15 @@ pub struct Rest {
     pub lobby: Lobby,
     pub taken: [bool; Sides::TAKEN],
 }
+
+// A side by value: its words, the rest, and which minted names have left by its outlet.
+pub struct Side {
+    pub words: [u32; Rows::WORDS],
+    pub rest: Rest,
+    pub left: [bool; Sides::MARKS],
+}
+
+// The sides, from side 1 on.
+pub struct State {
+    pub sides: [Side; Sides::COUNT],
+}
