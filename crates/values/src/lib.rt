@@ -43,10 +43,13 @@ pub fn is_minted(w: u32) -> bool
 fn is_leaf(l: Leaf, w: u32) -> bool
     ensures { λ r. ⌜ r ≡ leafOf l w ⌝ }
 {
+    if w <= 63 {
+        return true;
+    }
     match l {
-        Leaf::Public => w <= 63,
-        Leaf::Pattern => w <= 63 || w == 4999999,
-        Leaf::Name => w <= 63 || is_minted(w),
+        Leaf::Public => false,
+        Leaf::Pattern => w == 4999999,
+        Leaf::Name => is_minted(w),
     }
 }
 
