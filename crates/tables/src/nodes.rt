@@ -35,8 +35,8 @@ pub fn field_at(nodes: &[u32], n: usize, k: usize) -> u32
     0
 }
 
-// Node n.
-pub fn node_at(nodes: &[u32], n: usize) -> Node
+// Node n, field by field. Past the last whole node some fields are 0, or all.
+fn node_by_fields(nodes: &[u32], n: usize) -> Node
     ensures { λ r. ⌜ NodeIs (now (nodes .entry)) n r ⌝ }
 {
     Node {
@@ -45,6 +45,24 @@ pub fn node_at(nodes: &[u32], n: usize) -> Node
         b: wide(field_at(nodes, n, 2)),
         c: wide(field_at(nodes, n, 3)),
         d: wide(field_at(nodes, n, 4)),
+    }
+}
+
+// Node n.
+pub fn node_at(nodes: &[u32], n: usize) -> Node
+    ensures { λ r. ⌜ NodeIs (now (nodes .entry)) n r ⌝ }
+{
+    if n < nodes.len() / 5 {
+        let p = 5 * n;
+        Node {
+            kind: wide(nodes[p]),
+            a: wide(nodes[p + 1]),
+            b: wide(nodes[p + 2]),
+            c: wide(nodes[p + 3]),
+            d: wide(nodes[p + 4]),
+        }
+    } else {
+        node_by_fields(nodes, n)
     }
 }
 

@@ -4,15 +4,14 @@ use mathlib.Core.Bool.{Bool, true, false}
 use mathlib.Core.List.{List, [], _∷_}
 use mathlib.Core.Logic.{_⊎_, inl, inr, ⊎-elim}
 use Prim.Native.Nat.{ℕ, zero, suc, _+_, _-_, _<_, _≤_}
-use native.Mathlib.Nat.{add-zero}
 use native.Mathlib.Omega.{arith}
 use borrow.Author.Tests.{le-leb, lt-leb, eq-eqb, ne-eqb, eqb-true, eqb-false, ltb-true, ltb-false}
 use lib.Dec.{ltb, eqb}
 use lib.ListN.{length, getD, take, drop, length-drop, drop-of-length-le, length-take}
 use lib.Seq.{drop-drop, drop-length, take-all, take-take, length-take-le}
-use Rattle.model.specs.Basics.{_&_, Res, refuse, done, bind, orElse}
+use Rattle.model.specs.Basics.{_&_, Res, refuse, done, orElse}
 use Rattle.model.specs.Values.{items, isName, isTuple, arity, restOf, firstOf, at, isValue, shaped}
-use Rattle.model.proofs.Items.{items-zero, items-leaf, items-tuple, items-bad, items-add}
+use Rattle.model.proofs.Items.{items-zero, items-leaf, items-tuple, items-bad}
 use Rattle.values.proofs.Lists.{at-i}
 use Rattle.values.proofs.Words.{left-false}
 use Rattle.values.specs.Span.{leafOf, found, spanOf, endOf, sizeOf}
@@ -44,38 +43,61 @@ module _ (leaf : ℕ → Bool) (e : ℕ) where
       go false true ih ih′ q = let a = ih′ q in (suc (a .0), a .1, omega (arith, a .2), λ h. omega arith)
       go false false ih ih′ q = let z : _≡_ {A = ℕ} 0 1 = cc in absurd (omega arith)
 
+  -- each item takes a word at least
+  pub items-short : (ws : List ℕ) (n : ℕ) → length ws < n → items leaf e ws n ≡ refuse e
+  unfolding items
+  items-short [] zero h = absurd (omega arith)
+  items-short [] (suc n) h = refl
+  items-short (w ∷ ws) zero h = absurd (omega arith)
+  items-short (w ∷ ws) (suc n) h = go (leaf w) (isTuple w) (items-short ws n (omega arith)) (items-short ws (arity w + n) (omega arith))
+    where
+      go : (t u : Bool) → items leaf e ws n ≡ refuse e → items leaf e ws (arity w + n) ≡ refuse e →
+          _≡_ {A = Res (List ℕ)} (elim t [ true ↦ items leaf e ws n | false ↦ elim u [ true ↦ items leaf e ws (arity w + n) | false ↦ refuse e ] ]) (refuse e)
+      go true u p q = p
+      go false true p q = q
+      go false false p q = refl
+
 -- THE LAWS OF `spanOf`, one for each way the code goes
 module _ (leaf : ℕ → Bool) where
   pub span-none : (s : List ℕ) (i : ℕ) → spanOf leaf s i 0 ≡ At i
   unfolding spanOf
   span-none s i = rw items-zero (ap At (omega arith))
 
-  module _ (s : List ℕ) (i : ℕ) (h : i < length s) where
-    pub span-leaf : leaf (getD s i 0) ≡ true → spanOf leaf s i 1 ≡ At (i + 1)
-    unfolding spanOf
-    span-leaf p = rw (at-i s i h, items-leaf leaf 5 (getD s i 0) (drop (i + 1) s) 0 p, items-zero) (ap At (omega (arith, length-drop i s, length-drop (i + 1) s)))
+  -- fewer words than items are left
+  pub span-short : (s : List ℕ) (i n : ℕ) → length s - i < n → spanOf leaf s i n ≡ Bad
+  unfolding spanOf
+  span-short s i n h = rw (items-short leaf 5 (drop i s) n (omega (arith, length-drop i s)))
 
-    pub span-tuple : leaf (getD s i 0) ≡ false → isTuple (getD s i 0) ≡ true → spanOf leaf s i 1 ≡ spanOf leaf s (i + 1) (getD s i 0 - 4000000)
+  module _ (s : List ℕ) (i n : ℕ) (h : i < length s) (p : 0 < n) where
+    opened : items leaf 5 (drop i s) n ≡ items leaf 5 (getD s i 0 ∷ drop (i + 1) s) (suc (n - 1))
+    opened =
+        let one-and : n ≡ suc (n - 1) = omega arith in
+        ap (items leaf 5 (drop i s)) one-and ∙ ap (λ (x : List ℕ). items leaf 5 x (suc (n - 1))) (at-i s i h)
+
+    -- the word at place i is read, and m items are still to come
+    next : (m : ℕ) → items leaf 5 (getD s i 0 ∷ drop (i + 1) s) (suc (n - 1)) ≡ items leaf 5 (drop (i + 1) s) m → spanOf leaf s i n ≡ spanOf leaf s (i + 1) m
     unfolding spanOf
-    span-tuple l p =
-        ap (λ (x : List ℕ). found s i (items leaf 5 x 1)) (at-i s i h) ∙
-        ap (found s i) (items-tuple leaf 5 (getD s i 0) (drop (i + 1) s) 0 l p ∙ ap (items leaf 5 (drop (i + 1) s)) (add-zero (getD s i 0 - 4000000))) ∙
-        shift (items leaf 5 (drop (i + 1) s) (getD s i 0 - 4000000)) refl
+    next m q = ap (found s i) (opened ∙ q) ∙ shift (items leaf 5 (drop (i + 1) s) m) refl
       where
-        shift : (r : Res (List ℕ)) → items leaf 5 (drop (i + 1) s) (getD s i 0 - 4000000) ≡ r → found s i r ≡ found s (i + 1) r
-        shift (refuse n) e = refl
-        shift (done r) e =
-            let t = items-tail leaf 5 (drop (i + 1) s) (getD s i 0 - 4000000) r e in
-            let m : length r ≡ length s - (i + 1) - t .0 = ap length (sym (t .1)) ∙ length-drop (t .0) (drop (i + 1) s) ∙ rw length-drop in
-            ap At (rw (length-drop i s, length-drop (i + 1) s) (omega (arith, m)))
+        shift : (r : Res (List ℕ)) → items leaf 5 (drop (i + 1) s) m ≡ r → found s i r ≡ found s (i + 1) r
+        shift (refuse e) q = refl
+        shift (done r) q =
+            let t = items-tail leaf 5 (drop (i + 1) s) m r q in
+            let k : length r ≡ length s - (i + 1) - t .0 = ap length (sym (t .1)) ∙ length-drop (t .0) (drop (i + 1) s) ∙ rw length-drop in
+            ap At (rw (length-drop i s, length-drop (i + 1) s) (omega (arith, k)))
 
-    pub span-bad : leaf (getD s i 0) ≡ false → isTuple (getD s i 0) ≡ false → spanOf leaf s i 1 ≡ Bad
+    pub span-leaf : leaf (getD s i 0) ≡ true → spanOf leaf s i n ≡ spanOf leaf s (i + 1) (n - 1)
+    span-leaf l = next (n - 1) (items-leaf leaf 5 (getD s i 0) (drop (i + 1) s) (n - 1) l)
+
+    pub span-tuple : leaf (getD s i 0) ≡ false → isTuple (getD s i 0) ≡ true → spanOf leaf s i n ≡ spanOf leaf s (i + 1) (n - 1 + (getD s i 0 - 4000000))
+    span-tuple l q =
+        let m = n - 1 + (getD s i 0 - 4000000) in
+        let sum : arity (getD s i 0) + (n - 1) ≡ m = omega arith in
+        next m (items-tuple leaf 5 (getD s i 0) (drop (i + 1) s) (n - 1) l q ∙ ap (items leaf 5 (drop (i + 1) s)) sum)
+
+    pub span-bad : leaf (getD s i 0) ≡ false → isTuple (getD s i 0) ≡ false → spanOf leaf s i n ≡ Bad
     unfolding spanOf
-    span-bad l q = rw (at-i s i h, items-bad leaf 5 (getD s i 0) (drop (i + 1) s) 0 l q)
-
-  pub span-past : (s : List ℕ) (i : ℕ) → length s ≤ i → spanOf leaf s i 1 ≡ Bad
-  unfolding spanOf items
-  span-past s i h = rw (drop-of-length-le s h)
+    span-bad l q = ap (found s i) (opened ∙ items-bad leaf 5 (getD s i 0) (drop (i + 1) s) (n - 1) l q)
 
   pub found-tail : (s : List ℕ) (i n j : ℕ) → spanOf leaf s i n ≡ At j →
       (items leaf 5 (drop i s) n ≡ done (drop j s)) × (i ≤ j) × (j ≤ i + (length s - i)) × (0 < n → i < j)
@@ -94,34 +116,6 @@ module _ (leaf : ℕ → Bool) where
       go : (q : Res (List ℕ)) → items leaf 5 (drop i s) n ≡ q → (items leaf 5 (drop i s) n ≡ done (drop j s)) × (i ≤ j) × (j ≤ i + (length s - i)) × (0 < n → i < j)
       go (refuse e) q = let z : _≡_ {A = ℕ} 0 1 = cc (rw q at p) in absurd (omega arith)
       go (done r) q = on r (rw q at p) q (items-tail leaf 5 (drop i s) n r q)
-
-  -- the items after the first
-  first-of : (s : List ℕ) (i k : ℕ) → ((k ≡ 0) → ⊥) → spanOf leaf s i k ≡ found s i (bind (items leaf 5 (drop i s) 1) (λ r. items leaf 5 r (k - 1)))
-  unfolding spanOf
-  first-of s i k n = ap (λ (m : ℕ). found s i (items leaf 5 (drop i s) m)) one-and ∙ rw (items-add leaf 5 (drop i s) 1 (k - 1))
-    where
-      one-and : k ≡ 1 + (k - 1)
-      one-and = omega arith
-
-  pub span-more : (s : List ℕ) (i k j : ℕ) → ((k ≡ 0) → ⊥) → spanOf leaf s i 1 ≡ At j → spanOf leaf s i k ≡ spanOf leaf s j (k - 1)
-  unfolding spanOf bind
-  span-more s i k j n p = first-of s i k n ∙ rw (found-tail s i 1 j p .0) (shift (items leaf 5 (drop j s) (k - 1)) refl)
-    where
-      shift : (r : Res (List ℕ)) → items leaf 5 (drop j s) (k - 1) ≡ r → found s i r ≡ found s j r
-      shift (refuse n) e = refl
-      shift (done r) e =
-          let t = items-tail leaf 5 (drop j s) (k - 1) r e in
-          let (a, b, c, d) = found-tail s i 1 j p in
-          let m : length r ≡ length s - j - t .0 = ap length (sym (t .1)) ∙ length-drop (t .0) (drop j s) ∙ rw length-drop in
-          ap At (rw (length-drop i s, length-drop j s) (omega (arith, m, t .2, length-drop j s)))
-
-  pub span-stop : (s : List ℕ) (i k : ℕ) → ((k ≡ 0) → ⊥) → spanOf leaf s i 1 ≡ Bad → spanOf leaf s i k ≡ Bad
-  unfolding spanOf bind
-  span-stop s i k n p = first-of s i k n ∙ go (items leaf 5 (drop i s) 1) p
-    where
-      go : (q : Res (List ℕ)) → found s i q ≡ Bad → found s i (bind q (λ r. items leaf 5 r (k - 1))) ≡ Bad
-      go (refuse e) z = refl
-      go (done r) z = let y : _≡_ {A = ℕ} 0 1 = cc in absurd (omega arith)
 
   -- the next place is further on, and within the words
   pub span-grows : (s : List ℕ) (i j : ℕ) → spanOf leaf s i 1 ≡ At j → (i < j) × (j ≤ length s)

@@ -36,15 +36,15 @@ module _ (w : ℕ) where
   unfolding _&_ _or_
   minted-two h = rw (le-leb 65536 w (omega arith), lt-leb w 65791 (omega arith), le-leb 131072 w h)
 
-  pub leaf-low : (l : Leaf) → w ≤ 63 → leb w 63 ≡ leafOf l w
+  pub leaf-low : (l : Leaf) → w ≤ 63 → true ≡ leafOf l w
   unfolding leafOf _or_
-  leaf-low Public h = refl
+  leaf-low Public h = rw (le-leb w 63 h)
   leaf-low Pattern h = rw (le-leb w 63 h)
   leaf-low Name h = rw (le-leb w 63 h)
 
-  pub leaf-public : (l : Leaf) → l ≡ Public → leb w 63 ≡ leafOf l w
+  pub leaf-public : (l : Leaf) → l ≡ Public → 63 < w → false ≡ leafOf l w
   unfolding leafOf
-  leaf-public l e = rw e
+  leaf-public l e h = rw (e, lt-leb w 63 h)
 
   pub leaf-pattern : (l : Leaf) → l ≡ Pattern → 63 < w → eqb w 4999999 ≡ leafOf l w
   unfolding leafOf _or_

@@ -43,10 +43,13 @@ pub fn is_minted(w: u32) -> bool
 fn is_leaf(l: Leaf, w: u32) -> bool
     ensures { λ r. ⌜ r ≡ leafOf l w ⌝ }
 {
+    if w <= 63 {
+        return true;
+    }
     match l {
-        Leaf::Public => w <= 63,
-        Leaf::Pattern => w <= 63 || w == 4999999,
-        Leaf::Name => w <= 63 || is_minted(w),
+        Leaf::Public => false,
+        Leaf::Pattern => w == 4999999,
+        Leaf::Name => is_minted(w),
     }
 }
 
@@ -57,36 +60,33 @@ pub fn is_tuple(w: u32) -> bool
     if w < 4000000 { false } else { w <= 4000015 }
 }
 
-// Where the item at place i ends.
+// Where the item at place i ends. The words before place j are read; n items are still to come, and at least n words.
 fn item_end(l: Leaf, s: &[u32], i: usize) -> Span
     ensures { λ r. ⌜ r ≡ spanOf (leafOf l) (now (s .entry)) i 1 ⌝ }
 {
-    if i < s.len() {
-        let w = s[i];
+    if s.len() <= i {
+        return Span::Bad;
+    }
+    let mut j = i;
+    let mut n: usize = 1;
+    while 0 < n {
+        let w = s[j];
+        j += 1;
+        n -= 1;
         if is_leaf(l, w) {
-            Span::At(i + 1)
-        } else if is_tuple(w) {
-            parts_end(l, s, i + 1, w - 4000000)
+            continue;
+        }
+        if is_tuple(w) {
+            let k = (w - 4000000) as usize;
+            if s.len() - j - n < k {
+                return Span::Bad;
+            }
+            n += k;
         } else {
-            Span::Bad
-        }
-    } else {
-        Span::Bad
-    }
-}
-
-// Where k items from place i on end.
-fn parts_end(l: Leaf, s: &[u32], i: usize, k: u32) -> Span
-    ensures { λ r. ⌜ r ≡ spanOf (leafOf l) (now (s .entry)) i k ⌝ }
-{
-    if k == 0 {
-        Span::At(i)
-    } else {
-        match item_end(l, s, i) {
-            Span::At(j) => parts_end(l, s, j, k - 1),
-            Span::Bad => Span::Bad,
+            return Span::Bad;
         }
     }
+    Span::At(j)
 }
 
 // How many words the value or pattern at place p of a pool has: it is malformed where it has over 16 or passes the pool's end.
