@@ -1,0 +1,208 @@
+-- What load says of a side, and of all sides one after another.
+use mathlib.Core.Path.{_≡_, refl, sym, ap, ap₂, subst, _∙_}
+use mathlib.Core.Bool.{Bool, true, false}
+use mathlib.Core.List.{List, [], _∷_, map}
+use Prim.Native.Nat.{ℕ, zero, suc, _+_, _<_, _≤_}
+use native.Mathlib.Numerals.{add-one}
+use native.Mathlib.Omega.{arith}
+use borrow.Author.Tests.{eq-eqb, ne-eqb}
+use lib.Dec.{eqb, leb}
+use lib.ListN.{length, drop, getD}
+use Rattle.model.specs.Basics.{_&_, choose, Res, refuse, done, isDone}
+use Rattle.model.specs.Values.{noNames}
+use Rattle.model.specs.Table.{Table, count, term}
+use Rattle.model.specs.Checks.{Fault, fault}
+use Rattle.model.specs.Side.{withinLimits, emptyContents}
+use Rattle.model.specs.Wrapper.{Wrapper, allSides, isWrapper, hasSide}
+use Rattle.model.specs.Load.{Composition, wrapperOf, noTable, start, Loaded, refused, ok, sideFault, lackFault, loadSides, startOf, load}
+use Rattle.model.specs.Load.{table as tableOf}
+use Rattle.model.proofs.Tests.{both}
+use Rattle.model.proofs.Counts.{Added, unfolds-adds}
+use Rattle.tables.specs.declared.checks.Verdict.{Verdict}
+use Rattle.tables.specs.declared.checks.Verdict.the-variants as verdict
+use Rattle.tables.specs.Checks.{Passes, verdictOf}
+use Rattle.tables.specs.Nodes as slices
+use Rattle.tables.proofs.CheckLaws.{passed}
+use Rattle.scopes.specs.declared.unfolded.Unfolded.{Unfolded}
+use Rattle.scopes.specs.Unfolded.{UnfoldsTo}
+use Rattle.scopes.proofs.ScopeBound.{no-fault, passes-checked}
+use Rattle.wrappers.specs.Compositions.{tablesOf, composition}
+use Rattle.loading.specs.declared.Outcome.{Outcome}
+use Rattle.loading.specs.declared.Outcome.the-variants.{Ok, Refused}
+use Rattle.loading.specs.Loading.{faultOf, atSide, outcomeOf}
+
+-- A SIDE'S FAULT
+pub root-in : (t : Table) → Passes t → 0 < count t
+root-in t p = passes-checked t p .some
+
+pub start-added : (i : ℕ) (t : Table) → Added (term t 0) emptyContents (start i t)
+unfolding start
+start-added i t = unfolds-adds i (term t 0) noNames 0 emptyContents
+
+pub start-within : (i : ℕ) (t : Table) (u : Unfolded) → UnfoldsTo (term t 0) u → withinLimits (start i t) ≡ leb (u .particles) 32 & (leb (u .boxes + 1) 16 & leb (u .names) 256)
+start-within i t u h =
+    let d = start-added i t in
+    let p : length (start i t .particles) ≡ u .particles = omega (arith, d .particles, h .particles) in
+    let q : length (start i t .boxes) ≡ u .boxes + 1 = omega (arith, d .boxes, h .boxes) in
+    let r : start i t .minted ≡ u .names = omega (arith, d .minted, h .names) in
+    ap₂ _&_ (ap (λ (n : ℕ). leb n 32) p) (ap₂ _&_ (ap (λ (n : ℕ). leb n 16) q) (ap (λ (n : ℕ). leb n 256) r))
+
+-- a fault of checks 1 to 6 stays
+pub side-bad : (i : ℕ) (t : Table) (v : Verdict) (k n : ℕ) → v ≡ verdictOf (fault t) → v ≡ verdict.Refused k n → v ≡ verdictOf (sideFault i t)
+unfolding sideFault
+side-bad i t v k n e z = go (fault t) refl
+  where
+    go : (q : Res Fault) → fault t ≡ q → v ≡ verdictOf (sideFault i t)
+    go (done f) p = rw (p, sideFault) (e ∙ ap verdictOf p)
+    go (refuse x) p = let y : v ≡ verdict.Passed = e ∙ ap verdictOf p in let w : _≡_ {A = ℕ} 0 1 = cc in absurd (omega arith)
+
+pub side-passes : (t : Table) (v : Verdict) → v ≡ verdictOf (fault t) → v ≡ verdict.Passed → Passes t
+side-passes t v e z = passed t (sym z ∙ e)
+
+-- with no such fault, 7 is by the counts
+module _ (i : ℕ) (t : Table) (p : Passes t) where
+  pub side-good : withinLimits (start i t) ≡ true → verdict.Passed ≡ verdictOf (sideFault i t)
+  unfolding sideFault
+  side-good w = let z = no-fault t p in rw (z .1, w, sideFault)
+
+  pub side-seven : withinLimits (start i t) ≡ false → verdict.Refused 7 0 ≡ verdictOf (sideFault i t)
+  unfolding sideFault
+  side-seven w = let z = no-fault t p in rw (z .1, w, sideFault)
+
+-- what a side that passes is
+pub side-passed : (i : ℕ) (t : Table) → verdictOf (sideFault i t) ≡ verdict.Passed → Passes t × (withinLimits (start i t) ≡ true)
+unfolding sideFault
+side-passed i t z = go (fault t) refl (withinLimits (start i t)) refl
+  where
+    go : (q : Res Fault) → fault t ≡ q → (b : Bool) → withinLimits (start i t) ≡ b → Passes t × (withinLimits (start i t) ≡ true)
+    go (done f) p b w = let y : verdict.Passed ≡ verdict.Refused (f .number) (f .node) = sym z ∙ rw (p, sideFault) in let m : _≡_ {A = ℕ} 0 1 = cc in absurd (omega arith)
+    go (refuse x) p true w = (ap isDone p, w)
+    go (refuse x) p false w = let y : verdict.Passed ≡ verdict.Refused 7 0 = sym z ∙ rw (p, w, sideFault) in let m : _≡_ {A = ℕ} 0 1 = cc in absurd (omega arith)
+
+-- a side that the wrapper lacks
+module _ (t : Table) where
+  lack-by : (q : Bool) → eqb (length (t .nodes)) 0 & eqb (length (t .pool)) 0 ≡ q → lackFault t ≡ choose q (refuse 0) (done (record { number = 1; node = 0 }))
+  unfolding lackFault
+  lack-by q e = ap (λ (x : Bool). choose x (refuse 0) (done (record { number = 1; node = 0 }))) e
+
+  pub lack-none : length (t .nodes) ≡ 0 → length (t .pool) ≡ 0 → verdict.Passed ≡ verdictOf (lackFault t)
+  unfolding choose
+  lack-none a b = sym (ap verdictOf (lack-by true (both _ _ (eq-eqb (length (t .nodes)) 0 a) (eq-eqb (length (t .pool)) 0 b))))
+
+  pub lack-nodes : (length (t .nodes) ≡ 0 → ⊥) → verdict.Refused 1 0 ≡ verdictOf (lackFault t)
+  unfolding choose _&_
+  lack-nodes a = sym (ap verdictOf (lack-by false (rw (ne-eqb (length (t .nodes)) 0 a))))
+
+  pub lack-pool : length (t .nodes) ≡ 0 → (length (t .pool) ≡ 0 → ⊥) → verdict.Refused 1 0 ≡ verdictOf (lackFault t)
+  unfolding choose _&_
+  lack-pool a b = sym (ap verdictOf (lack-by false (rw (eq-eqb (length (t .nodes)) 0 a, ne-eqb (length (t .pool)) 0 b))))
+
+module _ (w : Wrapper) (n : ℕ) (t : Table) where
+  pub fault-has : hasSide w n ≡ true → faultOf w n t ≡ sideFault n t
+  unfolding choose
+  fault-has e = rw e
+
+  pub fault-lacks : hasSide w n ≡ false → faultOf w n t ≡ lackFault t
+  unfolding choose
+  fault-lacks e = rw e
+
+-- SIDE BY SIDE: a side's fault, or what follows
+abbrev walk : Res Fault → ℕ → Loaded → Loaded
+walk (done f) i k = refused (record { number = f .number; side = i; node = f .node })
+walk (refuse x) i k = k
+
+walk-bad : (q : Res Fault) (i : ℕ) (k : Loaded) (v : Verdict) (a n : ℕ) → v ≡ verdictOf q → v ≡ verdict.Refused a n → outcomeOf (walk q i k) ≡ atSide v i
+walk-bad (done f) i k v a n e z = sym (ap (λ (y : Verdict). atSide y i) e)
+walk-bad (refuse x) i k v a n e z = let m : _≡_ {A = ℕ} 0 1 = cc in absurd (omega arith)
+
+walk-good : (q : Res Fault) (i : ℕ) (k : Loaded) (v : Verdict) → v ≡ verdictOf q → v ≡ verdict.Passed → walk q i k ≡ k
+walk-good (done f) i k v e z = let m : _≡_ {A = ℕ} 0 1 = cc in absurd (omega arith)
+walk-good (refuse x) i k v e z = refl
+
+walk-ok : (q : Res Fault) (i : ℕ) (k : Loaded) → outcomeOf (walk q i k) ≡ Ok → (verdictOf q ≡ verdict.Passed) × (walk q i k ≡ k)
+walk-ok (done f) i k e = let m : _≡_ {A = ℕ} 0 1 = cc in absurd (omega arith)
+walk-ok (refuse x) i k e = (refl, refl)
+
+load-next : (b : Composition) (n : ℕ) (ns : List ℕ) (k : Loaded) → loadSides b (n ∷ ns) k ≡ walk (faultOf (wrapperOf b) n (tableOf b n)) n (loadSides b ns k)
+unfolding loadSides
+load-next b n ns k = go (faultOf (wrapperOf b) n (tableOf b n)) refl
+  where
+    go : (q : Res Fault) → faultOf (wrapperOf b) n (tableOf b n) ≡ q → loadSides b (n ∷ ns) k ≡ walk (faultOf (wrapperOf b) n (tableOf b n)) n (loadSides b ns k)
+    go (done f) p = rw (p, loadSides)
+    go (refuse x) p = rw (p, loadSides)
+
+-- the sides by their places
+pub side-number : (k : ℕ) → k < length allSides → getD allSides k 0 ≡ k + 1
+side-number zero h = refl
+side-number (suc zero) h = refl
+side-number (suc (suc k)) h = absurd (omega arith)
+
+rest-from : (l : List ℕ) (k : ℕ) → k < length l → drop k l ≡ getD l k 0 ∷ drop (k + 1) l
+rest-from [] k h = absurd (omega arith)
+rest-from (x ∷ l) zero h = refl
+rest-from (x ∷ l) (suc k) h = rest-from l k (omega arith) ∙ ap (λ (j : ℕ). getD l k 0 ∷ drop j (x ∷ l)) (shift k)
+  where
+    shift : (k : ℕ) → suc (k + 1) ≡ suc k + 1
+    shift k = omega arith
+
+-- the table of the side at place k
+table-in : (ns ps : List (List ℕ)) (k : ℕ) → k < length ns → k < length ps → getD (tablesOf ns ps) k noTable ≡ slices.table (getD ns k []) (getD ps k [])
+unfolding tablesOf
+table-in [] ps k h m = absurd (omega arith)
+table-in (n ∷ ns) [] k h m = absurd (omega arith)
+table-in (n ∷ ns) (p ∷ ps) zero h m = refl
+table-in (n ∷ ns) (p ∷ ps) (suc k) h m = table-in ns ps k (omega arith) (omega arith)
+
+pub table-at : (w : ℕ) (ns ps : List (List ℕ)) (k : ℕ) → k < length ns → k < length ps → tableOf (composition w ns ps) (k + 1) ≡ slices.table (getD ns k []) (getD ps k [])
+table-at w ns ps k h m = ap (tableOf (composition w ns ps)) (add-one k) ∙ table-in ns ps k h m
+
+-- an element of a list of references, as its words
+pub map-at : {A B : Type 0} (f : A → B) (l : List A) (k : ℕ) (d : A) (e : B) → k < length l → f (getD l k d) ≡ getD (map f l) k e
+map-at f [] k d e h = absurd (omega arith)
+map-at f (x ∷ l) zero d e h = refl
+map-at f (x ∷ l) (suc k) d e h = map-at f l k d e (omega arith)
+
+-- what load comes to where no side has a fault
+abbrev pub started : Composition → Loaded
+started b = ok (record { sides = map (startOf b) allSides })
+
+pub load-unknown : (b : Composition) → isWrapper (b .wrapper) ≡ false → Refused 1 0 0 ≡ outcomeOf (load b)
+unfolding load
+load-unknown b e = rw (e, load)
+
+pub load-known : (b : Composition) → isWrapper (b .wrapper) ≡ true → load b ≡ loadSides b allSides (started b)
+unfolding load
+load-known b e = rw (e, load)
+
+-- A TURN: the sides from place k on
+module _ (w : ℕ) (ns ps : List (List ℕ)) (k : ℕ) (a : k < length ns) (c : k < length ps) (h : k < length allSides) (v : Verdict)
+    (e : v ≡ verdictOf (faultOf (wrapperOf (composition w ns ps)) (k + 1) (slices.table (getD ns k []) (getD ps k [])))) where
+  abbrev b : Composition
+  b = composition w ns ps
+
+  abbrev f : Res Fault
+  f = faultOf (wrapperOf b) (k + 1) (tableOf b (k + 1))
+
+  here : loadSides b (drop k allSides) (started b) ≡ walk f (k + 1) (loadSides b (drop (k + 1) allSides) (started b))
+  here =
+      ap (λ (l : List ℕ). loadSides b l (started b)) (rest-from allSides k h ∙ ap (λ (n : ℕ). n ∷ drop (k + 1) allSides) (side-number k h)) ∙
+      load-next b (k + 1) (drop (k + 1) allSides) (started b)
+
+  is : v ≡ verdictOf f
+  is = e ∙ ap (λ (t : Table). verdictOf (faultOf (wrapperOf b) (k + 1) t)) (sym (table-at w ns ps k a c))
+
+  pub turn-good : v ≡ verdict.Passed → load b ≡ loadSides b (drop k allSides) (started b) → load b ≡ loadSides b (drop (k + 1) allSides) (started b)
+  turn-good z p = p ∙ here ∙ walk-good f (k + 1) _ v is z
+
+  pub turn-bad : (x y : ℕ) → v ≡ verdict.Refused x y → load b ≡ loadSides b (drop k allSides) (started b) → (n : ℕ) (r : Outcome) → n ≡ k + 1 → r ≡ atSide v n → r ≡ outcomeOf (load b)
+  turn-bad x y z p n r q g = g ∙ ap (atSide v) q ∙ sym (walk-bad f (k + 1) (loadSides b (drop (k + 1) allSides) (started b)) v x y is z) ∙ ap outcomeOf (sym (p ∙ here))
+
+drop-all : (l : List ℕ) (k : ℕ) → length l ≤ k → drop k l ≡ []
+drop-all [] zero h = refl
+drop-all [] (suc k) h = refl
+drop-all (x ∷ l) zero h = absurd (omega arith)
+drop-all (x ∷ l) (suc k) h = drop-all l k (omega arith)
+
+pub turns-end : (b : Composition) (k : ℕ) → length allSides ≤ k → load b ≡ loadSides b (drop k allSides) (started b) → Ok ≡ outcomeOf (load b)
+unfolding loadSides
+turns-end b k h p = sym (ap outcomeOf (p ∙ ap (λ (l : List ℕ). loadSides b l (started b)) (drop-all allSides k h)))

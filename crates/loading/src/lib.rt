@@ -1,0 +1,10 @@
+// Load's checks of the wrapper and of every side's table, and a side at its start.
+mod verdicts; // what load says
+
+pub use verdicts::load_verdict;
+
+// What load says: ok, or number, side and node of a refusal.
+pub enum Outcome {
+    Ok,
+    Refused(usize, u32, usize),
+}
