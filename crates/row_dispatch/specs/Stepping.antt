@@ -1,0 +1,43 @@
+-- What a side's step is given, and the model's step by the parts that the functions have.
+use mathlib.Core.Path.{_≡_}
+use mathlib.Core.Bool.{true}
+use mathlib.Core.List.{List}
+use Prim.Native.Nat.{ℕ, _<_}
+use lib.Dec.{eqb}
+use lib.ListN.{length}
+use Rattle.model.specs.Basics.{choose, Res, refuse, need}
+use Rattle.model.specs.Side.{Core}
+use Rattle.model.specs.Wrapper.{described}
+use Rattle.model.specs.Load.{Setting}
+use Rattle.model.specs.WellFormed.{Counts, wfCore}
+use Rattle.model.specs.Step.{Step, Moved, goDown, up, pass, leave, descend, meet}
+use Rattle.tables.specs.Nodes.{table}
+use Rattle.tables.specs.Checks.{Passes}
+use Rattle.rows.specs.declared.Rest.{Rest}
+use Rattle.rows.specs.Sides.{coreOf, fitsSide}
+
+-- what a side is run with, by the wrapper's number and its slices
+abbrev pub settingOf : (wrapper side : ℕ) → (nodes pool : List ℕ) → Setting
+settingOf w n ns ws = record { wrapper = described w; side = n; table = table ns ws }
+
+-- the step asked for
+abbrev pub asked : (kind side i j : ℕ) → List ℕ → Step
+asked k n i j ws = record { kind = k; side = n; i = i; j = j; words = ws }
+
+-- kinds 2, 3, 6 and 7
+unfoldable pub onePlace : Setting → Core → (kind i : ℕ) → Res Moved
+onePlace c s k i =
+    choose (eqb k 2) (goDown s i) (choose (eqb k 3) (up c s i) (choose (eqb k 6) (pass s i) (choose (eqb k 7) (leave s i) (refuse 10))))
+
+-- kinds 2 to 7
+unfoldable pub twoPlaces : Setting → Core → (kind i j : ℕ) → Res Moved
+twoPlaces c s k i j = choose (eqb k 4) (descend s i j) (choose (eqb k 5) (meet c s i j) (need (eqb j 0) 10 (onePlace c s k i)))
+
+-- a side that a step may act on: its table passes the checks, its counts are within their arrays, and it is well formed
+pub record OwnReady (c : Setting) (l : List ℕ) (o : Rest) : Type 0 where
+  pub narrow : c .side < 65536
+  pub passes : Passes (c .table)
+  pub long : length l ≡ 5184
+  pub arrays : fitsSide l o ≡ true
+  pub counts : Counts
+  pub formed : wfCore c counts (coreOf l o) ≡ true
