@@ -1,2 +1,4 @@
+pub mod LongLaws
+pub mod Standing
 pub mod Adding
 pub mod Walking

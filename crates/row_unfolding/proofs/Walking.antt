@@ -22,9 +22,6 @@ use Rattle.tables.specs.Scope.{Walks}
 use Rattle.tables.proofs.WalkLaws.{at-kind, at-nil, on-new}
 use Rattle.scopes.specs.Walk.{Step}
 use Rattle.scopes.proofs.StepLaws.{to-left, to-right, to-box, to-new}
-use Rattle.unfolding.specs.Long.{longIn}
-use Rattle.unfolding.proofs.LongLaws.{long-new}
-use Rattle.unfolding.proofs.Standing.{walks, few, nodes-few, scoped-left, scoped-right, scoped-box, scoped-new, new-room}
 use Rattle.rows.specs.Layout.{parts, rowsOf, placesOf, viewRow, fitsRow, viewBox, viewPlace, fitsPlace, viewBoxes, fitsRows}
 use Rattle.rows.specs.Stored.{boxPut}
 use Rattle.rows.specs.Environments.{envOf, bound}
@@ -32,8 +29,11 @@ use Rattle.rows.proofs.Reading.{places-count}
 use Rattle.rows.proofs.Behind.{box-rows, box-shelf, box-view, boxes-held}
 use Rattle.rows.proofs.Binding.{bound-length, names-kept, places-kept, env-bound, fits-bound}
 use Rattle.rows.proofs.Storing.{box-length}
+use Rattle.environments.specs.Long.{longIn}
 use Rattle.row_unfolding.specs.declared.Counts.{Counts}
 use Rattle.row_unfolding.specs.Unfolded.{oneBox, oneName, counted, valueAt, outputAt, RowFree, ParticleAdded, CanUnfold, UnfoldedIs}
+use Rattle.row_unfolding.proofs.LongLaws.{long-new}
+use Rattle.row_unfolding.proofs.Standing.{walks, few, nodes-few, scoped-left, scoped-right, scoped-box, scoped-new, new-room}
 
 abbrev contents : List Particle → List Box → ℕ → Contents
 contents ps bs k = record { particles = ps; boxes = bs; minted = k }

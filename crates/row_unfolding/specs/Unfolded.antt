@@ -9,11 +9,11 @@ use Rattle.model.specs.Values.{Env, at, isPublic, word, substitute}
 use Rattle.model.specs.Table.{Table, field, Term, term}
 use Rattle.model.specs.Side.{Particle, output, Contents}
 use Rattle.model.specs.Unfolding.{tagOf, particlesIn, boxesIn, newNamesIn, unfolds}
-use Rattle.unfolding.specs.Scoped.{Scoped}
-use Rattle.unfolding.specs.Long.{longIn}
 use Rattle.rows.specs.Layout.{placesOf, fitsPlace, viewRows, fitsRows}
 use Rattle.rows.specs.Environments.{envOf}
 use Rattle.rows.specs.Sides.{contentsOf}
+use Rattle.environments.specs.Long.{longIn}
+use Rattle.row_unfolding.specs.Scoped.{Scoped}
 use Rattle.row_unfolding.specs.declared.Counts.{Counts}
 
 -- one more particle, box, minted name
