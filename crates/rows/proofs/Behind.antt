@@ -1,21 +1,25 @@
 -- Boxes and shelf, behind the rows: a box and a value put there; what is written in one of the three leaves the others.
 use Prim.Native.Nat.{ℕ, _+_, _-_, _*_, _<_, _≤_}
 use mathlib.Core.Path.{_≡_, refl, sym, _∙_, ap}
-use mathlib.Core.Bool.{true}
+use mathlib.Core.Bool.{Bool, true, false}
 use mathlib.Core.List.{List, [], _∷_, _++_, map}
 use native.Mathlib.Omega.{arith}
 use lib.Dec.{leb}
-use lib.ListN.{length, take, drop, getD, set, length-take, length-drop}
+use lib.ListN.{length, take, drop, getD, set, replicate, length-take, length-drop}
 use lib.Seq.{sets, drop-set-lt}
 use Rattle.model.specs.Basics.{_&_, every}
 use Rattle.model.specs.Side.{Box}
+use Rattle.model.specs.Wrapper.{allSides}
 use Rattle.model.proofs.Tests.{both}
 use Rattle.values.specs.Env.{viewValue}
 use Rattle.sides.specs.declared.Tag.{Tag}
+use Rattle.sides.specs.declared.Lobby.{Lobby}
+use Rattle.sides.specs.Holding.{LobbyIs}
 use Rattle.sides.proofs.Lists.{view-push, view-length, fits-with}
 use Rattle.rows.specs.declared.Output.{Output}
 use Rattle.rows.specs.Layout.{parts, rowsOf, boxesOf, shelfOf, viewBox, viewBoxes, viewPlace, fitsPlace, viewShelf, fitsShelf}
 use Rattle.rows.specs.Stored.{kindOf, nameOf, placed, headPut, sentPut, outputPut, movedTo, valuesPut, inputPut, rowGone, boxPut, shelfPut}
+use Rattle.rows.specs.Sides.{Nothing}
 use Rattle.rows.proofs.Sets.{drop-sets-lt, drop-sets-add, getD-sets-at}
 use Rattle.rows.proofs.Parts.{part-length, parts-past, sets-behind}
 use Rattle.rows.proofs.Reading.{boxes-count, shelf-count}
@@ -114,3 +118,7 @@ module _ (l : List ℕ) (i : ℕ) (x : List ℕ) where
         let p : List ℕ = getD (shelfOf l) i [] in
         ap (λ (y : List (List ℕ)). leb (i + 1) 32 & every fitsPlace (take (i + 1) y)) shelf-places ∙
         fits-with fitsPlace (shelfOf l) 32 (shelf-count l) i (placed p 0 x) h (both _ _ f (placed-fits p x (omega (arith, place-long)) short))
+
+-- NOTHING: no rows, boxes and shelf values, and a lobby y without messages
+pub nothing-is : (y : Lobby) (n : ℕ) (t : List Bool) → LobbyIs [] n true y → t ≡ replicate (32 * length allSides) false → Nothing (record { particles = 0; boxes = 0; shelved = 0; minted = 0; lobby = y; taken = t })
+nothing-is y n t ys te = record { core = λ l. rw (ys .view, te); fits = λ l. both _ _ (both _ _ refl refl) (both _ _ refl (both _ _ (ys .fits refl) (both _ _ refl refl))) }

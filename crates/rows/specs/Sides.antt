@@ -1,11 +1,12 @@
 -- A side of the model: from its words, and the rest of it by value. A state, from the struct.
-use mathlib.Core.Bool.{Bool, cond}
+use mathlib.Core.Path.{_≡_}
+use mathlib.Core.Bool.{Bool, true, cond}
 use mathlib.Core.List.{List, map}
 use mathlib.Core.Option.{Option, none, some}
 use Prim.Native.Nat.{ℕ}
 use lib.Dec.{leb}
 use Rattle.model.specs.Basics.{_&_, every}
-use Rattle.model.specs.Side.{Contents, Core}
+use Rattle.model.specs.Side.{Contents, Core, noSide}
 use Rattle.model.specs.Side.{Side as MSide, State as MState}
 use Rattle.sides.specs.Views.{viewLobby, fitsLobby}
 use Rattle.rows.specs.Layout.{viewRows, viewBoxes, viewShelf, fitsRows, fitsShelf}
@@ -24,6 +25,11 @@ coreOf l o = record { contents = contentsOf l (o .particles) (o .boxes) (o .mint
 -- every count is within its array
 abbrev pub fitsSide : List ℕ → Rest → Bool
 fitsSide l o = fitsRows l (o .particles) & (leb (o .boxes) 16 & (fitsLobby (o .lobby) & fitsShelf l (o .shelved)))
+
+-- the rest r is that of a side that the wrapper lacks, whatever its words are
+pub record Nothing (r : Rest) : Type 0 where
+  pub core : (l : List ℕ) → coreOf l r ≡ noSide .core
+  pub fits : (l : List ℕ) → fitsSide l r ≡ true
 
 -- a side, with its marks
 abbrev pub sideOf : List ℕ → Rest → List Bool → MSide

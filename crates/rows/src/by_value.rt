@@ -1,11 +1,27 @@
-// The rest of a side, with one of its parts put anew.
+// The rest of a side: empty, or with one of its parts put anew.
 ghost use mathlib.Core.Path.{_≡_};
+ghost use Rattle.rows.specs.Sides.{Nothing};
 ghost use Rattle.rows.specs.Puts.{putParticles, putShelved, putLobby, putTaken};
 use crate::Rest;
 use crate::Sides;
 use sides::Lobby;
 
 impl Rest {
+    // Nothing is there, whatever the words are.
+    pub fn empty() -> Self
+        ensures { λ r. ⌜ Nothing r ⌝ }
+    {
+        let lobby = Lobby::empty();
+        Rest {
+            particles: 0,
+            boxes: 0,
+            shelved: 0,
+            minted: 0,
+            lobby,
+            taken: [false; Sides::TAKEN],
+        }
+    }
+
     pub fn with_particles(mut self, n: usize) -> Self
         ensures { λ r. ⌜ r ≡ putParticles self n ⌝ }
     {
