@@ -1,14 +1,15 @@
 -- What load says of a side, and of all sides one after another.
 use mathlib.Core.Path.{_≡_, refl, sym, ap, ap₂, subst, _∙_}
-use mathlib.Core.Bool.{Bool, true, false}
+use mathlib.Core.Logic.{⊎-elim}
+use mathlib.Core.Bool.{Bool, true, false, false≢true}
 use mathlib.Core.List.{List, [], _∷_, map}
 use Prim.Native.Nat.{ℕ, zero, suc, _+_, _<_, _≤_}
 use native.Mathlib.Numerals.{add-one}
 use native.Mathlib.Omega.{arith}
-use borrow.Author.Tests.{eq-eqb, ne-eqb}
+use borrow.Author.Tests.{eq-eqb, ne-eqb, eqb-true}
 use lib.Dec.{eqb, leb}
 use lib.ListN.{length, drop, getD}
-use Rattle.model.specs.Basics.{_&_, choose, Res, refuse, done, isDone}
+use Rattle.model.specs.Basics.{_&_, choose, Res, refuse, done, isDone, has}
 use Rattle.model.specs.Values.{noNames}
 use Rattle.model.specs.Table.{Table, count, term}
 use Rattle.model.specs.Checks.{Fault, fault}
@@ -16,7 +17,7 @@ use Rattle.model.specs.Side.{withinLimits, emptyContents}
 use Rattle.model.specs.Wrapper.{Wrapper, allSides, isWrapper, hasSide}
 use Rattle.model.specs.Load.{Composition, wrapperOf, noTable, start, Loaded, refused, ok, sideFault, lackFault, loadSides, startOf, load}
 use Rattle.model.specs.Load.{table as tableOf}
-use Rattle.model.proofs.Tests.{both}
+use Rattle.model.proofs.Tests.{both, or-cases}
 use Rattle.model.proofs.Counts.{Added, unfolds-adds}
 use Rattle.tables.specs.declared.checks.Verdict.{Verdict}
 use Rattle.tables.specs.declared.checks.Verdict.the-variants as verdict
@@ -29,6 +30,7 @@ use Rattle.scopes.proofs.ScopeBound.{no-fault, passes-checked}
 use Rattle.wrappers.specs.Compositions.{tablesOf, composition}
 use Rattle.loading.specs.declared.Outcome.{Outcome}
 use Rattle.loading.specs.declared.Outcome.the-variants.{Ok, Refused}
+use Rattle.loading.specs.Starting.{Startable}
 use Rattle.loading.specs.Loading.{faultOf, atSide, outcomeOf}
 
 -- A SIDE'S FAULT
@@ -206,3 +208,36 @@ drop-all (x ∷ l) (suc k) h = drop-all l k (omega arith)
 pub turns-end : (b : Composition) (k : ℕ) → length allSides ≤ k → load b ≡ loadSides b (drop k allSides) (started b) → Ok ≡ outcomeOf (load b)
 unfolding loadSides
 turns-end b k h p = sym (ap outcomeOf (p ∙ ap (λ (l : List ℕ). loadSides b l (started b)) (drop-all allSides k h)))
+
+-- WHERE LOAD REFUSES NOTHING, no side has a fault
+ok-sides : (b : Composition) (ns : List ℕ) (k : Loaded) → outcomeOf (loadSides b ns k) ≡ Ok → (loadSides b ns k ≡ k) × ((n : ℕ) → has n ns ≡ true → verdictOf (faultOf (wrapperOf b) n (tableOf b n)) ≡ verdict.Passed)
+unfolding loadSides
+ok-sides b [] k e = (refl, λ n h. absurd (false≢true h))
+ok-sides b (m ∷ ns) k e =
+    let f : Res Fault = faultOf (wrapperOf b) m (tableOf b m) in
+    let p : loadSides b (m ∷ ns) k ≡ walk f m (loadSides b ns k) = load-next b m ns k in
+    let a = walk-ok f m (loadSides b ns k) (ap outcomeOf (sym p) ∙ e) in
+    let r = ok-sides b ns k (ap outcomeOf (sym (p ∙ a .1)) ∙ e) in
+    (p ∙ a .1 ∙ r .0,
+    λ n h. ⊎-elim (λ q. subst (λ (j : ℕ). verdictOf (faultOf (wrapperOf b) j (tableOf b j)) ≡ verdict.Passed) (sym (eqb-true n m q)) (a .0)) (r .1 n) (or-cases (eqb n m) (has n ns) h))
+
+-- what load takes: a known wrapper, and every side that it has passes
+pub record Taken (b : Composition) : Type 0 where
+  pub wrapper : isWrapper (b .wrapper) ≡ true
+  pub loaded : load b ≡ started b
+  pub sides : (n : ℕ) → has n allSides ≡ true → hasSide (wrapperOf b) n ≡ true → Startable n (tableOf b n)
+
+pub taken : (b : Composition) → outcomeOf (load b) ≡ Ok → Taken b
+taken b e = by (isWrapper (b .wrapper)) refl
+  where
+    by : (x : Bool) → isWrapper (b .wrapper) ≡ x → Taken b
+    by true w =
+        let r = ok-sides b allSides (started b) (ap outcomeOf (sym (load-known b w)) ∙ e) in
+        record {
+          wrapper = w;
+          loaded = load-known b w ∙ r .0;
+          sides = λ n h i.
+              let p = side-passed n (tableOf b n) (ap verdictOf (sym (fault-has (wrapperOf b) n (tableOf b n) i)) ∙ r .1 n h) in
+              record { side = h; passes = p .0; few = p .1 };
+        }
+    by false w = let y : Refused 1 0 0 ≡ Ok = load-unknown b w ∙ e in let m : _≡_ {A = ℕ} 0 1 = cc in absurd (omega arith)

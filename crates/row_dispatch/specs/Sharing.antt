@@ -1,14 +1,16 @@
 -- A step at one place of the words of all sides, and the marks of all sides after it.
 use mathlib.Core.Path.{_≡_}
 use mathlib.Core.Bool.{Bool, true}
-use mathlib.Core.List.{List, []}
+use mathlib.Core.List.{List, [], _∷_}
 use Prim.Native.Nat.{ℕ, zero, suc, _<_}
 use lib.ListN.{length, getD, set}
 use Rattle.model.specs.Basics.{Res}
+use Rattle.model.specs.Side.{Side, State}
 use Rattle.model.specs.Wrapper.{allSides}
 use Rattle.model.specs.Step.{Moved, markAll}
 use Rattle.rows.specs.declared.Rest.{Rest}
 use Rattle.rows.specs.Layout.{viewShelf, fitsShelf}
+use Rattle.rows.specs.Sides.{fitsSide, sideOf}
 use Rattle.steps.specs.declared.Said.{Said}
 use Rattle.steps.specs.declared.Said.the-variants as said
 use Rattle.row_steps.specs.declared.RestStep.{RestStep}
@@ -23,6 +25,25 @@ shelvesIn ls ns (suc k) = viewShelf (getD ls k []) (getD ns k 0)
 pub record Shelves (ls : List (List ℕ)) (ns : List ℕ) : Type 0 where
   pub long : (k : ℕ) → k < length allSides → length (getD ls k []) ≡ 5184
   pub fits : (k : ℕ) → k < length allSides → fitsShelf (getD ls k []) (getD ns k 0) ≡ true
+
+-- the sides that are lent: their words, the rests, the marks
+unfoldable pub sidesIn : List (List ℕ) → List Rest → List (List Bool) → List Side
+sidesIn [] os ms = []
+sidesIn (l ∷ ls) [] ms = []
+sidesIn (l ∷ ls) (o ∷ os) [] = []
+sidesIn (l ∷ ls) (o ∷ os) (m ∷ ms) = sideOf l o m ∷ sidesIn ls os ms
+
+-- the state that they are
+abbrev pub stateIn : List (List ℕ) → List Rest → List (List Bool) → State
+stateIn ls os ms = record { sides = sidesIn ls os ms }
+
+-- each of the sides is there, with its words, and every count is within its array
+pub record Lent (ls : List (List ℕ)) (os : List Rest) (ms : List (List Bool)) : Type 0 where
+  pub words : length ls ≡ length allSides
+  pub rests : length os ≡ length allSides
+  pub marks : length ms ≡ length allSides
+  pub long : (k : ℕ) → k < length allSides → length (getD ls k []) ≡ 5184
+  pub fits : (k : ℕ) (d : Rest) → k < length allSides → fitsSide (getD ls k []) (getD os k d) ≡ true
 
 -- the step x of the side at place k with the rest o: the words of the others stay
 pub record AtSide (x : Res Moved) (ls : List (List ℕ)) (k : ℕ) (o : Rest) (ms : List (List ℕ)) (r : RestStep) : Type 0 where
