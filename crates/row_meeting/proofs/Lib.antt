@@ -1,0 +1,7 @@
+pub mod ShortAfter
+pub mod MeetSteps
+pub mod Inputs
+pub mod PairLaws
+pub mod Joining
+pub mod Removing
+pub mod Meetings
