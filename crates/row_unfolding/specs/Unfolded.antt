@@ -9,6 +9,7 @@ use Rattle.model.specs.Values.{Env, at, isPublic, word, substitute}
 use Rattle.model.specs.Table.{Table, field, Term, term}
 use Rattle.model.specs.Side.{Particle, output, Contents}
 use Rattle.model.specs.Unfolding.{tagOf, particlesIn, boxesIn, newNamesIn, unfolds}
+use Rattle.rows.specs.declared.Rest.{Rest}
 use Rattle.rows.specs.Layout.{placesOf, fitsPlace, viewRows, fitsRows}
 use Rattle.rows.specs.Environments.{envOf}
 use Rattle.rows.specs.Sides.{contentsOf}
@@ -25,6 +26,10 @@ oneBox c = record { particles = c .particles; boxes = c .boxes + 1; minted = c .
 
 abbrev pub oneName : Counts → Counts
 oneName c = record { particles = c .particles; boxes = c .boxes; minted = c .minted + 1 }
+
+-- a side's rest with these counts
+abbrev pub putCounts : Rest → Counts → Rest
+putCounts o c = record { particles = c .particles; boxes = c .boxes; shelved = o .shelved; minted = c .minted; lobby = o .lobby; taken = o .taken }
 
 -- what unfolding adds to: the counted particles and boxes of l, and the count of minted names
 abbrev pub counted : List ℕ → Counts → Contents

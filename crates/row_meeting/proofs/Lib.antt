@@ -1,0 +1,6 @@
+pub mod MeetSteps
+pub mod Inputs
+pub mod PairLaws
+pub mod Joining
+pub mod Removing
+pub mod Meetings

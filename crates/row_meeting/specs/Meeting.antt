@@ -1,0 +1,128 @@
+-- What meet is given, and what its functions say of their results. l is a side's words, e an environment in lent words.
+use mathlib.Core.Path.{_≡_}
+use mathlib.Core.Bool.{Bool, true, false, cond}
+use mathlib.Core.List.{List, []}
+use mathlib.Core.Logic.{_⊎_, _≢_}
+use Prim.Native.Nat.{ℕ, _+_, _-_, _<_, _≤_}
+use lib.Dec.{leb, eqb}
+use lib.ListN.{length, getD, drop}
+use Rattle.model.specs.Basics.{_&_, refuse, done}
+use Rattle.model.specs.Values.{Env, Fit, matches, binders, extend, word}
+use Rattle.model.specs.Table.{Table, count, kind, field, Term, term}
+use Rattle.model.specs.Side.{Core}
+use Rattle.model.specs.Unfolding.{tagOf, defined, particlesIn, boxesIn, newNamesIn}
+use Rattle.model.specs.Load.{Setting}
+use Rattle.model.specs.WellFormed.{envAt, wfCore}
+use Rattle.model.specs.WellFormed.{Counts as Minted}
+use Rattle.model.specs.Step.{tagsFit, without, meetParticles, settled}
+use Rattle.tables.specs.Checks.{Passes}
+use Rattle.rows.specs.declared.Rest.{Rest}
+use Rattle.rows.specs.Layout.{rowAt, placesOf, tagIn, fitsPlace, viewRow, viewRows, fitsRows}
+use Rattle.rows.specs.Environments.{envOf}
+use Rattle.rows.specs.Sides.{coreOf, fitsSide}
+use Rattle.environments.specs.Fits.{Fits}
+use Rattle.environments.specs.Inputs.{nodeOf, valuesOf, Waits}
+use Rattle.environments.specs.Long.{longIn}
+use Rattle.environments.specs.Matching.{patternAt}
+use Rattle.steps.specs.declared.Offer.{Offer}
+use Rattle.steps.specs.declared.Offer.the-variants.{At, Refused}
+use Rattle.row_steps.specs.Asked.{channelIn, valueIn}
+use Rattle.row_steps.specs.StepIs.{Sane}
+use Rattle.row_unfolding.specs.declared.Counts.{Counts}
+use Rattle.row_unfolding.specs.Scoped.{Scoped}
+use Rattle.row_meeting.specs.declared.pairs.Joined.{Joined}
+
+-- what meet is given: a table that passes checks 1 to 6, and a side that is well formed for it and some counts of minted names,
+-- its counts within their arrays
+pub record Meetable (t : Table) (side : ℕ) (l : List ℕ) (o : Rest) : Type 0 where
+  pub passes : Passes t
+  pub narrow : side < 65536
+  pub long : length l ≡ 5184
+  pub arrays : fitsSide l o ≡ true
+  pub setting : Setting
+  pub counts : Minted
+  pub table : setting .table ≡ t
+  pub ok : wfCore setting counts (coreOf l o) ≡ true
+
+-- row i of n is an output, and row j an input
+pub record PairAt (l : List ℕ) (n i j : ℕ) : Type 0 where
+  pub held-i : i < n
+  pub held-j : j < n
+  pub out : getD (rowAt l i) 0 0 ≡ 1
+  pub inp : getD (rowAt l j) 0 0 ≢ 1
+
+-- the node of the input j, its environment, its pattern
+abbrev pub nodeAt : List ℕ → ℕ → ℕ
+nodeAt l j = nodeOf (rowAt l j)
+
+abbrev pub inputEnv : Table → List ℕ → ℕ → Env
+inputEnv t l j = envAt t (nodeAt l j) (valuesOf (rowAt l j))
+
+abbrev pub inputPattern : Table → List ℕ → ℕ → List ℕ
+inputPattern t l j = patternAt (t .pool) (field t (nodeAt l j) 3)
+
+-- the output i and the input j, under ρ, are in one box, on one channel, with fitting tags
+abbrev pub fitsAt : Table → List ℕ → (i j : ℕ) → Env → Bool
+fitsAt t l i j ρ =
+    eqb (getD (rowAt l i) 1 0) (getD (rowAt l j) 1 0) & (eqb (channelIn l i) (word ρ (field t (nodeAt l j) 1)) &
+    tagsFit (tagIn (rowAt l i)) (tagOf ρ (field t (nodeAt l j) 2)))
+
+-- row i is an output whose value is within its place, and row j a waiting input
+pub record Joinable (t : Table) (l : List ℕ) (i j : ℕ) : Type 0 where
+  pub row : i < 32
+  pub out : getD (rowAt l i) 0 0 ≡ 1
+  pub value : fitsPlace (getD (placesOf (rowAt l i)) 0 []) ≡ true
+  pub waits : Waits t l j
+  pub kind : 5 ≤ kind t (nodeAt l j)
+
+-- the answer of 15 and 16 for the term a at node n, under ρ
+abbrev pub BodyAnswer : ℕ → Term → Env → Offer → Type 0
+BodyAnswer n a ρ (At k) = (k ≡ n) × (defined a ρ ≡ true) × (longIn a ρ ≡ false)
+BodyAnswer n a ρ (Refused x) = ((x ≡ 15) × (defined a ρ ≡ false)) ⊎ ((x ≡ 16) × (defined a ρ ≡ true) × (longIn a ρ ≡ true))
+
+-- the body at node n unfolds under the first d names of e
+pub record Joins (t : Table) (l : List ℕ) (i j n : ℕ) (e : List ℕ) (d : ℕ) : Type 0 where
+  pub body : n ≡ field t (nodeAt l j) 4
+  pub fits : fitsAt t l i j (inputEnv t l j) ≡ true
+  pub fit : Fit
+  pub matched : matches (inputPattern t l j) 1 (valueIn l i) ≡ done fit
+  pub env : envOf e d ≡ extend (inputEnv t l j) (binders (inputPattern t l j)) (fit .bound)
+  pub words : Fits e d
+  pub scoped : Scoped t n d
+  pub is-defined : defined (term t n) (envOf e d) ≡ true
+  pub short : longIn (term t n) (envOf e d) ≡ false
+
+-- the answer of 13 to 16: the model refuses with the number, whatever else the side holds; or the body unfolds
+abbrev pub Joining : Table → List ℕ → (i j : ℕ) → List ℕ → ℕ → Offer → Type 0
+Joining t l i j e d (At n) = Joins t l i j n e d
+Joining t l i j e d (Refused x) = (c : Setting) → c .table ≡ t → (s : Core) → settled (meetParticles c s i j (viewRow (rowAt l i)) (viewRow (rowAt l j))) ≡ refuse x
+
+-- r is that answer, with the environment in e
+pub record JoinedIs (t : Table) (l : List ℕ) (i j : ℕ) (e : List ℕ) (r : Joined) : Type 0 where
+  pub is : Joining t l i j e (r .names) (r .offer)
+
+-- r is whether the limits are kept
+pub record RoomIs (t : Table) (n particles boxes minted : ℕ) (r : Bool) : Type 0 where
+  pub is : Passes t → n < count t → r ≡ leb (particles + particlesIn (term t n)) 32 & (leb (boxes + boxesIn (term t n)) 16 & leb (minted + newNamesIn (term t n)) 256)
+
+-- two rows of n
+pub record Apart (l : List ℕ) (n i j : ℕ) : Type 0 where
+  pub long : length l ≡ 5184
+  pub few : n ≤ 32
+  pub held-i : i < n
+  pub held-j : j < n
+  pub other : i ≢ j
+
+-- m is l without the output i of n rows, and without the input j unless it is replicated; the words behind the rows stay
+pub record RowsLeft (replicated : Bool) (l : List ℕ) (n i j : ℕ) (m : List ℕ) : Type 0 where
+  pub view : viewRows m (n - cond replicated 1 2) ≡ without replicated (viewRows l n) i j
+  pub fits : fitsRows l n ≡ true → fitsRows m (n - cond replicated 1 2) ≡ true
+  pub behind : drop 4608 m ≡ drop 4608 l
+  pub long : length m ≡ length l
+
+-- what the pair is given
+pub record MeetablePair (t : Table) (side : ℕ) (l : List ℕ) (o : Rest) (i j : ℕ) : Type 0 where
+  pub narrow : side < 65536
+  pub sane : Sane l o
+  pub pair : PairAt l (o .particles) i j
+  pub joinable : Joinable t l i j

@@ -1,0 +1,54 @@
+// The rows that go, the limits, and the counts after.
+ghost use mathlib.Core.Path.{_≡_};
+ghost use mathlib.Core.Bool.{cond};
+ghost use mathlib.Core.List.{List};
+ghost use Prim.Native.Nat.{ℕ, _-_, _≤_};
+ghost use Rattle.tables.specs.Nodes.{table};
+ghost use Rattle.row_meeting.specs.Meeting.{Apart, RowsLeft, RoomIs};
+use rows::remove_row;
+use scopes::unfolded::unfolded_at;
+use sides::Side;
+
+// How many of n rows are left when an output and, unless it is replicated, an input go.
+pub(crate) fn rows_left(n: usize, replicated: bool) -> usize
+    requires { ⌜ 2 ≤ n ⌝ }
+    ensures { λ r. ⌜ r ≡ n - cond replicated 1 2 ⌝ }
+{
+    if replicated {
+        return n - 1;
+    }
+    n - 2
+}
+
+// Whether the limits are kept where the body at node n unfolds beside so many particles, boxes and minted names.
+pub(crate) fn has_room(
+    nodes: &[u32],
+    n: usize,
+    particles: usize,
+    boxes: usize,
+    minted: usize,
+) -> bool
+    requires { ⌜ (particles ≤ 32) × (boxes ≤ 16) × (minted ≤ 256) ⌝ }
+    ensures { λ r. ⌜ ((pool : List ℕ) → RoomIs (table (now (nodes .entry)) pool) n particles boxes minted r) ⌝ }
+{
+    let u = unfolded_at(nodes, n);
+    Side::contents_within(particles + u.particles, boxes + u.boxes, minted + u.names)
+}
+
+// The output i of n rows goes, and the input j unless it is replicated.
+pub(crate) fn remove_pair(rows: &mut [u32], n: usize, replicated: bool, i: usize, j: usize)
+    requires { ⌜ Apart (now rows) n i j ⌝ }
+    ensures { λ _. ⌜ RowsLeft replicated (now (rows .entry)) n i j (now (rows .exit)) ⌝ }
+{
+    if replicated {
+        remove_row(rows, i, n);
+        return;
+    }
+    if i < j {
+        let k = remove_row(rows, j, n);
+        remove_row(rows, i, k);
+        return;
+    }
+    let k = remove_row(rows, i, n);
+    remove_row(rows, j, k);
+}
