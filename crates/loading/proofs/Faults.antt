@@ -217,9 +217,10 @@ ok-sides b (m ∷ ns) k e =
     let f : Res Fault = faultOf (wrapperOf b) m (tableOf b m) in
     let p : loadSides b (m ∷ ns) k ≡ walk f m (loadSides b ns k) = load-next b m ns k in
     let a = walk-ok f m (loadSides b ns k) (ap outcomeOf (sym p) ∙ e) in
-    let r = ok-sides b ns k (ap outcomeOf (sym (p ∙ a .1)) ∙ e) in
-    (p ∙ a .1 ∙ r .0,
-    λ n h. ⊎-elim (λ q. subst (λ (j : ℕ). verdictOf (faultOf (wrapperOf b) j (tableOf b j)) ≡ verdict.Passed) (sym (eqb-true n m q)) (a .0)) (r .1 n) (or-cases (eqb n m) (has n ns) h))
+    let r = ok-sides b ns k (ap outcomeOf (sym (p ∙ a .1)) ∙ e) in (
+      p ∙ a .1 ∙ r .0,
+      λ n h. ⊎-elim (λ q. subst (λ (j : ℕ). verdictOf (faultOf (wrapperOf b) j (tableOf b j)) ≡ verdict.Passed) (sym (eqb-true n m q)) (a .0)) (r .1 n) (or-cases (eqb n m) (has n ns) h),
+    )
 
 -- what load takes: a known wrapper, and every side that it has passes
 pub record Taken (b : Composition) : Type 0 where

@@ -22,6 +22,7 @@ use Rattle.model.proofs.Invariant.{core-short}
 use Rattle.model.proofs.Starts.{start-side}
 use Rattle.scopes.proofs.ScopeBound.{passes-checked}
 use Rattle.rows.specs.declared.Rest.{Rest}
+use Rattle.rows.specs.Layout.{viewBoxes}
 use Rattle.rows.specs.Stored.{boxPut}
 use Rattle.rows.specs.Sides.{coreOf, fitsSide, Nothing}
 use Rattle.rows.proofs.Storing.{box-length}
@@ -82,18 +83,19 @@ can-start i t l e h long wide =
     }
 
 -- the side that it then is
-pub start-is : (i : ℕ) (t : Table) (l e f m : List ℕ) (u : c.Counts) (o r : Rest) → Startable i t → length l ≡ 5184 → UnfoldedIs i (term t 0) 0 e 0 (boxPut l 0 0 0) first f m u → Nothing o → r ≡ putCounts o u → StartIs i t m r
+pub start-is : (i : ℕ) (t : Table) (l w e f m : List ℕ) (u : c.Counts) (o r : Rest) → Startable i t → length l ≡ 5184 → w ≡ boxPut l 0 0 0 → UnfoldedIs i (term t 0) 0 e 0 w first f m u → Nothing o → r ≡ putCounts o u → StartIs i t m r
 unfolding start
-start-is i t l e f m u o r h long is none z =
-    let w : List ℕ = boxPut l 0 0 0 in
-    let from : counted w first ≡ emptyContents = ap (λ (b : List Box). record { particles = []; boxes = b; minted = 0 }) (box-view l 0 0 0 long (omega arith)) in
+start-is i t l w e f m u o r h long we is none z =
+    let from : counted w first ≡ emptyContents = ap (λ (b : List Box). record { particles = []; boxes = b; minted = 0 }) (ap (λ (x : List ℕ). viewBoxes x 1) we ∙ box-view l 0 0 0 long (omega arith)) in
     let to : counted m u ≡ start i t = is .view ∙ ap (unfolds i (term t 0) noNames 0) from in
     let old = none .core m in
-    let few : u .boxes ≤ 16 = let d = start-added i t in omega (arith, is .boxes, d .boxes, leb-true _ _ (fst _ _ (snd _ _ (h .few)))) in
+    let d = start-added i t in
+    let few-boxes : length (start i t .boxes) ≤ 16 = leb-true _ _ (fst _ _ (snd _ _ (h .few))) in
+    let few : u .boxes ≤ 16 = omega (arith, is .boxes, d .boxes) in
     record {
       core = ap (coreOf m) z ∙ same-core to (ap (λ (c : Core). c .lobby) old) (ap (λ (c : Core). c .shelf) old) (ap (λ (c : Core). c .taken) old);
       arrays = ap (fitsSide m) z ∙ both _ _ (is .fits) (both _ _ (le-leb (u .boxes) 16 few) (snd _ _ (snd _ _ (none .fits m))));
-      long = is .long ∙ box-length l 0 0 0 ∙ long;
+      long = is .long ∙ ap length we ∙ box-length l 0 0 0 ∙ long;
     }
   where
     same-core : {c d : Contents} {x y : List Message} {a b : List (List ℕ)} {p q : List Bool} → c ≡ d → x ≡ y → a ≡ b → p ≡ q →

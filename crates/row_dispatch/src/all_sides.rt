@@ -1,11 +1,11 @@
 // A step where the words and the marks of all sides are lent: the words of the side that makes it change, and no others.
 ghost use mathlib.Core.Path.{_≡_};
+ghost use mathlib.Core.Bool.{Bool};
 ghost use mathlib.Core.List.{List, []};
-ghost use Prim.Native.Nat.{ℕ, _+_, _-_, _<_};
-ghost use lib.ListN.{length, getD, set};
+ghost use Prim.Native.Nat.{ℕ, _-_, _<_, _≤_};
+ghost use lib.ListN.{length, getD};
 ghost use Rattle.model.specs.Wrapper.{allSides};
-ghost use Rattle.model.specs.Load.{Setting};
-ghost use Rattle.model.specs.Step.{local, marks, settled};
+ghost use Rattle.model.specs.Step.{local, settled};
 ghost use Rattle.values.specs.Env.{viewValue};
 ghost use Rattle.rows.specs.Sides.{coreOf};
 ghost use Rattle.row_steps.specs.Asked.{knownBy};
@@ -87,7 +87,19 @@ pub fn side_step(
     if kind == 8 {
         return taking(wrapper, side, rows, k, shelved, o, i, j, words);
     }
-    own_step(wrapper, nodes, pool, side, &mut rows[k], marks, o, kind, i, j, words)
+    own_step(
+        wrapper,
+        nodes,
+        pool,
+        side,
+        &mut rows[k],
+        marks,
+        o,
+        kind,
+        i,
+        j,
+        words,
+    )
 }
 
 // The marks of a side after what it said: the minted names of a value that left are marked. The caller has seen that v fits its array.
