@@ -1,33 +1,33 @@
 -- The state that the lent words, the rests and the marks of all sides are, and a side's step in it.
 use mathlib.Core.Path.{_≡_, refl, sym, ap, ap₂, subst, _∙_, fun-ext}
-use mathlib.Core.Bool.{Bool, true, false, _||_}
+use mathlib.Core.Bool.{Bool, true, false, _||_, false≢true}
 use mathlib.Core.List.{List, [], _∷_, map}
-use Prim.Native.Nat.{ℕ, zero, suc, _+_, _-_, _<_, _≤_}
+use Prim.Native.Nat.{ℕ, zero, suc, _-_, _<_, _≤_}
 use native.Mathlib.Omega.{arith}
-use lib.ListN.{length, getD, set, length-set}
-use Rattle.model.specs.Basics.{_&_, Res, refuse, done, oneOf}
+use lib.ListN.{length, getD, set}
+use lib.Seq.{set-getD}
+use Rattle.model.specs.Basics.{Res, refuse, done, oneOf}
 use Rattle.model.specs.Table.{Table}
 use Rattle.model.specs.Side.{Core, Side, State, noSide, side, putSide}
-use Rattle.model.specs.Wrapper.{allSides, described, hasSide}
-use Rattle.model.specs.Load.{Composition, wrapperOf, Setting, setting}
+use Rattle.model.specs.Wrapper.{allSides}
+use Rattle.model.specs.Load.{Composition, wrapperOf, setting}
 use Rattle.model.specs.Load.{table as tableOf}
-use Rattle.model.specs.WellFormed.{shelfOf, ready}
-use Rattle.model.specs.Step.{Label, silent, enters, leaves, Step, Moved, settled, local, marked, marks, known, answerOf, sideAfter, Result, step}
-use Rattle.model.proofs.Tests.{snd}
+use Rattle.model.specs.WellFormed.{shelfOf}
+use Rattle.model.specs.Step.{Label, silent, enters, leaves, Step, Moved, settled, local, takes, marked, marks, markAll, known, sideAfter}
 use Rattle.values.specs.Env.{viewValue}
 use Rattle.tables.specs.Nodes as slices
 use Rattle.rows.specs.declared.Rest.{Rest}
-use Rattle.rows.specs.Layout.{fitsShelf}
+use Rattle.rows.specs.Layout.{viewShelf, fitsShelf}
 use Rattle.rows.specs.Sides.{coreOf, fitsSide, sideOf}
 use Rattle.steps.specs.declared.Said.{Said}
 use Rattle.steps.specs.declared.Said.the-variants as said
 use Rattle.steps.specs.StepIs.{labelOf}
 use Rattle.row_steps.specs.declared.RestStep.{RestStep}
-use Rattle.row_steps.specs.Asked.{knownBy}
+use Rattle.row_steps.specs.Asked.{Source, knownBy}
 use Rattle.row_steps.specs.StepIs.{StepIs}
 use Rattle.row_steps.proofs.Held.{side-shelf}
 use Rattle.row_dispatch.specs.Stepping.{settingOf}
-use Rattle.row_dispatch.specs.Sharing.{shelvesIn, Shelves, sidesIn, stateIn, Lent, AtSide, markedBy, MarkedAt}
+use Rattle.row_dispatch.specs.Sharing.{shelvesIn, Shelves, sidesIn, stateIn, Lent, AtSide, isOut, markedBy, MarkedAt}
 
 -- a side that is not there would have this rest
 module _ (d : Rest) where
@@ -154,3 +154,41 @@ side-after (done d) l o m w r h = same (h .is .core) (marks-by (r .said) (d .lab
   where
     same : {a b : Core} {p q : List Bool} → a ≡ b → p ≡ q → _≡_ {A = Side} (record { core = a; left = p }) (record { core = b; left = q })
     same p q = rw (p, q)
+
+-- A STEP AT ITS PLACE of the words of all sides: no word changes, or the words y come back
+module _ (x : List ℕ → Res Moved) (ls : List (List ℕ)) (k m : ℕ) (same : k ≡ m) (o : Rest) (r : RestStep) where
+  pub at-still : StepIs (x (getD ls k [])) (getD ls k []) o (getD ls k []) r → AtSide (x (getD ls m [])) ls m o ls r
+  at-still h = record {
+    words = getD ls m [];
+    others = sym (set-getD ls m []);
+    step = subst (λ (j : ℕ). StepIs (x (getD ls j [])) (getD ls j []) o (getD ls j []) r) same h;
+  }
+
+  pub at-moved : (y : List ℕ) → StepIs (x (getD ls k [])) (getD ls k []) o y r → AtSide (x (getD ls m [])) ls m o (set ls k y) r
+  at-moved y h = record { words = y; others = ap (λ (j : ℕ). set ls j y) same; step = subst (λ (j : ℕ). StepIs (x (getD ls j [])) (getD ls j []) o y r) same h }
+
+-- the shelf of a source, and a take from it
+shelves-at : (ls : List (List ℕ)) (ns : List ℕ) (m : ℕ) → 0 < m → shelvesIn ls ns m ≡ viewShelf (getD ls (m - 1) []) (getD ns (m - 1) 0)
+shelves-at ls ns zero h = absurd (omega arith)
+shelves-at ls ns (suc k) h = let z : suc k - 1 ≡ k = omega arith in ap (λ (j : ℕ). viewShelf (getD ls j []) (getD ns j 0)) (sym z)
+
+pub take-is : (ls : List (List ℕ)) (ns : List ℕ) (m w p : ℕ) (s : Core) (i : ℕ) → w ≡ m → p ≡ m - 1 → 0 < m → settled (takes m (shelvesIn ls ns m) s i) ≡ settled (takes w (viewShelf (getD ls p []) (getD ns p 0)) s i)
+take-is ls ns m w p s i e q h =
+    ap (λ (sh : List (List ℕ)). settled (takes m sh s i)) (shelves-at ls ns m h ∙ ap (λ (j : ℕ). viewShelf (getD ls j []) (getD ns j 0)) (sym q)) ∙
+    ap (λ (j : ℕ). settled (takes j (viewShelf (getD ls p []) (getD ns p 0)) s i)) (sym e)
+
+pub source-is : (ls : List (List ℕ)) (ns : List ℕ) (m w p : ℕ) → Shelves ls ns → w ≡ m → p ≡ m - 1 → 0 < m → m ≤ length allSides → Source w (getD ls p []) (getD ns p 0)
+source-is ls ns m w p s e q h t = let z : p < length allSides = omega arith in record { first = omega arith; last = omega arith; long = s .long p z; fits = s .fits p z }
+
+-- MARKS after what is said
+pub marked-out : (s : Said) (v : List ℕ) (ls : List (List Bool)) (k m : ℕ) (y : List Bool) → isOut s ≡ true → k ≡ m → y ≡ markAll (getD ls k []) v → MarkedAt s v ls m (set ls k y)
+marked-out said.In v ls k m y e same q = absurd (false≢true e)
+marked-out said.Out v ls k m y e same q = record { is = ap (set ls k) q ∙ ap (λ (j : ℕ). set ls j (markAll (getD ls j []) v)) same }
+marked-out said.Silent v ls k m y e same q = absurd (false≢true e)
+marked-out (said.Refused n) v ls k m y e same q = absurd (false≢true e)
+
+pub marked-not : (s : Said) (v : List ℕ) (ls : List (List Bool)) (m : ℕ) → isOut s ≡ false → MarkedAt s v ls m ls
+marked-not said.In v ls m e = record { is = sym (set-getD ls m []) }
+marked-not said.Out v ls m e = absurd (false≢true (sym e))
+marked-not said.Silent v ls m e = record { is = sym (set-getD ls m []) }
+marked-not (said.Refused n) v ls m e = record { is = sym (set-getD ls m []) }

@@ -1,6 +1,6 @@
 -- A step at one place of the words of all sides, and the marks of all sides after it.
 use mathlib.Core.Path.{_≡_}
-use mathlib.Core.Bool.{Bool, true}
+use mathlib.Core.Bool.{Bool, true, false}
 use mathlib.Core.List.{List, [], _∷_}
 use Prim.Native.Nat.{ℕ, zero, suc, _<_}
 use lib.ListN.{length, getD, set}
@@ -50,6 +50,13 @@ pub record AtSide (x : Res Moved) (ls : List (List ℕ)) (k : ℕ) (o : Rest) (m
   pub words : List ℕ
   pub others : ms ≡ set ls k words
   pub step : StepIs x (getD ls k []) o words r
+
+-- what is said is that a value left
+abbrev pub isOut : Said → Bool
+isOut said.In = false
+isOut said.Out = true
+isOut said.Silent = false
+isOut (said.Refused n) = false
 
 -- a side's marks after what is said with the words v
 abbrev pub markedBy : Said → List ℕ → List Bool → List Bool

@@ -11,7 +11,7 @@ ghost use Rattle.rows.specs.Sides.{coreOf};
 ghost use Rattle.row_steps.specs.Asked.{knownBy};
 ghost use Rattle.row_steps.specs.StepIs.{Sane, StepIs};
 ghost use Rattle.row_dispatch.specs.Stepping.{settingOf, asked, OwnReady};
-ghost use Rattle.row_dispatch.specs.Sharing.{shelvesIn, Shelves, AtSide, MarkedAt};
+ghost use Rattle.row_dispatch.specs.Sharing.{shelvesIn, Shelves, AtSide, isOut, MarkedAt};
 use crate::own_side::own_step;
 use row_steps::RestStep;
 use row_steps::mark_all;
@@ -102,13 +102,25 @@ pub fn side_step(
     )
 }
 
+// Whether what is said is that a value left.
+fn is_out(said: Said) -> bool
+    ensures { λ r. ⌜ r ≡ isOut said ⌝ }
+{
+    match said {
+        Said::In => false,
+        Said::Out => true,
+        Said::Silent => false,
+        Said::Refused(_) => false,
+    }
+}
+
 // The marks of a side after what it said: the minted names of a value that left are marked. The caller has seen that v fits its array.
 pub fn mark_left(marks: &mut [[bool; Sides::MARKS]; Sides::COUNT], side: u32, said: Said, v: Value)
     requires { ⌜ (length (now marks) ≡ length allSides) × (0 < side) × (side - 1 < length allSides) × (v .len ≤ 16) ⌝ }
     ensures { λ _. ⌜ MarkedAt said (viewValue v) (now (marks .entry)) (side - 1) (now (marks .exit)) ⌝ }
 {
     let k = place_of(side);
-    if let Said::Out = said {
+    if is_out(said) {
         mark_all(&mut marks[k], v);
     }
 }

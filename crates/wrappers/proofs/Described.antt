@@ -1,14 +1,16 @@
 -- The wrappers' descriptions at their numbers: a law for each way that the code goes.
 use mathlib.Core.Path.{_≡_, refl, sym, ap, _∙_}
-use mathlib.Core.Bool.{Bool, true, false, cond, _||_}
-use Prim.Native.Nat.{ℕ}
+use mathlib.Core.Bool.{Bool, true, false, cond, _||_, false≢true}
+use Prim.Native.Nat.{ℕ, _<_, _≤_}
+use native.Mathlib.Omega.{arith}
 use borrow.Author.Tests.{eq-eqb, ne-eqb, eqb-true, eqb-false}
 use lib.Dec.{eqb}
-use Rattle.model.specs.Basics.{_&_, _or_, choose}
-use Rattle.model.specs.Wrapper.{Wrapper, filter, isWrapper, described, hasSide, shelves, takesAny}
+use lib.ListN.{length}
+use Rattle.model.specs.Basics.{_&_, _or_, choose, refuse, done, has}
+use Rattle.model.specs.Wrapper.{allSides, filter, isWrapper, described, hasSide, shelves, takesAny}
 use Rattle.model.specs.Step.{routeTo}
 use Rattle.wrappers.specs.declared.Source.the-variants.{Side, Nowhere}
-use Rattle.wrappers.specs.Routes.{sourceFor}
+use Rattle.wrappers.specs.Routes.{sourceBy, sourceFor}
 
 alone : (x : Bool) → x ≡ x || false
 alone true = refl
@@ -85,3 +87,34 @@ module _ (w : ℕ) where
     pub other-taker : (n ≡ 2 → ⊥) → (j : ℕ) → Nowhere ≡ sourceFor (described w) n j
     unfolding routeTo choose _&_
     other-taker p j = let z : eqb 2 n ≡ false = ne-eqb 2 n (λ r. p (sym r)) in rw (e, z) refl
+
+-- the pipeline's one route
+first-only : (m : ℕ) (x : Bool) → Side m ≡ sourceBy (choose x (done (record { source = 1; receiver = 2; j = 0 })) (refuse 10)) → m ≡ 1
+unfolding choose
+first-only m true q = let z : m ≡ 1 = cc in z
+first-only m false q = let z : _≡_ {A = ℕ} 0 1 = cc in absurd (omega arith)
+
+pipe-source : (w n j : ℕ) → w ≡ 2 → sourceFor (described w) n j ≡ sourceBy (choose (eqb 2 n & eqb 0 j) (done (record { source = 1; receiver = 2; j = 0 })) (refuse 10))
+unfolding routeTo
+pipe-source w n j e = ap (λ (x : ℕ). sourceFor (described x) n j) e
+
+-- a source is one of the sides
+pub source-in : (w n j m : ℕ) → Side m ≡ sourceFor (described w) n j → (0 < m) × (m ≤ length allSides)
+source-in w n j m p = by (eqb w 2) refl
+  where
+    by : (x : Bool) → eqb w 2 ≡ x → (0 < m) × (m ≤ length allSides)
+    by true e = let z : m ≡ 1 = first-only m (eqb 2 n & eqb 0 j) (p ∙ pipe-source w n j (eqb-true w 2 e)) in (omega arith, omega arith)
+    by false e = let y : Side m ≡ Nowhere = p ∙ sym (no-source w (eqb-false w 2 e) n j) in let z : _≡_ {A = ℕ} 0 1 = cc in absurd (omega arith)
+
+-- a side that a wrapper has is one of the sides
+pub has-in : (w n : ℕ) → hasSide (described w) n ≡ true → has n allSides ≡ true
+has-in w n p = by (eqb w 1) refl (eqb w 2) refl
+  where
+    one : (x y : Bool) → x || false ≡ true → x || (y || false) ≡ true
+    one true y q = refl
+    one false y q = absurd (false≢true q)
+
+    by : (x : Bool) → eqb w 1 ≡ x → (y : Bool) → eqb w 2 ≡ y → has n allSides ≡ true
+    by true e y f = one (eqb n 1) (eqb n 2) (sym (ap (λ (v : ℕ). hasSide (described v) n) (eqb-true w 1 e)) ∙ p)
+    by false e true f = sym (ap (λ (v : ℕ). hasSide (described v) n) (eqb-true w 2 f)) ∙ p
+    by false e false f = absurd (false≢true (no-sides w (eqb-false w 2 f) n (eqb-false w 1 e) ∙ p))

@@ -1,35 +1,59 @@
+use Rattle.model.specs.Step.{enter, local, settled}
+use Rattle.rows.specs.Sides.{coreOf}
+use Rattle.row_steps.specs.Asked.{knownBy}
+use Rattle.row_steps.proofs.Held.{refused-is}
+use Rattle.row_dispatch.specs.Stepping.{asked}
+use Rattle.row_dispatch.proofs.ByKind.{step-by, enter-on, enter-i, enter-j}
 use borrow.Author.Needs.{needs}
 use Rattle.row_dispatch.proofs.own_side.entering.Statement.{statement}
 use Rattle.row_dispatch.proofs.own_side.entering.Tie as tie
-use Rattle.row_dispatch.proofs.own_side.entering.Reads as reads
-use Rattle.row_dispatch.proofs.own_side.entering.Lts as lts
-use Rattle.row_steps.proofs.RestStep.plain.Reads as plain-reads
-use Rattle.row_steps.proofs.enter.Reads as enter-reads
 
--- src/own_side.rt:87:13
-enter-requires : tie.Need-enter-requires
-enter-requires c κs = search needs
-
--- src/own_side.rt:87:13
 returns : tie.Need-returns
-returns c = ?
+returns c =
+    λ b sh n.
+    let x = c .before .before .before .before .before in
+    let l = x .args .rows .now in
+    let o = x .args .o in
+    let i = x .args .i in
+    let j = x .args .j in
+    let ws = x .args .words .now in
+    let f = knownBy (x .args .marks .now) in
+    let s = coreOf l o in
+    step-by (settled (local b f sh s (asked 1 n i j ws))) (settled (enter f s ws)) l o _ _ (enter-on b f sh s n i j ws (c .before .before .if1 .taken) (c .before .if2 .taken)) (c .enter .ensures)
 
--- src/own_side.rt:89:9
-plain-requires : tie.Need-plain-requires
-plain-requires c κs = search needs
-
--- src/own_side.rt:89:9
 returns-2 : tie.Need-returns-2
-returns-2 c = ?
+returns-2 c =
+    λ b sh n.
+    let x = c .before .before .before .before .before in
+    let l = x .args .rows .now in
+    let o = x .args .o in
+    let i = x .args .i in
+    let j = x .args .j in
+    let ws = x .args .words .now in
+    let f = knownBy (x .args .marks .now) in
+    let s = coreOf l o in
+    refused-is _ l o 10 _ (enter-j b f sh s n i j ws (c .before .before .if1 .taken) (c .before .if2 .left)) (c .plain .ensures)
 
--- src/own_side.rt:91:5
-plain-requires-2 : tie.Need-plain-requires-2
-plain-requires-2 c κs = search needs
-
--- src/own_side.rt:74:1
 returns-3 : tie.Need-returns-3
-returns-3 c = ?
+returns-3 c =
+    λ b sh n.
+    let x = c .before .before .before .before in
+    let l = x .args .rows .now in
+    let o = x .args .o in
+    let i = x .args .i in
+    let j = x .args .j in
+    let ws = x .args .words .now in
+    let f = knownBy (x .args .marks .now) in
+    let s = coreOf l o in
+    refused-is _ l o 10 _ (enter-i b f sh s n i j ws (c .before .if1 .left)) (c .plain2 .ensures)
 
 pub entering-spec : {M : Type 1} → statement M
 entering-spec =
-    tie.close (tie.spec enter-requires returns plain-requires returns-2 plain-requires-2 returns-3)
+    tie.close
+    (tie.spec
+    (λ c κs. search needs)
+    returns
+    (λ c κs. search needs)
+    returns-2
+    (λ c κs. search needs)
+    returns-3)

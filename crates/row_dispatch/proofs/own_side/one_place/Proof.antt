@@ -1,85 +1,82 @@
+use Rattle.model.specs.Step.{goDown, up, pass, leave, settled}
+use Rattle.rows.specs.Sides.{coreOf}
+use Rattle.row_steps.proofs.Held.{refused-is}
+use Rattle.row_dispatch.specs.Stepping.{onePlace}
+use Rattle.row_dispatch.proofs.ByKind.{step-by, one-down, one-up, one-pass, one-leave, one-none}
 use borrow.Author.Needs.{needs}
 use Rattle.row_dispatch.proofs.own_side.one_place.Statement.{statement}
 use Rattle.row_dispatch.proofs.own_side.one_place.Tie as tie
-use Rattle.row_dispatch.proofs.own_side.one_place.Reads as reads
-use Rattle.row_dispatch.proofs.own_side.one_place.Lts as lts
-use Rattle.row_steps.proofs.RestStep.plain.Reads as plain-reads
-use Rattle.row_steps.proofs.down.Reads as down-reads
-use Rattle.row_steps.proofs.leave.Reads as leave-reads
-use Rattle.row_steps.proofs.pass.Reads as pass-reads
-use Rattle.row_steps.proofs.up.Reads as up-reads
 
--- src/own_side.rt:32:9
-down-requires : tie.Need-down-requires
-down-requires c κs = search needs
-
--- src/own_side.rt:32:9
-same-length : tie.Need-same-length
-same-length c = search needs
-
--- src/own_side.rt:32:9
 returns : tie.Need-returns
-returns c = ?
+returns c =
+    λ b e.
+    let x = c .before .before .before .before .before .before in
+    let l = x .args .rows .now in
+    let o = x .args .o in
+    let i = x .args .i in
+    let k = x .args .kind in
+    let s = coreOf l o in
+    step-by (settled (onePlace b s k i)) (settled (goDown s i)) l o _ _ (one-down b s k i (c .before .before .before .before .if1 .taken)) (c .before .before .down .ensures)
 
--- src/own_side.rt:35:9
-up-requires : tie.Need-up-requires
-up-requires c κs = search needs
-
--- src/own_side.rt:35:9
-same-length-2 : tie.Need-same-length-2
-same-length-2 c = search needs
-
--- src/own_side.rt:35:9
 returns-2 : tie.Need-returns-2
-returns-2 c = ?
+returns-2 c =
+    λ b e.
+    let x = c .before .before .before .before .before .before .before in
+    let l = x .args .rows .now in
+    let o = x .args .o in
+    let i = x .args .i in
+    let k = x .args .kind in
+    let s = coreOf l o in
+    step-by (settled (onePlace b s k i)) (settled (up b s i)) l o _ _ (one-up b s k i (c .before .before .before .before .if2 .taken)) (c .before .before .up .ensures b e)
 
--- src/own_side.rt:38:9
-pass-requires : tie.Need-pass-requires
-pass-requires c κs = search needs
-
--- src/own_side.rt:38:9
-same-length-3 : tie.Need-same-length-3
-same-length-3 c = search needs
-
--- src/own_side.rt:38:9
 returns-3 : tie.Need-returns-3
-returns-3 c = ?
+returns-3 c =
+    λ b e.
+    let x = c .before .before .before .before .before .before in
+    let l = x .args .rows .now in
+    let o = x .args .o in
+    let i = x .args .i in
+    let k = x .args .kind in
+    let s = coreOf l o in
+    step-by (settled (onePlace b s k i)) (settled (pass s i)) l o _ _ (one-pass b s k i (c .before .before .if3 .taken)) (c .pass .ensures)
 
--- src/own_side.rt:41:9
-leave-requires : tie.Need-leave-requires
-leave-requires c κs = search needs
-
--- src/own_side.rt:41:9
-same-length-4 : tie.Need-same-length-4
-same-length-4 c = search needs
-
--- src/own_side.rt:41:9
 returns-4 : tie.Need-returns-4
-returns-4 c = ?
+returns-4 c =
+    λ b e.
+    let x = c .before .before .before .before .before .before .before in
+    let l = x .args .rows .now in
+    let o = x .args .o in
+    let i = x .args .i in
+    let k = x .args .kind in
+    let s = coreOf l o in
+    step-by (settled (onePlace b s k i)) (settled (leave s i)) l o _ _ (one-leave b s k i (c .before .before .if4 .taken)) (c .leave .ensures)
 
--- src/own_side.rt:43:5
-plain-requires : tie.Need-plain-requires
-plain-requires c κs = search needs
-
--- src/own_side.rt:27:1
 returns-5 : tie.Need-returns-5
-returns-5 c = ?
+returns-5 c =
+    λ b e.
+    let x = c .before .before .before .before .before .before in
+    let l = x .args .rows .now in
+    let o = x .args .o in
+    let i = x .args .i in
+    let k = x .args .kind in
+    let s = coreOf l o in
+    refused-is _ l o 10 _ (one-none b s k i (c .before .before .before .before .if1 .left) (c .before .before .before .if2 .left) (c .before .before .if3 .left) (c .before .if4 .left)) (c .plain .ensures)
 
 pub one-place-spec : {M : Type 1} → statement M
 one-place-spec =
     tie.close
     (tie.spec
-    down-requires
-    same-length
+    (λ c κs. search needs)
+    (λ c. search needs)
     returns
-    up-requires
-    same-length-2
+    (λ c κs. search needs)
+    (λ c. search needs)
     returns-2
-    pass-requires
-    same-length-3
+    (λ c κs. search needs)
+    (λ c. search needs)
     returns-3
-    leave-requires
-    same-length-4
+    (λ c κs. search needs)
+    (λ c. search needs)
     returns-4
-    plain-requires
+    (λ c κs. search needs)
     returns-5)

@@ -1,75 +1,98 @@
+use mathlib.Core.Path.{refl, sym}
+use Rattle.model.specs.Step.{descend, meet, settled}
+use Rattle.rows.specs.Sides.{coreOf}
+use Rattle.row_steps.proofs.Held.{refused-is}
+use Rattle.row_dispatch.specs.Stepping.{settingOf, onePlace, twoPlaces}
+use Rattle.row_dispatch.proofs.ByKind.{own-sane, step-by, two-descend, two-meet, two-one, two-bad}
 use borrow.Author.Needs.{needs}
 use Rattle.row_dispatch.proofs.own_side.two_places.Statement.{statement}
 use Rattle.row_dispatch.proofs.own_side.two_places.Tie as tie
-use Rattle.row_dispatch.proofs.own_side.two_places.Reads as reads
-use Rattle.row_dispatch.proofs.own_side.two_places.Lts as lts
-use Rattle.row_dispatch.proofs.own_side.one_place.Reads as one-place-reads
-use Rattle.row_meeting.proofs.meet.Reads as meet-reads
-use Rattle.row_steps.proofs.RestStep.plain.Reads as plain-reads
-use Rattle.row_steps.proofs.descend.Reads as descend-reads
-use Rattle.wrappers.proofs.has_shelf.Reads as has-shelf-reads
 
--- src/own_side.rt:62:9
 descend-requires : tie.Need-descend-requires
-descend-requires c κs = ?
+descend-requires c κs =
+    let x = c .before .before .before .before .before in
+    let l = x .args .rows .now in
+    let o = x .args .o in
+    let i = x .args .i in
+    let k = x .args .kind in
+    let s = coreOf l o in
+    let j = x .args .j in
+    let b = settingOf (x .args .wrapper) (x .args .side) (x .args .nodes .now) (x .args .pool .now) in
+    own-sane b l o (x .pre)
 
--- src/own_side.rt:62:9
-same-length : tie.Need-same-length
-same-length c = search needs
-
--- src/own_side.rt:62:9
 returns : tie.Need-returns
-returns c = ?
+returns c =
+    let x = c .before .before .before .before .before .before .before .before in
+    let l = x .args .rows .now in
+    let o = x .args .o in
+    let i = x .args .i in
+    let k = x .args .kind in
+    let s = coreOf l o in
+    let j = x .args .j in
+    let b = settingOf (x .args .wrapper) (x .args .side) (x .args .nodes .now) (x .args .pool .now) in
+    step-by (settled (twoPlaces b s k i j)) (settled (descend s i j)) l o _ _ (two-descend b s k i j (c .before .before .before .before .if1 .taken)) (c .before .before .descend .ensures)
 
--- src/own_side.rt:65:9
-meet-requires : tie.Need-meet-requires
-meet-requires c κs = search needs
-
--- src/own_side.rt:65:9
-same-length-2 : tie.Need-same-length-2
-same-length-2 c = search needs
-
--- src/own_side.rt:65:9
 returns-2 : tie.Need-returns-2
-returns-2 c = ?
+returns-2 c =
+    let x = c .before .before .before .before .before .before .before .before .before in
+    let l = x .args .rows .now in
+    let o = x .args .o in
+    let i = x .args .i in
+    let k = x .args .kind in
+    let s = coreOf l o in
+    let j = x .args .j in
+    let b = settingOf (x .args .wrapper) (x .args .side) (x .args .nodes .now) (x .args .pool .now) in
+    step-by (settled (twoPlaces b s k i j)) (settled (meet b s i j)) l o _ _ (two-meet b s k i j (c .before .before .before .before .if2 .taken)) (c .before .before .meet .ensures b refl refl)
 
--- src/own_side.rt:68:26
-has-shelf-requires : tie.Need-has-shelf-requires
-has-shelf-requires c κs = search needs
-
--- src/own_side.rt:68:9
 one-place-requires : tie.Need-one-place-requires
-one-place-requires c κs = ?
+one-place-requires c κs =
+    let x = c .before .before .before .before .before .before .before .before in
+    let l = x .args .rows .now in
+    let o = x .args .o in
+    let i = x .args .i in
+    let k = x .args .kind in
+    let s = coreOf l o in
+    let j = x .args .j in
+    let b = settingOf (x .args .wrapper) (x .args .side) (x .args .nodes .now) (x .args .pool .now) in
+    own-sane b l o (x .pre)
 
--- src/own_side.rt:68:9
-same-length-3 : tie.Need-same-length-3
-same-length-3 c = search needs
-
--- src/own_side.rt:68:9
 returns-3 : tie.Need-returns-3
-returns-3 c = ?
+returns-3 c =
+    let x = c .before .before .before .before .before .before .before .before .before .before .before in
+    let l = x .args .rows .now in
+    let o = x .args .o in
+    let i = x .args .i in
+    let k = x .args .kind in
+    let s = coreOf l o in
+    let j = x .args .j in
+    let b = settingOf (x .args .wrapper) (x .args .side) (x .args .nodes .now) (x .args .pool .now) in
+    step-by (settled (twoPlaces b s k i j)) (settled (onePlace b s k i)) l o _ _ (two-one b s k i j (c .before .before .before .before .before .before .before .if1 .left) (c .before .before .before .before .before .before .if2 .left) (c .before .before .before .before .before .if3 .taken)) (c .before .before .one-place .ensures b (sym (c .before .before .before .before .has-shelf .ensures)))
 
--- src/own_side.rt:70:5
-plain-requires : tie.Need-plain-requires
-plain-requires c κs = search needs
-
--- src/own_side.rt:47:1
 returns-4 : tie.Need-returns-4
-returns-4 c = ?
+returns-4 c =
+    let x = c .before .before .before .before .before .before .before in
+    let l = x .args .rows .now in
+    let o = x .args .o in
+    let i = x .args .i in
+    let k = x .args .kind in
+    let s = coreOf l o in
+    let j = x .args .j in
+    let b = settingOf (x .args .wrapper) (x .args .side) (x .args .nodes .now) (x .args .pool .now) in
+    refused-is _ l o 10 _ (two-bad b s k i j (c .before .before .before .if1 .left) (c .before .before .if2 .left) (c .before .if3 .left)) (c .plain .ensures)
 
 pub two-places-spec : {M : Type 1} → statement M
 two-places-spec =
     tie.close
     (tie.spec
     descend-requires
-    same-length
+    (λ c. search needs)
     returns
-    meet-requires
-    same-length-2
+    (λ c κs. search needs)
+    (λ c. search needs)
     returns-2
-    has-shelf-requires
+    (λ c κs. search needs)
     one-place-requires
-    same-length-3
+    (λ c. search needs)
     returns-3
-    plain-requires
+    (λ c κs. search needs)
     returns-4)
