@@ -80,7 +80,7 @@ side-by : (s : State) (n : ℕ) → 0 < n → side s n ≡ getD (s .sides) (n - 
 side-by s zero h = absurd (omega arith)
 side-by s (suc n) h = let z : suc n - 1 ≡ n = omega arith in ap (λ (k : ℕ). getD (s .sides) k noSide) (sym z)
 
-put-by : (s : State) (n : ℕ) (o : Side) → 0 < n → putSide s n o ≡ record { sides = set (s .sides) (n - 1) o }
+pub put-by : (s : State) (n : ℕ) (o : Side) → 0 < n → putSide s n o ≡ record { sides = set (s .sides) (n - 1) o }
 put-by s zero o h = absurd (omega arith)
 put-by s (suc n) o h = let z : suc n - 1 ≡ n = omega arith in ap (λ (k : ℕ). record { sides = set (s .sides) k o }) (sym z)
 

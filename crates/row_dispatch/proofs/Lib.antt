@@ -1,2 +1,3 @@
 pub mod ByKind
 pub mod AllSides
+pub mod InState
