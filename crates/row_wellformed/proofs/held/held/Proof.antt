@@ -1,0 +1,30 @@
+-- Public, minted, or neither.
+use mathlib.Core.Path.{sym, _∙_}
+use borrow.Author.Needs.{needs}
+use Rattle.row_wellformed.proofs.HeldLaws.{held-public, held-not, held-minted}
+use Rattle.row_wellformed.proofs.held.held.Statement.{statement}
+use Rattle.row_wellformed.proofs.held.held.Tie as tie
+
+returns : tie.Need-returns
+returns c = held-public _ _ (c .if1 .taken)
+
+returns-2 : tie.Need-returns-2
+returns-2 c =
+    let k = c .before .before .before .before .before .before .before .args .counts .now in
+    let minted = sym (c .before .before .before .before .is-minted .ensures) ∙ c .before .before .before .if2 .taken in
+    c .below .ensures ∙ held-minted k _ (c .before .before .before .before .before .if1 .left) minted _ _ (c .before .before .wide .ensures) (c .before .wide2 .ensures)
+
+returns-3 : tie.Need-returns-3
+returns-3 c = held-not _ _ (c .before .before .if1 .left) (sym (c .before .is-minted .ensures) ∙ c .if2 .left)
+
+pub held-spec : {M : Type 1} → statement M
+held-spec =
+    tie.close
+    (tie.spec
+    returns
+    (λ c κs. search needs)
+    (λ c κs. search needs)
+    (λ c κs. search needs)
+    (λ c κs. search needs)
+    returns-2
+    returns-3)
