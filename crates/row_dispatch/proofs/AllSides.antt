@@ -76,7 +76,7 @@ sides-shelf (l ∷ ls) (o ∷ os) (m ∷ ms) zero a b = refl
 sides-shelf (l ∷ ls) (o ∷ os) (m ∷ ms) (suc k) a b = sides-shelf ls os ms k (omega arith) (omega arith)
 
 -- a side by its number
-side-by : (s : State) (n : ℕ) → 0 < n → side s n ≡ getD (s .sides) (n - 1) noSide
+pub side-by : (s : State) (n : ℕ) → 0 < n → side s n ≡ getD (s .sides) (n - 1) noSide
 side-by s zero h = absurd (omega arith)
 side-by s (suc n) h = let z : suc n - 1 ≡ n = omega arith in ap (λ (k : ℕ). getD (s .sides) k noSide) (sym z)
 

@@ -30,8 +30,9 @@ use Rattle.loading.specs.declared.Outcome.the-variants.{Ok}
 use Rattle.loading.specs.Loading.{outcomeOf}
 use Rattle.loading.proofs.Faults.{Taken, taken, table-at}
 use Rattle.loading.proofs.Starting.{number-in}
-use Rattle.answers.specs.Answers.{givenFor}
+use Rattle.answers.specs.Answers.{givenFor, isRefusal}
 use Rattle.answers.proofs.AnswerLaws.{step-given}
+use Rattle.steps.specs.declared.Said.{Said}
 use Rattle.row_steps.specs.declared.RestStep.{RestStep}
 use Rattle.row_steps.specs.Asked.{knownBy}
 use Rattle.row_steps.specs.StepIs.{StepIs}
@@ -52,18 +53,29 @@ pub ready-taken : (b : Composition) (s : State) → ready b s ≡ true → Taken
 unfolding ready
 ready-taken b s e = taken b (ok-outcome (load b) (fst _ _ e))
 
+-- a side that the wrapper lacks: 10, and nothing changes
+pub none-asked : (b : Composition) (s : State) (x : Step) → ready b s ≡ true → hasSide (wrapperOf b) (x .side) ≡ false → step b s x ≡ record { answer = refusal 10 (x .side); after = s }
+unfolding step _&_
+none-asked b s x e h = rw (e, h, step)
+
 -- what a side's step comes to
 step-length : (x : Res Moved) (l : List ℕ) (o : Rest) (m : List ℕ) (r : RestStep) → StepIs x l o m r → length m ≡ length l
 step-length (refuse n) l o m r h = ap length (h .is .words)
 step-length (done d) l o m r h = h .is .long
 
-step-fits : (x : Res Moved) (l : List ℕ) (o : Rest) (m : List ℕ) (r : RestStep) → fitsSide l o ≡ true → StepIs x l o m r → fitsSide m (r .rest) ≡ true
+pub step-fits : (x : Res Moved) (l : List ℕ) (o : Rest) (m : List ℕ) (r : RestStep) → fitsSide l o ≡ true → StepIs x l o m r → fitsSide m (r .rest) ≡ true
 step-fits (refuse n) l o m r f h = ap (λ (w : List ℕ). fitsSide w (r .rest)) (h .is .words) ∙ ap (fitsSide l) (h .is .kept) ∙ f
 step-fits (done d) l o m r f h = h .is .arrays
 
 pub step-short : (x : Res Moved) (l : List ℕ) (o : Rest) (m : List ℕ) (r : RestStep) → StepIs x l o m r → r .value .len ≤ 16
 step-short (refuse n) l o m r h = h .is .short-value
 step-short (done d) l o m r h = h .is .short-value
+
+-- a refusal leaves the words, the rest and the marks
+step-refused : (x : Res Moved) (l : List ℕ) (o : Rest) (m : List ℕ) (r : RestStep) (n : ℕ) (v : List ℕ) (left : List Bool) → StepIs x l o m r → isRefusal (answerOf n x) ≡ true →
+    (m ≡ l) × (r .rest ≡ o) × (markedBy (r .said) v left ≡ left)
+step-refused (refuse k) l o m r n v left h e = (h .is .words, h .is .kept, ap (λ (s : Said). markedBy s v left) (h .is .says))
+step-refused (done d) l o m r n v left h e = absurd (false≢true e)
 
 module _ (w : ℕ) (ns ps : List (List ℕ)) (ls : List (List ℕ)) (os : List Rest) (ms : List (List Bool)) (lent : Lent ls os ms) (nl : length ns ≡ length allSides) (pl : length ps ≡ length allSides)
     (e : ready (composition w ns ps) (stateIn ls os ms) ≡ true) where
@@ -72,11 +84,6 @@ module _ (w : ℕ) (ns ps : List (List ℕ)) (ls : List (List ℕ)) (os : List R
 
   abbrev st : State
   st = stateIn ls os ms
-
-  -- a side that the wrapper lacks: 10, and nothing changes
-  pub none-asked : (x : Step) → hasSide (wrapperOf b) (x .side) ≡ false → step b st x ≡ record { answer = refusal 10 (x .side); after = st }
-  unfolding step _&_
-  none-asked x h = rw (e, h, step)
 
   asked-is : (x : Step) → hasSide (wrapperOf b) (x .side) ≡ true →
       step b st x ≡ record { answer = answerOf (x .side) (moveAt b st x (x .side)); after = putSide st (x .side) (sideAfter (side st (x .side)) (moveAt b st x (x .side))) }
@@ -146,6 +153,10 @@ module _ (w : ℕ) (ns ps : List (List ℕ)) (ls : List (List ℕ)) (os : List R
           ap (λ (z : List (List ℕ)). stateIn z (set os k (r .rest)) ms′) (is .others) ∙ ap (stateIn (set ls k (is .words)) (set os k (r .rest))) (mk .is) ∙
           ap (λ (z : List Side). record { sides = z }) (there ∙ ap (set (sidesIn ls os ms) k) now) ∙
           sym (put-by st n (sideAfter (side st n) move) first) ∙ ap (λ (y : Result). y .after) (sym step-is)
+
+      -- a refusal leaves the words, the rest and the marks of the side
+      pub kept-is : isRefusal (step b st x .answer) ≡ true → (is .words ≡ l) × (r .rest ≡ o) × (markedBy (r .said) (viewValue (r .value)) (getD ms (n - 1) []) ≡ getD ms (n - 1) [])
+      kept-is q = step-refused move l o (is .words) r n (viewValue (r .value)) (getD ms (n - 1) []) (is .step) (ap (λ (y : Result). isRefusal (y .answer)) (sym step-is) ∙ q)
 
       -- what is lent is as before: each side with its words, its counts within their arrays
       pub lent-after : Lent ls′ (set os (n - 1) (r .rest)) ms′

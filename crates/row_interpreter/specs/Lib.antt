@@ -1,1 +1,3 @@
 pub mod Loaded
+pub mod Answered
+pub mod Finding

@@ -5,10 +5,28 @@ use steps::Said;
 use values::Value;
 
 mod load_state; // load
+mod step_state; // step
+mod stranded_message; // stranded
 
 pub use load_state::load;
+pub use step_state::step;
+pub use stranded_message::stranded;
 
 pub struct LoadAnswer {
     pub outcome: Outcome,
     pub state: State,
+}
+
+// The answer to a step, its value's words zero past the length, and the state after it.
+pub struct Stepped {
+    pub said: Said,
+    pub side: u32,
+    pub value: Value,
+    pub state: State,
+}
+
+// The position of a stranded message, or that there is none.
+pub enum Found {
+    At(usize),
+    Nothing,
 }
