@@ -1,6 +1,5 @@
 -- A side's step as the answer that is given.
 use mathlib.Core.Path.{_≡_, refl, ap, _∙_, sym}
-use mathlib.Core.Bool.{true, false≢true}
 use mathlib.Core.List.{List, [], _∷_, _++_}
 use Prim.Native.Nat.{ℕ, zero, suc, _+_, _-_, _<_}
 use native.Mathlib.Omega.{arith}
@@ -18,7 +17,7 @@ use Rattle.steps.specs.declared.Said.the-variants as said
 use Rattle.steps.specs.StepIs.{labelOf}
 use Rattle.row_steps.specs.declared.RestStep.{RestStep}
 use Rattle.row_steps.specs.StepIs.{StepIs}
-use Rattle.answers.specs.Answers.{Padded, saidOf, givenFor, isRefusal}
+use Rattle.answers.specs.Answers.{Padded, saidOf, givenFor}
 
 -- ZEROS PAST THE LENGTH
 copy-more : (ws : List ℕ) (k m : ℕ) → k < length ws → set (take k ws ++ replicate (suc m) 0) k (getD ws k 0) ≡ take (suc k) ws ++ replicate m 0
@@ -51,12 +50,8 @@ said-of (said.Refused n) l e = let z : _≡_ {A = ℕ} 0 1 = cc in absurd (omega
 given-by : (k : ℕ) (y : Said) (l : List ℕ) (a : Answer) → saidOf y ≡ saidBy a → k ≡ sideBy a → l ≡ valueBy a → givenFor y k l ≡ given a
 given-by k y l a p q v = same-given p q (ap length v) (ap (λ (x : List ℕ). x ++ replicate (16 - length x) 0) v)
 
--- A SIDE'S STEP as its answer, and where that is a refusal
+-- A SIDE'S STEP as its answer
 module _ (l : List ℕ) (o : Rest) (m : List ℕ) (r : RestStep) where
   pub step-given : (k : ℕ) (x : Res Moved) → StepIs x l o m r → givenFor (r .said) k (viewValue (r .value)) ≡ given (answerOf k x)
   step-given k (refuse n) h = given-by k (r .said) _ (refusal n k) (ap saidOf (h .is .says)) refl (h .is .value)
   step-given k (done v) h = given-by k (r .said) _ (labelled (v .label) k (v .val)) (said-of (r .said) (v .label) (h .is .says)) refl (h .is .value)
-
-  pub step-kept : (k : ℕ) (x : Res Moved) → StepIs x l o m r → isRefusal (answerOf k x) ≡ true → (m ≡ l) × (r .rest ≡ o)
-  step-kept k (refuse n) h e = (h .is .words, h .is .kept)
-  step-kept k (done v) h e = absurd (false≢true e)

@@ -3,7 +3,7 @@ use mathlib.Core.Path.{_≡_, refl, sym, ap, _∙_}
 use mathlib.Core.Logic.{⊎-elim}
 use mathlib.Core.Bool.{Bool, true, false, _||_, false≢true}
 use mathlib.Core.List.{List, [], _∷_}
-use Prim.Native.Nat.{ℕ, zero, suc, _<_, _≤_}
+use Prim.Native.Nat.{ℕ, zero, suc, _-_, _<_, _≤_}
 use native.Mathlib.Omega.{arith}
 use borrow.Author.Tests.{eqb-true, leb-true, le-leb, not-true}
 use lib.Dec.{eqb}
@@ -13,7 +13,7 @@ use Rattle.model.specs.Values.{noNames}
 use Rattle.model.specs.Table.{Table, term}
 use Rattle.model.specs.Side.{Box, Message, Contents, Core, emptyContents, startSide}
 use Rattle.model.specs.Unfolding.{unfolds}
-use Rattle.model.specs.Wrapper.{allSides, filter}
+use Rattle.model.specs.Wrapper.{allSides, filter, described, hasSide}
 use Rattle.model.specs.Load.{Setting, start}
 use Rattle.model.specs.WellFormed.{Counts, countOf, wfSide}
 use Rattle.model.proofs.Tests.{fst, snd, both, or-cases}
@@ -21,6 +21,7 @@ use Rattle.model.proofs.Growing.{core-ok}
 use Rattle.model.proofs.Invariant.{core-short}
 use Rattle.model.proofs.Starts.{start-side}
 use Rattle.scopes.proofs.ScopeBound.{passes-checked}
+use Rattle.wrappers.proofs.Described.{has-in}
 use Rattle.rows.specs.declared.Rest.{Rest}
 use Rattle.rows.specs.Layout.{viewBoxes}
 use Rattle.rows.specs.Stored.{boxPut}
@@ -39,6 +40,13 @@ pub number-in : (i : ℕ) → has i allSides ≡ true → (0 < i) × (i ≤ 2)
 number-in i h =
     ⊎-elim (λ e. let z = eqb-true i 1 e in (omega arith, omega arith))
     (λ p. ⊎-elim (λ e. let z = eqb-true i 2 e in (omega arith, omega arith)) (λ e. absurd (false≢true e)) (or-cases (eqb i 2) false p)) (or-cases (eqb i 1) (eqb i 2 || false) h)
+
+-- a side that the wrapper has: its number, and its place
+pub has-number : (w i : ℕ) → hasSide (described w) i ≡ true → (0 < i) × (i ≤ length allSides)
+has-number w i h = number-in i (has-in w i h)
+
+pub has-place : (w i : ℕ) → hasSide (described w) i ≡ true → i - 1 < length allSides
+has-place w i h = let n = has-number w i h in omega (arith, n .0, n .1)
 
 -- no output is too long
 start-short : (i : ℕ) (t : Table) → Startable i t → longIn (term t 0) noNames ≡ false

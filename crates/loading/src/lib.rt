@@ -5,6 +5,7 @@ mod verdicts; // what load says
 pub use starts::start_of;
 pub use verdicts::load_verdict;
 pub use verdicts::number_of;
+pub use verdicts::place_of;
 
 // What load says: ok, or number, side and node of a refusal.
 pub enum Outcome {

@@ -1,7 +1,7 @@
 // What load says: the wrapper, then the sides in their order, each wholly.
 ghost use mathlib.Core.Path.{_≡_};
 ghost use mathlib.Core.List.{map};
-ghost use Prim.Native.Nat.{ℕ, _+_, _<_};
+ghost use Prim.Native.Nat.{ℕ, _+_, _-_, _<_};
 ghost use Rattle.model.specs.Wrapper.{described};
 ghost use Rattle.model.specs.Load.{sideFault, lackFault, load};
 ghost use Rattle.tables.specs.Nodes.{table};
@@ -70,6 +70,14 @@ pub fn number_of(k: usize) -> u32
     ensures { λ r. ⌜ r ≡ k + 1 ⌝ }
 {
     k as u32 + 1
+}
+
+// The place of side n.
+pub fn place_of(n: u32) -> usize
+    requires { ⌜ 0 < n ⌝ }
+    ensures { λ r. ⌜ r ≡ n - 1 ⌝ }
+{
+    (n - 1) as usize
 }
 
 // What load says of the wrapper and the tables.

@@ -27,7 +27,7 @@ use Rattle.row_steps.specs.Asked.{Source, knownBy}
 use Rattle.row_steps.specs.StepIs.{StepIs}
 use Rattle.row_steps.proofs.Held.{side-shelf}
 use Rattle.row_dispatch.specs.Stepping.{settingOf}
-use Rattle.row_dispatch.specs.Sharing.{shelvesIn, Shelves, sidesIn, stateIn, Lent, AtSide, isOut, markedBy, MarkedAt}
+use Rattle.row_dispatch.specs.Sharing.{shelvesIn, shelvedOf, Shelves, sidesIn, stateIn, Lent, AtSide, isOut, markedBy, MarkedAt}
 
 -- a side that is not there would have this rest
 module _ (d : Rest) where
@@ -83,10 +83,6 @@ side-by s (suc n) h = let z : suc n - 1 ≡ n = omega arith in ap (λ (k : ℕ).
 pub put-by : (s : State) (n : ℕ) (o : Side) → 0 < n → putSide s n o ≡ record { sides = set (s .sides) (n - 1) o }
 put-by s zero o h = absurd (omega arith)
 put-by s (suc n) o h = let z : suc n - 1 ≡ n = omega arith in ap (λ (k : ℕ). record { sides = set (s .sides) k o }) (sym z)
-
--- how many values the shelves have
-abbrev pub shelvedOf : List Rest → List ℕ
-shelvedOf os = map (λ (o : Rest). o .shelved) os
 
 module _ (ls : List (List ℕ)) (os : List Rest) (ms : List (List Bool)) (lent : Lent ls os ms) where
   abbrev st : State

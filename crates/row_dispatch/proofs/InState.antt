@@ -18,7 +18,7 @@ use Rattle.model.specs.WellFormed.{counts, wfCore, wfSide, shelfOf, ready}
 use Rattle.model.specs.Step.{Step, Moved, settled, local, known, refusal, answerOf, sideAfter, Result, step}
 use Rattle.model.specs.Answer.{given}
 use Rattle.model.proofs.Tests.{fst}
-use Rattle.model.proofs.Invariant.{side-wf, keeps}
+use Rattle.model.proofs.Invariant.{side-wf}
 use Rattle.values.specs.Env.{viewValue}
 use Rattle.tables.specs.Nodes as slices
 use Rattle.tables.specs.Checks.{Passes}
@@ -29,7 +29,7 @@ use Rattle.rows.specs.Sides.{coreOf, fitsSide, sideOf}
 use Rattle.loading.specs.declared.Outcome.the-variants.{Ok}
 use Rattle.loading.specs.Loading.{outcomeOf}
 use Rattle.loading.proofs.Faults.{Taken, taken, table-at}
-use Rattle.loading.proofs.Starting.{number-in}
+use Rattle.loading.proofs.Starting.{has-number, has-place}
 use Rattle.answers.specs.Answers.{givenFor, isRefusal}
 use Rattle.answers.proofs.AnswerLaws.{step-given}
 use Rattle.steps.specs.declared.Said.{Said}
@@ -37,8 +37,8 @@ use Rattle.row_steps.specs.declared.RestStep.{RestStep}
 use Rattle.row_steps.specs.Asked.{knownBy}
 use Rattle.row_steps.specs.StepIs.{StepIs}
 use Rattle.row_dispatch.specs.Stepping.{settingOf, OwnReady}
-use Rattle.row_dispatch.specs.Sharing.{shelvesIn, stateIn, sidesIn, Lent, AtSide, markedBy, MarkedAt}
-use Rattle.row_dispatch.proofs.AllSides.{shelvedOf, side-is, local-is, put-by, sides-set, side-after}
+use Rattle.row_dispatch.specs.Sharing.{shelvesIn, shelvedOf, stateIn, sidesIn, Lent, AtSide, markedBy, MarkedAt}
+use Rattle.row_dispatch.proofs.AllSides.{side-is, local-is, put-by, sides-set, side-after}
 
 -- the model's move of side k
 abbrev moveAt : Composition → State → Step → ℕ → Res Moved
@@ -91,14 +91,11 @@ module _ (w : ℕ) (ns ps : List (List ℕ)) (ls : List (List ℕ)) (os : List R
   asked-is x h = rw (e, h, step)
 
   module _ (d : Rest) (n : ℕ) (h : hasSide (wrapperOf b) n ≡ true) where
-    number : (0 < n) × (n ≤ 2)
-    number = number-in n (has-in w n h)
+    first : 0 < n
+    first = has-number w n h .0
 
-    pub first : 0 < n
-    first = number .0
-
-    pub place : n - 1 < length allSides
-    place = omega (arith, number .0, number .1)
+    place : n - 1 < length allSides
+    place = has-place w n h
 
     abbrev l : List ℕ
     l = getD ls (n - 1) []
@@ -118,7 +115,7 @@ module _ (w : ℕ) (ns ps : List (List ℕ)) (ls : List (List ℕ)) (os : List R
         let t = ready-taken b st e .sides n (has-in w n h) h in
         let f = fst _ _ (side-wf b st e n h) in
         record {
-          narrow = omega (arith, number .1);
+          narrow = omega (arith, has-number w n h .1);
           passes = subst (λ (x : Table). Passes x) table-is (t .passes);
           long = lent .long (n - 1) place;
           arrays = lent .fits (n - 1) d place;
@@ -189,6 +186,3 @@ module _ (w : ℕ) (ns ps : List (List ℕ)) (ls : List (List ℕ)) (os : List R
           fits-at k q a false z =
               ap (λ (v : List ℕ). fitsSide v (getD (set os (n - 1) (r .rest)) k q)) (getD-set-other ls (n - 1) k (is .words) [] (eqb-false k (n - 1) z)) ∙
               ap (fitsSide (getD ls k [])) (getD-set-other os (n - 1) k (r .rest) q (eqb-false k (n - 1) z)) ∙ lent .fits k q a
-
-      pub ready-after : ready b (stateIn ls′ (set os (n - 1) (r .rest)) ms′) ≡ true
-      ready-after = ap (ready b) after-is ∙ keeps b st x e

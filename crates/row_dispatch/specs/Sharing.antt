@@ -1,7 +1,7 @@
 -- A step at one place of the words of all sides, and the marks of all sides after it.
 use mathlib.Core.Path.{_≡_}
 use mathlib.Core.Bool.{Bool, true, false}
-use mathlib.Core.List.{List, [], _∷_}
+use mathlib.Core.List.{List, [], _∷_, map}
 use Prim.Native.Nat.{ℕ, zero, suc, _<_}
 use lib.ListN.{length, getD, set}
 use Rattle.model.specs.Basics.{Res}
@@ -20,6 +20,10 @@ use Rattle.row_steps.specs.StepIs.{StepIs}
 abbrev pub shelvesIn : List (List ℕ) → List ℕ → ℕ → List (List ℕ)
 shelvesIn ls ns zero = []
 shelvesIn ls ns (suc k) = viewShelf (getD ls k []) (getD ns k 0)
+
+-- how many values each side has on its shelf
+abbrev pub shelvedOf : List Rest → List ℕ
+shelvedOf os = map (λ (o : Rest). o .shelved) os
 
 -- each side has its words, and a shelf within its array
 pub record Shelves (ls : List (List ℕ)) (ns : List ℕ) : Type 0 where

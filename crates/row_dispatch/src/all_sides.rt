@@ -13,6 +13,7 @@ ghost use Rattle.row_steps.specs.StepIs.{Sane, StepIs};
 ghost use Rattle.row_dispatch.specs.Stepping.{settingOf, asked, OwnReady};
 ghost use Rattle.row_dispatch.specs.Sharing.{shelvesIn, Shelves, AtSide, isOut, MarkedAt};
 use crate::own_side::own_step;
+use loading::place_of;
 use row_steps::RestStep;
 use row_steps::mark_all;
 use row_steps::take;
@@ -23,14 +24,6 @@ use steps::Said;
 use values::Value;
 use wrappers::Source;
 use wrappers::source_of;
-
-// The place of side n among what is lent.
-fn place_of(n: u32) -> usize
-    requires { ⌜ 0 < n ⌝ }
-    ensures { λ r. ⌜ r ≡ n - 1 ⌝ }
-{
-    (n - 1) as usize
-}
 
 // A side's number as a number of places.
 fn wide(n: u32) -> usize

@@ -21,12 +21,11 @@ use Rattle.sides.specs.declared.Lobby.{Lobby}
 use Rattle.sides.specs.Views.{viewMessage, viewLobby}
 use Rattle.sides.proofs.Lists.{every-more}
 use Rattle.sides.proofs.Sides.{lobby-at, lobby-short}
-use Rattle.wrappers.proofs.Described.{has-in}
 use Rattle.rows.specs.declared.Side.{Side}
 use Rattle.rows.specs.declared.State.{State}
 use Rattle.rows.specs.Sides.{fitsSide, viewSide, viewState, stateOf, fitsArrays}
 use Rattle.loading.proofs.Faults.{map-at}
-use Rattle.loading.proofs.Starting.{number-in}
+use Rattle.loading.proofs.Starting.{has-number, has-place}
 use Rattle.row_steps.proofs.Held.{side-lobby}
 use Rattle.row_dispatch.proofs.AllSides.{side-by}
 use Rattle.row_interpreter.specs.Finding.{rightIn}
@@ -86,17 +85,14 @@ module _ (b : Composition) (s : State) (n : ℕ) (f : fitsArrays s ≡ true) (e 
   asked-lacks h = ap (λ (o : Option MState). lobbyAsked b o n) (state-some s f) ∙ rw (e, h)
 
   module _ (d : Side) (full : length (s .sides) ≡ length allSides) (h : hasSide (wrapperOf b) n ≡ true) where
-    asked-number : (0 < n) × (n ≤ 2)
-    asked-number = number-in n (has-in (b .wrapper) n h)
-
     asked-place : n - 1 < length (s .sides)
-    asked-place = omega (arith, asked-number .0, asked-number .1)
+    asked-place = omega (arith, has-place (b .wrapper) n h, full)
 
     pub asked-has : (k : ℕ) → k ≡ n - 1 → lobbyAsked b (stateOf s) n ≡ viewLobby (getD (s .sides) k d .rest .lobby)
     unfolding lobbyAsked _&_
     asked-has k z =
         let there : side (viewState s) n ≡ viewSide (getD (s .sides) k d) =
-        side-by (viewState s) n (asked-number .0) ∙ sym (map-at viewSide (s .sides) (n - 1) d noSide asked-place) ∙ ap (λ (j : ℕ). viewSide (getD (s .sides) j d)) (sym z) in
+        side-by (viewState s) n (has-number (b .wrapper) n h .0) ∙ sym (map-at viewSide (s .sides) (n - 1) d noSide asked-place) ∙ ap (λ (j : ℕ). viewSide (getD (s .sides) j d)) (sym z) in
         ap (λ (o : Option MState). lobbyAsked b o n) (state-some s f) ∙ rw (e, h) (ap (λ (o : MSide). o .core .lobby) there)
 
     pub asked-short : (k : ℕ) → k ≡ n - 1 → getD (s .sides) k d .rest .lobby .len ≤ 16

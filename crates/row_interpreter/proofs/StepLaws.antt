@@ -34,14 +34,15 @@ use Rattle.row_steps.specs.declared.RestStep.{RestStep}
 use Rattle.row_steps.specs.Asked.{knownBy}
 use Rattle.row_steps.specs.StepIs.{StepIs}
 use Rattle.row_dispatch.specs.Stepping.{settingOf, OwnReady}
-use Rattle.row_dispatch.specs.Sharing.{shelvesIn, Shelves, sidesIn, stateIn, Lent, AtSide, markedBy, MarkedAt}
-use Rattle.row_dispatch.proofs.AllSides.{shelvedOf, shelves-of}
+use Rattle.row_dispatch.specs.Sharing.{shelvesIn, shelvedOf, Shelves, sidesIn, stateIn, Lent, AtSide, markedBy, MarkedAt}
+use Rattle.row_dispatch.proofs.AllSides.{shelves-of}
 use Rattle.row_dispatch.proofs.InState as there
 use Rattle.wrappers.proofs.Described.{has-in}
 use Rattle.loading.specs.declared.Outcome.{Outcome}
 use Rattle.loading.specs.declared.Outcome.the-variants.{Ok, Refused}
 use Rattle.loading.specs.Loading.{outcomeOf}
 use Rattle.loading.proofs.Faults.{map-at, taken}
+use Rattle.loading.proofs.Starting.{has-place}
 use Rattle.row_wellformed.specs.Clauses.{TablesPass}
 use Rattle.row_interpreter.specs.declared.Stepped.{Stepped}
 use Rattle.row_interpreter.specs.Answered.{wordsIn, restsIn, leftIn, shelvedIn, AllLong, putAt, Answered, givenOf, ResultIs, RefusedTen, StepAnswered}
@@ -181,11 +182,8 @@ module _ {A : Type 0} (f : A → List ℕ) (w : ℕ) (ts us : List A) (dt du : A
   ps-long : length (map f us) ≡ length allSides
   ps-long = length-map us f ∙ ul
 
-  first : 0 < n
-  first = there.first w (map f ts) (map f us) (wordsIn s) (restsIn s) (leftIn s) lent ns-long ps-long ready-lent (dd .rest) n h
-
   within : n - 1 < length allSides
-  within = there.place w (map f ts) (map f us) (wordsIn s) (restsIn s) (leftIn s) lent ns-long ps-long ready-lent (dd .rest) n h
+  within = has-place w n h
 
   abbrev o : Rest
   o = getD (s .sides) k dd .rest

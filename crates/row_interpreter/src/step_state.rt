@@ -17,6 +17,7 @@ use crate::Stepped;
 use answers::padded;
 use loading::Outcome;
 use loading::load_verdict;
+use loading::place_of;
 use row_dispatch::mark_left;
 use row_dispatch::side_step;
 use row_wellformed::well_formed;
@@ -115,14 +116,6 @@ fn shelved_in(s: State) -> Shelved
         k += 1;
     }
     Shelved { of }
-}
-
-// The place of side n.
-pub(crate) fn place_of(n: u32) -> usize
-    requires { ⌜ 0 < n ⌝ }
-    ensures { λ r. ⌜ r ≡ n - 1 ⌝ }
-{
-    (n - 1) as usize
 }
 
 // The state with another side at place k.

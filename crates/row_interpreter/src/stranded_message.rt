@@ -10,7 +10,7 @@ ghost use Rattle.rows.specs.Sides.{stateOf};
 ghost use Rattle.row_interpreter.specs.Finding.{rightIn, foundOf};
 use crate::Found;
 use crate::step_state::is_ready;
-use crate::step_state::place_of;
+use loading::place_of;
 use rows::Sides;
 use rows::State;
 use sides::Lobby;

@@ -20,10 +20,10 @@ use Rattle.rows.specs.declared.Rest.{Rest}
 use Rattle.rows.specs.Sides.{Nothing}
 use Rattle.loading.specs.Starting.{Startable, StartIs}
 use Rattle.loading.proofs.Faults.{Taken, started, table-at, side-number, map-at}
-use Rattle.row_dispatch.specs.Sharing.{sidesIn}
+use Rattle.row_dispatch.specs.Sharing.{shelvedOf, sidesIn}
 use Rattle.row_dispatch.proofs.AllSides.{sides-at}
 use Rattle.row_running.specs.declared.beginning.Begun.{Begun}
-use Rattle.row_running.specs.Beginning.{shelvedOf, noMarks, BeginIs, BegunIs}
+use Rattle.row_running.specs.Beginning.{noMarks, BeginIs, BegunIs}
 
 -- ONE SIDE: started where the wrapper has it, nothing else
 module _ (w : Wrapper) (n : ℕ) (t : Table) (l : List ℕ) (r : Rest) where

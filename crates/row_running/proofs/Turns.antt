@@ -16,19 +16,17 @@ use Rattle.format.specs.Words.{stepAt, givenWords}
 use Rattle.values.specs.Env.{viewValue}
 use Rattle.sides.proofs.Lists.{map-set}
 use Rattle.wrappers.specs.Compositions.{composition}
-use Rattle.wrappers.proofs.Described.{has-in}
 use Rattle.rows.specs.declared.Rest.{Rest}
 use Rattle.rows.specs.Sides.{coreOf}
 use Rattle.steps.specs.declared.Said.the-variants as said
 use Rattle.loading.proofs.Faults.{map-at}
-use Rattle.loading.proofs.Starting.{number-in}
+use Rattle.loading.proofs.Starting.{has-place}
 use Rattle.answers.specs.Answers.{givenFor}
 use Rattle.row_steps.specs.declared.RestStep.{RestStep}
 use Rattle.row_steps.specs.Asked.{knownBy}
 use Rattle.row_dispatch.specs.Stepping.{settingOf, asked, OwnReady}
-use Rattle.row_dispatch.specs.Sharing.{shelvesIn, stateIn, Lent, AtSide, MarkedAt}
+use Rattle.row_dispatch.specs.Sharing.{shelvesIn, shelvedOf, stateIn, Lent, AtSide, MarkedAt}
 use Rattle.row_dispatch.proofs.InState.{none-asked, own-ready, answer-is, after-is, lent-after}
-use Rattle.row_running.specs.Beginning.{shelvedOf}
 use Rattle.row_running.proofs.RunLaws.{Running, run-more}
 
 -- the step asked for is the one whose words stand at a place
@@ -39,13 +37,6 @@ asked-at l p k i j ws a b c d = rw (a, b, c, d)
 -- a side's step, by another move that is the same
 pub at-same : {x y : Res Moved} {ls : List (List ℕ)} {k : ℕ} {o : Rest} {ms : List (List ℕ)} {r : RestStep} → x ≡ y → AtSide x ls k o ms r → AtSide y ls k o ms r
 at-same {ls = ls} {k = k} {o = o} {ms = ms} {r = r} e h = subst (λ (z : Res Moved). AtSide z ls k o ms r) e h
-
--- a side that the wrapper has: its number, and its place
-pub number-bounds : (w m : ℕ) → hasSide (described w) m ≡ true → (0 < m) × (m ≤ length allSides)
-number-bounds w m has = number-in m (has-in w m has)
-
-pub place-in : (w m : ℕ) → hasSide (described w) m ≡ true → m - 1 < length allSides
-place-in w m has = let z = number-bounds w m has in omega (arith, z .0, z .1)
 
 -- what is lent, and the words written, before step k
 pub record Turn (b : Composition) (s : State) (l lent : List ℕ) (n k p : ℕ) (ls : List (List ℕ)) (os : List Rest) (ms : List (List Bool)) (hs out : List ℕ) : Type 0 where
@@ -66,10 +57,10 @@ module _ {A : Type 0} (now : A → List ℕ) (w : ℕ) (ns ps : List A)
   -- side m, whose slices and rest are at its place i
   module _ (m i : ℕ) (place : i ≡ m - 1) (has : hasSide (described w) m ≡ true) (u v : A) (d : Rest) where
     nodes-at : getD (map now ns) (m - 1) [] ≡ now (getD ns (m - 1) u)
-    nodes-at = let q = place-in w m has in sym (map-at now ns (m - 1) u [] (omega (arith, q, nl)))
+    nodes-at = let q = has-place w m has in sym (map-at now ns (m - 1) u [] (omega (arith, q, nl)))
 
     pools-at : getD (map now ps) (m - 1) [] ≡ now (getD ps (m - 1) v)
-    pools-at = let q = place-in w m has in sym (map-at now ps (m - 1) v [] (omega (arith, q, pl)))
+    pools-at = let q = has-place w m has in sym (map-at now ps (m - 1) v [] (omega (arith, q, pl)))
 
     pub may-step : OwnReady (settingOf w m (now (getD ns i u)) (now (getD ps i v))) (getD ls (m - 1) []) (getD os i d)
     may-step =
@@ -112,7 +103,7 @@ module _ {A : Type 0} (now : A → List ℕ) (w : ℕ) (ns ps : List A)
       Turn (composition w (map now ns) (map now ps)) s l lent n (k + 1) next ls os ms hs new
   turn-refused lt room m lacks same v none new next len put at =
       let x = stepAt l p in
-      let is = none-asked w (map now ns) (map now ps) ls os ms (h .sides) nodes-many pools-many (h .run .ready) x (ap (hasSide (described w)) (sym same) ∙ lacks) in
+      let is = none-asked (composition w (map now ns) (map now ps)) (stateIn ls os ms) x (h .run .ready) (ap (hasSide (described w)) (sym same) ∙ lacks) in
       let answer : givenFor (said.Refused 10) m v ≡ given (step (composition w (map now ns) (map now ps)) (stateIn ls os ms) x .answer) =
       ap₂ (givenFor (said.Refused 10)) same none ∙ ap (λ (y : Result). given (y .answer)) (sym is) in
       record {

@@ -1,7 +1,7 @@
 -- The sides at their start, in their words and the rests of them.
 use mathlib.Core.Path.{_≡_}
 use mathlib.Core.Bool.{Bool, true, false, cond}
-use mathlib.Core.List.{List, map}
+use mathlib.Core.List.{List}
 use Prim.Native.Nat.{ℕ, _*_}
 use lib.ListN.{length, replicate}
 use Rattle.model.specs.Table.{Table}
@@ -10,12 +10,8 @@ use Rattle.model.specs.Wrapper.{Wrapper, allSides, hasSide}
 use Rattle.model.specs.Load.{Composition, start, ok, load}
 use Rattle.rows.specs.declared.Rest.{Rest}
 use Rattle.rows.specs.Sides.{coreOf, fitsSide}
-use Rattle.row_dispatch.specs.Sharing.{stateIn, Lent}
+use Rattle.row_dispatch.specs.Sharing.{shelvedOf, stateIn, Lent}
 use Rattle.row_running.specs.declared.beginning.Begun.{Begun}
-
--- how many values each side has on its shelf
-abbrev pub shelvedOf : List Rest → List ℕ
-shelvedOf os = map (λ (o : Rest). o .shelved) os
 
 -- no name has left
 abbrev pub noMarks : List (List Bool)

@@ -19,8 +19,7 @@ ghost use Rattle.loading.specs.declared.Outcome.the-variants.{Ok};
 ghost use Rattle.loading.specs.Loading.{outcomeOf};
 ghost use Rattle.row_steps.specs.Asked.{knownBy};
 ghost use Rattle.row_dispatch.specs.Stepping.{settingOf, OwnReady};
-ghost use Rattle.row_dispatch.specs.Sharing.{shelvesIn, Shelves, stateIn, Lent, AtSide, MarkedAt};
-ghost use Rattle.row_running.specs.Beginning.{shelvedOf};
+ghost use Rattle.row_dispatch.specs.Sharing.{shelvesIn, shelvedOf, Shelves, stateIn, Lent, AtSide, MarkedAt};
 ghost use Rattle.row_running.specs.Running.{countOf, Put};
 use crate::answer_words::put_answer;
 use crate::beginning::begin_all;
@@ -28,6 +27,7 @@ use crate::step_words::asked_at;
 use crate::step_words::next_place;
 use crate::step_words::side_at;
 use crate::step_words::value_at;
+use loading::place_of;
 use row_dispatch::mark_left;
 use row_dispatch::side_step;
 use row_steps::RestStep;
@@ -37,14 +37,6 @@ use rows::Sides;
 use steps::Said;
 use values::Value;
 use wrappers::has_side;
-
-// The place of side n among what is lent.
-fn place_of(n: u32) -> usize
-    requires { ⌜ 0 < n ⌝ }
-    ensures { λ r. ⌜ r ≡ n - 1 ⌝ }
-{
-    (n - 1) as usize
-}
 
 // A side's step by the words at a place, and the marks of what leaves by it.
 fn step_at(

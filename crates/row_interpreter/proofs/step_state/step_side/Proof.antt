@@ -3,9 +3,8 @@ use Prim.Native.Nat.{_-_, _<_}
 use denote.Ref.{now}
 use lib.ListN.{length, length-map, length-set}
 use Rattle.values.proofs.Lists.{unmap}
-use Rattle.wrappers.proofs.Described.{has-in}
 use Rattle.rows.specs.declared.Side.{Side}
-use Rattle.loading.proofs.Starting.{number-in}
+use Rattle.loading.proofs.Starting.{has-number}
 use Rattle.row_dispatch.specs.Stepping.{asked}
 use Rattle.row_dispatch.proofs.InState.{step-short}
 use Rattle.row_interpreter.proofs.StepLaws.{own, shelves, result}
@@ -19,7 +18,7 @@ place-of-requires c κs =
     let x = c .before .before .before .before in
     let w = x .args .wrapper in
     let n = x .args .side in
-    let i = number-in n (has-in w n (x .pre .2)) in
+    let i = has-number w n (x .pre .2) in
     i .0
 
 element-copy-out-o : tie.Need-element-copy-out-o
@@ -27,7 +26,7 @@ element-copy-out-o c =
     let x = c .before .before .before .before .before in
     let w = x .args .wrapper in
     let n = x .args .side in
-    let i = number-in n (has-in w n (x .pre .2)) in
+    let i = has-number w n (x .pre .2) in
     let k = c .place-of in
     omega (arith, i .0, i .1, k .ensures)
 
@@ -36,7 +35,7 @@ array-copy-out-side-step c =
     let x = c .before .before .before .before .before .before .before .before .before in
     let w = x .args .wrapper in
     let n = x .args .side in
-    let i = number-in n (has-in w n (x .pre .2)) in
+    let i = has-number w n (x .pre .2) in
     let k = c .before .before .before .before .place-of in
     omega (arith, i .0, i .1, k .ensures)
 
@@ -45,7 +44,7 @@ array-copy-out-side-step-2 c =
     let x = c .before .before .before .before .before .before .before .before .before .before in
     let w = x .args .wrapper in
     let n = x .args .side in
-    let i = number-in n (has-in w n (x .pre .2)) in
+    let i = has-number w n (x .pre .2) in
     let k = c .before .before .before .before .before .place-of in
     omega (arith, i .0, i .1, k .ensures)
 
@@ -61,7 +60,7 @@ side-step-requires c κs =
     let ul : length us ≡ 2 = search (needs, x .good) in
     let full : length (s .sides) ≡ 2 = search unmap in
     let t = c .before .before .before .before .before .before .before .before .before .take-out in
-    let i = number-in n (has-in w n (x .pre .2)) in
+    let i = has-number w n (x .pre .2) in
     let k = c .before .before .before .before .before .before .before .before .place-of in
     let lw = ap length (t .ensures .0) ∙ length-map (s .sides) (λ (o : Side). o .words) ∙ full in
     let lm = ap length (t .ensures .1) ∙ length-map (s .sides) (λ (o : Side). o .left) ∙ full in
@@ -75,7 +74,7 @@ mark-left-requires c κs =
     let s = x .args .t4 in
     let full : length (s .sides) ≡ 2 = search unmap in
     let t = c .before .before .before .before .before .before .before .before .before .before .before .before .before .take-out in
-    let i = number-in n (has-in w n (x .pre .2)) in
+    let i = has-number w n (x .pre .2) in
     let lm = ap length (t .ensures .1) ∙ length-map (s .sides) (λ (o : Side). o .left) ∙ full in
     let d = c .before .before .before .side-step in
     let is = d .ensures n in
@@ -86,7 +85,7 @@ mul-put-at c =
     let x = c .before .before .before .before .before .before .before .before .before .before .before .before .before .before .before .before .before .before in
     let w = x .args .wrapper in
     let n = x .args .side in
-    let i = number-in n (has-in w n (x .pre .2)) in
+    let i = has-number w n (x .pre .2) in
     let k = c .before .before .before .before .before .before .before .before .before .before .before .before .before .place-of in
     let z : k .result < 2 = omega (arith, i .0, i .1, k .ensures) in
     search (needs, z)
@@ -96,7 +95,7 @@ array-copy-out-put-at c =
     let x = c .before .before .before .before .before .before .before .before .before .before .before .before .before .before .before .before .before .before in
     let w = x .args .wrapper in
     let n = x .args .side in
-    let i = number-in n (has-in w n (x .pre .2)) in
+    let i = has-number w n (x .pre .2) in
     let k = c .before .before .before .before .before .before .before .before .before .before .before .before .before .place-of in
     omega (arith, i .0, i .1, k .ensures)
 
@@ -105,7 +104,7 @@ mul-put-at-2 c =
     let x = c .before .before .before .before .before .before .before .before .before .before .before .before .before .before .before .before .before .before .before in
     let w = x .args .wrapper in
     let n = x .args .side in
-    let i = number-in n (has-in w n (x .pre .2)) in
+    let i = has-number w n (x .pre .2) in
     let k = c .before .before .before .before .before .before .before .before .before .before .before .before .before .before .place-of in
     let z : k .result < 2 = omega (arith, i .0, i .1, k .ensures) in
     search (needs, z)
@@ -115,7 +114,7 @@ array-copy-out-put-at-2 c =
     let x = c .before .before .before .before .before .before .before .before .before .before .before .before .before .before .before .before .before .before .before in
     let w = x .args .wrapper in
     let n = x .args .side in
-    let i = number-in n (has-in w n (x .pre .2)) in
+    let i = has-number w n (x .pre .2) in
     let k = c .before .before .before .before .before .before .before .before .before .before .before .before .before .before .place-of in
     omega (arith, i .0, i .1, k .ensures)
 
@@ -124,7 +123,7 @@ put-at-requires c κs =
     let x = c .before .before .before .before .before .before .before .before .before .before .before .before .before .before .before .before .before .before .before .before in
     let w = x .args .wrapper in
     let n = x .args .side in
-    let i = number-in n (has-in w n (x .pre .2)) in
+    let i = has-number w n (x .pre .2) in
     let k = c .before .before .before .before .before .before .before .before .before .before .before .before .before .before .before .place-of in
     omega (arith, i .0, i .1, k .ensures)
 

@@ -5,8 +5,7 @@ use lib.ListN.{length}
 use Rattle.model.proofs.Tests.{fst, snd}
 use Rattle.values.proofs.Lists.{unmap}
 use Rattle.wrappers.specs.Compositions.{composition}
-use Rattle.wrappers.proofs.Described.{has-in}
-use Rattle.loading.proofs.Starting.{number-in}
+use Rattle.loading.proofs.Starting.{has-number}
 use Rattle.row_interpreter.proofs.FindLaws.{right-by, right-none, asked-has, asked-lacks, asked-short, asked-unready}
 use native.Mathlib.Omega.{arith}
 use borrow.Author.Needs.{needs}
@@ -24,7 +23,7 @@ place-of-requires c κs =
     let e = snd _ _ y in
     let n = x .args .side in
     let h = sym (c .before .has-side .ensures) ∙ c .if2 .taken in
-    let i = number-in n (has-in (x .args .wrapper) n h) in
+    let i = has-number (x .args .wrapper) n h in
     i .0
 
 element-copy-out-o : tie.Need-element-copy-out-o
@@ -38,7 +37,7 @@ element-copy-out-o c =
     let e = snd _ _ y in
     let n = x .args .side in
     let h = sym (c .before .before .has-side .ensures) ∙ c .before .if2 .taken in
-    let i = number-in n (has-in (x .args .wrapper) n h) in
+    let i = has-number (x .args .wrapper) n h in
     let k = c .place-of in
     omega (arith, i .0, i .1, k .ensures)
 

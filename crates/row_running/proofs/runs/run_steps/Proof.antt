@@ -8,10 +8,11 @@ use denote.Ref.{now}
 use lib.ListN.{length}
 use Rattle.model.specs.Wrapper.{described, hasSide}
 use Rattle.wrappers.specs.Compositions.{composition}
+use Rattle.loading.proofs.Starting.{has-number, has-place}
 use Rattle.row_dispatch.specs.Sharing.{stateIn}
 use Rattle.row_dispatch.proofs.AllSides.{shelves-of}
 use Rattle.row_running.proofs.RunLaws.{run-start, next-head, next-fits, run-end}
-use Rattle.row_running.proofs.Turns.{number-bounds, place-in, Turn, may-step, turn-made, turn-refused, turn-as}
+use Rattle.row_running.proofs.Turns.{Turn, may-step, turn-made, turn-refused, turn-as}
 use borrow.Author.Needs.{needs}
 use native.Mathlib.Omega.{arith}
 use Rattle.row_running.proofs.runs.run_steps.Statement.{statement}
@@ -36,10 +37,10 @@ has-asked : (a : tie.Then1 Inv-loop μ-loop) → hasSide (described (a .before .
 has-asked a = sym (a .before .has-side .ensures) ∙ a .if1 .taken
 
 positive : (a : tie.Then1 Inv-loop μ-loop) → 0 < a .before .before .side-at .result
-positive a = number-bounds (a .before .before .before .before .before .before .before .args .wrapper) (a .before .before .side-at .result) (has-asked a) .0
+positive a = has-number (a .before .before .before .before .before .before .before .args .wrapper) (a .before .before .side-at .result) (has-asked a) .0
 
 place : (a : tie.Then1 Inv-loop μ-loop) → a .before .before .side-at .result - 1 < 2
-place a = place-in (a .before .before .before .before .before .before .before .args .wrapper) (a .before .before .side-at .result) (has-asked a)
+place a = has-place (a .before .before .before .before .before .before .before .args .wrapper) (a .before .before .side-at .result) (has-asked a)
 
 within : (a : tie.After-place-of Inv-loop μ-loop) → a .place-of .result < 2
 within a = omega (arith, a .place-of .ensures, place (a .before))
