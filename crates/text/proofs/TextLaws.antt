@@ -1,7 +1,7 @@
 -- From lines to a run, and from a run to lines.
 use mathlib.Core.Path.{_≡_, refl, sym, ap, subst, _∙_}
 use mathlib.Core.Bool.{Bool}
-use mathlib.Core.List.{List, _∷_, _++_}
+use mathlib.Core.List.{List, [], _∷_, _++_}
 use mathlib.Core.Logic.{_⊎_, inl, inr}
 use mathlib.Core.Option.{some}
 use Prim.Native.Nat.{ℕ, _*_, _<_, _≤_}
@@ -26,10 +26,10 @@ use Rattle.reading.specs.Lists.{Lists, Filled, Holds, ReadAs, ReadIs}
 use Rattle.reading.specs.declared.Places.{Places}
 use Rattle.reading.specs.declared.Reading.{Reading}
 use Rattle.reading.specs.declared.Reading.the-variants as answer
-use Rattle.running.specs.declared.Ran.{Ran}
-use Rattle.running.specs.declared.Ran.the-variants as ran
-use Rattle.interpreter.specs.Loading.{composition}
-use Rattle.running.specs.Running.{RunIs}
+use Rattle.row_running.specs.declared.Ran.{Ran}
+use Rattle.row_running.specs.declared.Ran.the-variants as ran
+use Rattle.wrappers.specs.Compositions.{tablesOf, composition}
+use Rattle.row_running.specs.Running.{RunIs}
 use Rattle.text.specs.Text.{Given, OnPage, writtenOf, bufferAfter, TextIs}
 use Rattle.text.specs.declared.Written.the-variants.{Bytes, TooShort}
 
@@ -39,7 +39,7 @@ unfolding choose
 some-steps b xs room h = ap (λ (t : Bool). choose t tooShort (runFrom b xs (load b))) (le-ltb room (20 * length xs) h)
 
 module _ {i : Input} {w : ℕ} {n1 p1 n2 p2 ws : List ℕ} (g : Given i w n1 p1 n2 p2 ws) where
-  pub run-given : (room : ℕ) → room ≡ 20480 → runOf (composition w n1 p1 n2 p2) ws room ≡ runFrom (i .loads) (i .steps) (load (i .loads))
+  pub run-given : (room : ℕ) → room ≡ 20480 → runOf (composition w (n1 ∷ n2 ∷ []) (p1 ∷ p2 ∷ [])) ws room ≡ runFrom (i .loads) (i .steps) (load (i .loads))
   run-given room e =
       ap (λ (b : Composition). runOf b ws room) (g .loads)
       ∙ ap (λ (l : List ℕ). runOf (i .loads) l room) (g .words)
@@ -119,10 +119,11 @@ whole-is (whole i) p l h = record { input = i; is = refl; holds = h }
 pub whole-read : {x : format.Reading} {r : Reading} (p : Places) {l : Lists} → ReadIs x r l → r ≡ answer.Whole p → WholeIs x p l
 whole-read {x} p {l} h e = whole-is x p l (subst (λ (z : Reading). ReadAs x z l) e (h .is))
 
-same-loads : (w v : ℕ) (a b c d e f g h : List ℕ) → w ≡ v → a ≡ e → b ≡ f → c ≡ g → d ≡ h → composition w a b c d ≡ composition v e f g h
+same-loads : (w v : ℕ) (a b c d e f g h : List ℕ) → w ≡ v → a ≡ e → b ≡ f → c ≡ g → d ≡ h → composition w (a ∷ c ∷ []) (b ∷ d ∷ []) ≡ composition v (e ∷ g ∷ []) (f ∷ h ∷ [])
 same-loads w v a b c d e f g h p q r s t = rw (p, q, r, s, t)
 
 pub given-whole : (i : Input) (p : Places) (l : Lists) → Holds i p l → Given i (p .wrapper) (take (p .nodes1) (l .nodes1)) (take (p .pool1) (l .pool1)) (take (p .nodes2) (l .nodes2)) (take (p .pool2) (l .pool2)) (take (p .words) (l .steps))
+unfolding tablesOf
 given-whole i p l h =
     record {
       loads =

@@ -7,8 +7,8 @@ ghost use Rattle.format.specs.Output.{outputFor, output};
 ghost use Rattle.text.specs.Text.{Given, OnPage, TextIs};
 use reading::Reading;
 use reading::read;
-use running::Ran;
-use running::run;
+use row_running::Ran;
+use row_running::run;
 use writing::answered;
 use writing::fault;
 use writing::refused;
@@ -21,19 +21,25 @@ pub enum Written {
 
 // The output for what the lines gave. A list of steps that was read does not break off, and 1,024 answers have room, so that
 // the last two arms are never taken.
-fn run_output(
+fn run_output<'a>(
     wrapper: u32,
-    nodes1: &[u32],
-    pool1: &[u32],
-    nodes2: &[u32],
-    pool2: &[u32],
+    nodes1: &'a [u32],
+    pool1: &'a [u32],
+    nodes2: &'a [u32],
+    pool2: &'a [u32],
     steps: &[u32],
     page: &mut [u8; 206848],
 ) -> usize
     ensures { λ r. ⌜ (r ≤ 206848) × (length (now (page .exit)) ≡ 206848) × ((i : Input) → Given i wrapper (now (nodes1 .entry)) (now (pool1 .entry)) (now (nodes2 .entry)) (now (pool2 .entry)) (now (steps .entry)) → take r (now (page .exit)) ≡ outputFor i) ⌝ }
 {
     let mut answers = [0u32; 20480];
-    let ran = run(wrapper, nodes1, pool1, nodes2, pool2, steps, &mut answers);
+    let ran = run(
+        wrapper,
+        [nodes1, nodes2],
+        [pool1, pool2],
+        steps,
+        &mut answers,
+    );
     match ran {
         Ran::Done(n) => answered(page, &answers, n),
         Ran::Refused(number, side, node) => refused(page, number, side, node),
