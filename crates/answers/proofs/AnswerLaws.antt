@@ -11,12 +11,12 @@ use Rattle.model.specs.Answer.{Said as MSaid, label, saidBy, sideBy, valueBy, G
 use Rattle.values.specs.declared.Value.{Value}
 use Rattle.values.specs.Env.{viewValue}
 use Rattle.values.proofs.Lists.{take-count}
-use Rattle.rows.specs.declared.Rest.{Rest}
+use Rattle.sides.specs.declared.Rest.{Rest}
 use Rattle.steps.specs.declared.Said.{Said}
 use Rattle.steps.specs.declared.Said.the-variants as said
 use Rattle.steps.specs.StepIs.{labelOf}
-use Rattle.row_steps.specs.declared.RestStep.{RestStep}
-use Rattle.row_steps.specs.StepIs.{StepIs}
+use Rattle.steps.specs.declared.RestStep.{RestStep}
+use Rattle.steps.specs.StepIs.{StepIs}
 use Rattle.answers.specs.Answers.{Padded, saidOf, givenFor}
 
 -- ZEROS PAST THE LENGTH

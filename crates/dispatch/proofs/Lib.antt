@@ -1,1 +1,3 @@
-pub mod StepLaws
+pub mod ByKind
+pub mod AllSides
+pub mod InState

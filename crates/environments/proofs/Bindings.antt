@@ -22,8 +22,8 @@ use Rattle.values.proofs.Lists.{take-count}
 use Rattle.values.proofs.Names.{next-name, next-other, binders-front}
 use Rattle.values.proofs.Matches.{matched-no, matched-yes}
 use Rattle.values.proofs.Environments.{env}
-use Rattle.rows.specs.Environments.{envOf, bound}
-use Rattle.rows.proofs.Binding.{bound-length, env-bound, fits-bound}
+use Rattle.sides.specs.Environments.{envOf, bound}
+use Rattle.sides.proofs.Binding.{bound-length, env-bound, fits-bound}
 use Rattle.environments.specs.declared.matching.Binding.{Binding}
 use Rattle.environments.specs.Fits.{Fits}
 use Rattle.environments.specs.Matching.{patternAt, boundAll, Bindable, Matchable, namesAfter, wordsAfter, BindingIs}

@@ -14,7 +14,7 @@ use Rattle.tables.specs.Checks.{Passes}
 use Rattle.scopes.specs.FreeUses.{clearAt}
 use Rattle.scopes.proofs.ScopeBound.{passes-checked}
 use Rattle.scopes.proofs.FreeUseLaws.{Agrees, fits-clear}
-use Rattle.rows.specs.Environments.{envOf}
+use Rattle.sides.specs.Environments.{envOf}
 use Rattle.environments.specs.Fits.{Fits}
 use Rattle.environments.proofs.Slots.{env-sized}
 

@@ -14,7 +14,7 @@ use Rattle.model.specs.Basics.{_or_}
 use Rattle.model.specs.Values.{Env, isPublic, value, extend, substitute}
 use Rattle.model.specs.Table.{Term, nil, par, box, new, out, inp}
 use Rattle.model.proofs.Environments.{Sized, sized-extend, look-append}
-use Rattle.rows.specs.Environments.{envOf}
+use Rattle.sides.specs.Environments.{envOf}
 use Rattle.environments.specs.Fits.{Fits}
 use Rattle.environments.specs.Long.{longIn, sizeFor, sizeBy, longBy}
 use Rattle.environments.proofs.Slots.{env-sized}

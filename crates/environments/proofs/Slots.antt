@@ -12,11 +12,11 @@ use lib.Seq.{length-take-le, getD-take, getD-drop, getD-set-same, getD-set-other
 use Rattle.model.specs.Values.{value}
 use Rattle.model.proofs.Environments.{Sized}
 use Rattle.values.specs.Env.{tupleOf}
-use Rattle.rows.specs.Layout.{placesOf, viewPlace}
-use Rattle.rows.specs.Environments.{envOf, lastOf, slotValue}
-use Rattle.rows.proofs.Parts.{word-behind, part-length}
-use Rattle.rows.proofs.Reading.{places-count, place-word}
-use Rattle.rows.proofs.Substituting.{slot-says, slot-size}
+use Rattle.sides.specs.Layout.{placesOf, viewPlace}
+use Rattle.sides.specs.Environments.{envOf, lastOf, slotValue}
+use Rattle.sides.proofs.Parts.{word-behind, part-length}
+use Rattle.sides.proofs.Reading.{places-count, place-word}
+use Rattle.sides.proofs.Substituting.{slot-says, slot-size}
 use Rattle.environments.specs.Fits.{Fits}
 
 -- the value in place k

@@ -12,14 +12,14 @@ use Rattle.model.specs.WellFormed.{envAt}
 use Rattle.scopes.specs.Names.{lastEight}
 use Rattle.scopes.proofs.NameLaws.{last-at-most}
 use Rattle.scopes.proofs.ScopeBound.{scope-whole}
-use Rattle.rows.specs.Layout.{rowAt, placesOf, viewPlace}
-use Rattle.rows.specs.Stored.{valuesPut}
-use Rattle.rows.specs.Environments.{envOf}
-use Rattle.rows.proofs.Sets.{mid-sets}
-use Rattle.rows.proofs.Parts.{part-length}
-use Rattle.rows.proofs.Storing.{part-turn, values-length}
-use Rattle.rows.proofs.Reading.{places-count}
-use Rattle.rows.proofs.Viewing.{held-count, held-values, values-env, values-fit}
+use Rattle.sides.specs.Layout.{rowAt, placesOf, viewPlace}
+use Rattle.sides.specs.Stored.{valuesPut}
+use Rattle.sides.specs.Environments.{envOf}
+use Rattle.sides.proofs.Sets.{mid-sets}
+use Rattle.sides.proofs.Parts.{part-length}
+use Rattle.sides.proofs.Storing.{part-turn, values-length}
+use Rattle.sides.proofs.Reading.{places-count}
+use Rattle.sides.proofs.Viewing.{held-count, held-values, values-env, values-fit}
 use Rattle.environments.specs.Fits.{Fits}
 use Rattle.environments.specs.Inputs.{nodeOf, valuesOf, Waits, namesPut, InputEnvIs}
 

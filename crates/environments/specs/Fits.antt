@@ -5,7 +5,7 @@ use mathlib.Core.List.{List}
 use Prim.Native.Nat.{ℕ, _≤_}
 use lib.ListN.{length, take}
 use Rattle.model.specs.Basics.{every}
-use Rattle.rows.specs.Layout.{placesOf, fitsPlace}
+use Rattle.sides.specs.Layout.{placesOf, fitsPlace}
 
 -- the words of a row, with n names in force, their values within their places
 pub record Fits (e : List ℕ) (n : ℕ) : Type 0 where

@@ -8,8 +8,8 @@ use lib.ListN.{length, take, getD}
 use lib.Seq.{sets}
 use Rattle.model.specs.Table.{Table, count, scope}
 use Rattle.tables.specs.Checks.{Passes}
-use Rattle.rows.specs.Layout.{rowAt, placesOf, viewPlace, fitsRow}
-use Rattle.rows.specs.Stored.{valuesPut}
+use Rattle.sides.specs.Layout.{rowAt, placesOf, viewPlace, fitsRow}
+use Rattle.sides.specs.Stored.{valuesPut}
 
 -- the node of a waiting input's row, and its values
 abbrev pub nodeOf : List ℕ → ℕ

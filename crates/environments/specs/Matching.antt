@@ -8,7 +8,7 @@ use Rattle.model.specs.Values.{Fit, at, isPatternLeaf, binders, matches}
 use Rattle.values.specs.declared.Bound as values
 use Rattle.values.specs.declared.Value.{Value}
 use Rattle.values.specs.Match.{viewBound}
-use Rattle.rows.specs.Environments.{bound}
+use Rattle.sides.specs.Environments.{bound}
 use Rattle.environments.specs.declared.matching.Binding.{Binding}
 
 -- the words of the pattern at a place of the pool; none where none stands there

@@ -10,12 +10,12 @@ ghost use Rattle.model.specs.Unfolding.{defined};
 ghost use Rattle.values.specs.Env.{tupleOf};
 ghost use Rattle.tables.specs.Nodes.{table};
 ghost use Rattle.tables.specs.Checks.{Passes};
-ghost use Rattle.rows.specs.Layout.{placesOf, viewPlace};
-ghost use Rattle.rows.specs.Environments.{envOf};
+ghost use Rattle.sides.specs.Layout.{placesOf, viewPlace};
+ghost use Rattle.sides.specs.Environments.{envOf};
 ghost use Rattle.environments.specs.Fits.{Fits};
 use crate::wide;
-use rows::Rows;
 use scopes::free_uses::clear;
+use sides::Rows;
 use tables::marks::Marks;
 
 // Whether the value in place k is a tuple.

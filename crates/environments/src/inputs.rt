@@ -6,11 +6,11 @@ ghost use Rattle.tables.specs.Nodes.{table};
 ghost use Rattle.scopes.specs.Names.{viewNames};
 ghost use Rattle.environments.specs.Inputs.{Waits, InputEnvIs};
 use crate::wide;
-use rows::Row;
-use rows::take_values;
-use rows::word_at;
 use scopes::names::Names;
 use scopes::names::names_in_force;
+use sides::Row;
+use sides::take_values;
+use sides::word_at;
 
 // Names from the first word of an environment on, outermost first, and how many there are.
 fn put_names(e: &mut [u32], w: Names) -> usize

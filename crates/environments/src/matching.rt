@@ -6,7 +6,7 @@ ghost use Rattle.model.specs.Values.{binders};
 ghost use Rattle.values.specs.Env.{viewValue};
 ghost use Rattle.values.specs.Match.{partOf, viewBound};
 ghost use Rattle.environments.specs.Matching.{patternAt, boundAll, Bindable, Matchable, BindingIs};
-use rows::bind_words;
+use sides::bind_words;
 use tables::pool::words_at;
 use values::Bound;
 use values::Leaf;

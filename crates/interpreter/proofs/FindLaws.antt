@@ -1,29 +1,35 @@
 -- What `stranded` answers.
 use mathlib.Core.Path.{_≡_, refl, sym, ap, subst, _∙_}
-use mathlib.Core.Bool.{Bool, true, false, not, _&&_, false≢true}
+use mathlib.Core.Bool.{Bool, true, false, not, false≢true}
 use mathlib.Core.List.{List, [], _∷_, map}
 use mathlib.Core.Option.{Option, none, some}
-use Prim.Native.Nat.{ℕ, zero, suc, _+_, _≤_, _<_}
+use Prim.Native.Nat.{ℕ, zero, suc, _+_, _-_, _≤_, _<_}
 use native.Mathlib.Omega.{arith}
-use borrow.Author.Tests.{ne-eqb}
 use lib.Dec.{eqb}
 use lib.ListN.{length, take, getD, getElem?}
 use Rattle.model.specs.Basics.{_&_, every}
-use Rattle.model.specs.Side.{Message as MMessage, State as MState}
-use Rattle.model.specs.Load.{Composition}
+use Rattle.model.specs.Side.{noSide, side}
+use Rattle.model.specs.Side.{Message as MMessage, Side as MSide, State as MState}
+use Rattle.model.specs.Wrapper.{allSides, hasSide}
+use Rattle.model.specs.Load.{Composition, wrapperOf}
 use Rattle.model.specs.WellFormed.{ready}
 use Rattle.model.specs.Step.{isArrived}
 use Rattle.model.specs.Stranded.{isStranded, lobbyAsked, rightStranded}
 use Rattle.model.proofs.Tests.{fst, snd, both}
 use Rattle.sides.specs.declared.Message.{Message}
 use Rattle.sides.specs.declared.Lobby.{Lobby}
-use Rattle.sides.specs.declared.State.{State}
-use Rattle.sides.specs.Views.{viewMessage, viewLobby, viewState, stateOf, fitsArrays}
+use Rattle.sides.specs.Views.{viewMessage, viewLobby}
 use Rattle.sides.proofs.Lists.{every-more}
-use Rattle.sides.proofs.Sides.{lobby-at, lobby-short, side-lobby, fits-one, fits-two, state-some, state-none}
+use Rattle.sides.proofs.Lobbies.{lobby-at, lobby-short}
+use Rattle.sides.specs.declared.Side.{Side}
+use Rattle.sides.specs.declared.State.{State}
+use Rattle.sides.specs.Sides.{fitsSide, viewSide, viewState, stateOf, fitsArrays}
+use Rattle.loading.proofs.Faults.{map-at}
+use Rattle.loading.proofs.Starting.{has-number, has-place}
+use Rattle.steps.proofs.Held.{side-lobby}
+use Rattle.dispatch.proofs.AllSides.{side-by}
 use Rattle.interpreter.specs.Finding.{rightIn}
-use Rattle.interpreter.proofs.WrapperLaws.{has-first, has-second, has-none}
-use Rattle.interpreter.proofs.AnswerLaws.{wrapper-known}
+use Rattle.interpreter.proofs.StepLaws.{state-some, state-none, every-in}
 
 -- A LOBBY
 -- a message that is not stranded
@@ -72,35 +78,28 @@ pub right-none : rightIn [] none ≡ true
 unfolding rightIn
 right-none = refl
 
-and-no-left : (x y : Bool) → x ≡ false → x && y ≡ false
-and-no-left x y e = rw e
-
-and-no-right : (x y : Bool) → y ≡ false → x && y ≡ false
-and-no-right true y e = e
-and-no-right false y e = refl
-
+-- the lobby of a side that the wrapper lacks, and of one that it has, by its place
 module _ (b : Composition) (s : State) (n : ℕ) (f : fitsArrays s ≡ true) (e : ready b (viewState s) ≡ true) where
-  pub asked-one : n ≡ 1 → lobbyAsked b (stateOf s) n ≡ viewLobby (s .one .lobby)
+  pub asked-lacks : hasSide (wrapperOf b) n ≡ false → lobbyAsked b (stateOf s) n ≡ []
   unfolding lobbyAsked _&_
-  asked-one p = ap (λ (o : Option MState). lobbyAsked b o n) (state-some s f) ∙ ap (lobbyAsked b (some (viewState s))) p ∙ rw (e, has-first (b .wrapper) (wrapper-known b (viewState s) e))
+  asked-lacks h = ap (λ (o : Option MState). lobbyAsked b o n) (state-some s f) ∙ rw (e, h)
 
-  pub asked-two : n ≡ 2 → b .wrapper ≡ 2 → lobbyAsked b (stateOf s) n ≡ viewLobby (s .two .lobby)
-  unfolding lobbyAsked _&_
-  asked-two p q = ap (λ (o : Option MState). lobbyAsked b o n) (state-some s f) ∙ ap (lobbyAsked b (some (viewState s))) p ∙ rw (e, has-second (b .wrapper) q)
+  module _ (d : Side) (full : length (s .sides) ≡ length allSides) (h : hasSide (wrapperOf b) n ≡ true) where
+    asked-place : n - 1 < length (s .sides)
+    asked-place = omega (arith, has-place (b .wrapper) n h, full)
 
-  pub asked-filter : n ≡ 2 → (b .wrapper ≡ 2 → ⊥) → lobbyAsked b (stateOf s) n ≡ []
-  unfolding lobbyAsked _&_
-  asked-filter p q = ap (λ (o : Option MState). lobbyAsked b o n) (state-some s f) ∙ rw (e, has-none (b .wrapper) n (λ z. omega arith) (and-no-right (eqb n 2) (eqb (b .wrapper) 2) (ne-eqb (b .wrapper) 2 q)))
+    pub asked-has : (k : ℕ) → k ≡ n - 1 → lobbyAsked b (stateOf s) n ≡ viewLobby (getD (s .sides) k d .rest .lobby)
+    unfolding lobbyAsked _&_
+    asked-has k z =
+        let there : side (viewState s) n ≡ viewSide (getD (s .sides) k d) =
+        side-by (viewState s) n (has-number (b .wrapper) n h .0) ∙ sym (map-at viewSide (s .sides) (n - 1) d noSide asked-place) ∙ ap (λ (j : ℕ). viewSide (getD (s .sides) j d)) (sym z) in
+        ap (λ (o : Option MState). lobbyAsked b o n) (state-some s f) ∙ rw (e, h) (ap (λ (o : MSide). o .core .lobby) there)
 
-  pub asked-other : (n ≡ 1 → ⊥) → (n ≡ 2 → ⊥) → lobbyAsked b (stateOf s) n ≡ []
-  unfolding lobbyAsked _&_
-  asked-other p q = ap (λ (o : Option MState). lobbyAsked b o n) (state-some s f) ∙ rw (e, has-none (b .wrapper) n p (and-no-left (eqb n 2) (eqb (b .wrapper) 2) (ne-eqb n 2 q)))
-
-  pub lobby-one : s .one .lobby .len ≤ 16
-  lobby-one = lobby-short (s .one .lobby) (side-lobby (s .one) (fits-one s f))
-
-  pub lobby-two : s .two .lobby .len ≤ 16
-  lobby-two = lobby-short (s .two .lobby) (side-lobby (s .two) (fits-two s f))
+    pub asked-short : (k : ℕ) → k ≡ n - 1 → getD (s .sides) k d .rest .lobby .len ≤ 16
+    asked-short k z =
+        let o : Side = getD (s .sides) k d in
+        let g : fitsSide (o .words) (o .rest) ≡ true = every-in (λ (x : Side). fitsSide (x .words) (x .rest)) (s .sides) k d (omega (arith, asked-place)) f in
+        lobby-short (o .rest .lobby) (side-lobby (o .words) (o .rest) g)
 
 pub asked-unready : (b : Composition) (s : State) (n : ℕ) → fitsArrays s & ready b (viewState s) ≡ false → lobbyAsked b (stateOf s) n ≡ []
 unfolding lobbyAsked _&_

@@ -1,4 +1,3 @@
-pub mod WrapperLaws
 pub mod LoadLaws
-pub mod AnswerLaws
+pub mod StepLaws
 pub mod FindLaws

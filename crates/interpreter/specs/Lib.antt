@@ -1,3 +1,3 @@
-pub mod Loading
-pub mod Answers
+pub mod Loaded
+pub mod Answered
 pub mod Finding

@@ -1,33 +1,20 @@
 // Load, the eight steps and the question `stranded`: the exported functions. Nothing is asked of what they are lent or given.
+use loading::Outcome;
 use sides::State;
 use steps::Said;
 use values::Value;
 
-mod loading; // load
-mod lost; // stranded
-mod whole; // a step of the whole state
+mod load_state; // load
+mod step_state; // step
+mod stranded_message; // stranded
 
-pub use loading::load;
-pub use lost::stranded;
-pub use whole::is_second;
-pub use whole::padded;
-pub use whole::step;
-
-// What load says: ok, or number, side and node of a refusal.
-pub enum Outcome {
-    Ok,
-    Refused(usize, u32, usize),
-}
+pub use load_state::load;
+pub use step_state::step;
+pub use stranded_message::stranded;
 
 pub struct LoadAnswer {
     pub outcome: Outcome,
     pub state: State,
-}
-
-// The position of a stranded message, or that there is none.
-pub enum Found {
-    At(usize),
-    Nothing,
 }
 
 // The answer to a step, its value's words zero past the length, and the state after it.
@@ -36,4 +23,10 @@ pub struct Stepped {
     pub side: u32,
     pub value: Value,
     pub state: State,
+}
+
+// The position of a stranded message, or that there is none.
+pub enum Found {
+    At(usize),
+    Nothing,
 }

@@ -22,16 +22,16 @@ use Rattle.model.proofs.Invariant.{core-short}
 use Rattle.model.proofs.Starts.{start-side}
 use Rattle.scopes.proofs.ScopeBound.{passes-checked}
 use Rattle.wrappers.proofs.Described.{has-in}
-use Rattle.rows.specs.declared.Rest.{Rest}
-use Rattle.rows.specs.Layout.{viewBoxes}
-use Rattle.rows.specs.Stored.{boxPut}
-use Rattle.rows.specs.Sides.{coreOf, fitsSide, Nothing}
-use Rattle.rows.proofs.Storing.{box-length}
-use Rattle.rows.proofs.Behind.{box-view}
+use Rattle.sides.specs.declared.Rest.{Rest}
+use Rattle.sides.specs.Layout.{viewBoxes}
+use Rattle.sides.specs.Stored.{boxPut}
+use Rattle.sides.specs.Sides.{coreOf, fitsSide, Nothing}
+use Rattle.sides.proofs.Storing.{box-length}
+use Rattle.sides.proofs.Behind.{box-view}
 use Rattle.environments.specs.Long.{longIn}
-use Rattle.row_unfolding.specs.declared.Counts as c
-use Rattle.row_unfolding.specs.Unfolded.{counted, CanUnfold, UnfoldedIs, putCounts}
-use Rattle.row_unfolding.proofs.ShortAfter.{short-unfolds}
+use Rattle.unfolding.specs.declared.Counts as c
+use Rattle.unfolding.specs.Unfolded.{counted, CanUnfold, UnfoldedIs, putCounts}
+use Rattle.unfolding.proofs.ShortAfter.{short-unfolds}
 use Rattle.loading.specs.Starting.{Startable, StartIs}
 use Rattle.loading.proofs.Faults.{root-in, start-added}
 

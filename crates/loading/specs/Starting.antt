@@ -10,8 +10,8 @@ use Rattle.model.specs.Side.{withinLimits, startSide}
 use Rattle.model.specs.Wrapper.{allSides}
 use Rattle.model.specs.Load.{start}
 use Rattle.tables.specs.Checks.{Passes}
-use Rattle.rows.specs.declared.Rest.{Rest}
-use Rattle.rows.specs.Sides.{coreOf, fitsSide}
+use Rattle.sides.specs.declared.Rest.{Rest}
+use Rattle.sides.specs.Sides.{coreOf, fitsSide}
 
 -- a table that passes checks 1 to 7, of a side i
 pub record Startable (i : ℕ) (t : Table) : Type 0 where

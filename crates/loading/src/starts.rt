@@ -3,11 +3,11 @@ ghost use mathlib.Core.Path.{_≡_};
 ghost use lib.ListN.{length};
 ghost use Rattle.tables.specs.Nodes.{table};
 ghost use Rattle.loading.specs.Starting.{Startable, StartIs};
-use row_unfolding::Counts;
-use row_unfolding::unfold_at;
-use rows::Rest;
-use rows::Rows;
-use rows::put_box;
+use sides::Rest;
+use sides::Rows;
+use sides::put_box;
+use unfolding::Counts;
+use unfolding::unfold_at;
 
 // A side at its start, in the words that are lent and the rest that is answered: node 0 unfolds in box 0.
 pub fn start_of(nodes: &[u32], pool: &[u32], side: u32, rows: &mut [u32]) -> Rest

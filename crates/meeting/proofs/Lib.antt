@@ -1,5 +1,6 @@
 pub mod MeetSteps
-pub mod Closures
+pub mod Inputs
+pub mod PairLaws
 pub mod Joining
-pub mod Aftermath
+pub mod Removing
 pub mod Meetings

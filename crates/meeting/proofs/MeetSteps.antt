@@ -21,11 +21,11 @@ use Rattle.model.proofs.Environments.{Sized}
 use Rattle.model.proofs.MeetingKeeps.{every-without}
 use Rattle.steps.proofs.Settling.{pick-past, pick-at, need-true, need-false, no-left, no-right, limits-in, settled-refused, settled-full, settled-within}
 use Rattle.steps.proofs.CoreSteps.{quiet}
-use Rattle.unfolding.specs.Long.{longIn}
-use Rattle.unfolding.proofs.LongLaws.{short-after, short-unfolds}
+use Rattle.environments.specs.Long.{longIn}
+use Rattle.unfolding.proofs.ShortAfter.{short-after, short-unfolds}
 
 -- a result whose outputs are not all short
-pub settled-long : (r : Res Moved) (m : Moved) → r ≡ done m → every short (m .core .contents .particles) ≡ false → settled r ≡ refuse 16
+settled-long : (r : Res Moved) (m : Moved) → r ≡ done m → every short (m .core .contents .particles) ≡ false → settled r ≡ refuse 16
 unfolding settled bind need
 settled-long r m e p = rw (e, p)
 
@@ -44,7 +44,8 @@ module _ (c : Setting) (s : Core) (i j : ℕ) where
   pub meet-at : (p q : Particle) → getElem? (s .contents .particles) i ≡ some p → getElem? (s .contents .particles) j ≡ some q → meet c s i j ≡ meetParticles c s i j p q
   meet-at p q e f = meet-from p e ∙ pick-at (s .contents .particles) j q (λ q. meetParticles c s i j p q) f
 
-  pub meet-13-no-output : (b n : ℕ) (vs : List (List ℕ)) (q : Particle) → getElem? (s .contents .particles) i ≡ some (input b n vs) → getElem? (s .contents .particles) j ≡ some q → settled (meet c s i j) ≡ refuse 13
+  pub meet-13-no-output : (b n : ℕ) (vs : List (List ℕ)) (q : Particle) → getElem? (s .contents .particles) i ≡ some (input b n vs) →
+      getElem? (s .contents .particles) j ≡ some q → settled (meet c s i j) ≡ refuse 13
   unfolding meetParticles
   meet-13-no-output b n vs q e f = settled-refused _ _ (meet-at (input b n vs) q e f)
 
@@ -54,7 +55,7 @@ module _ (c : Setting) (s : Core) (i j : ℕ) where
   meet-13-no-input b ch g v b′ ch′ g′ v′ e f = settled-refused _ _ (meet-at (output b ch g v) (output b′ ch′ g′ v′) e f)
 
   -- an output and the input at a node
-  module _ (b ch : ℕ) (g : Tag) (v : List ℕ) (b′ n : ℕ) (vs : List (List ℕ)) (n′ : ℕ) (again : Bool) (c′ g′ : ℕ) (p : List ℕ) (a : Term) (e : term (c .table) n ≡ inp n′ again c′ g′ p a) where
+  module _ (b ch : ℕ) (g : Tag) (v : List ℕ) (b′ n : ℕ) (vs : List (List ℕ)) (n′ : ℕ) (replicated : Bool) (c′ g′ : ℕ) (p : List ℕ) (a : Term) (e : term (c .table) n ≡ inp n′ replicated c′ g′ p a) where
     abbrev ρ : Env
     ρ = envAt (c .table) n vs
 
@@ -65,7 +66,7 @@ module _ (c : Setting) (s : Core) (i j : ℕ) where
     inner m = extend ρ (binders p) (m .bound)
 
     abbrev rest : Contents
-    rest = withParticles (s .contents) (without again (s .contents .particles) i j)
+    rest = withParticles (s .contents) (without replicated (s .contents .particles) i j)
 
     abbrev pub metCore : Fit → Core
     metCore m = withContents s (unfolds (c .side) a (inner m) b rest)
@@ -98,22 +99,23 @@ module _ (c : Setting) (s : Core) (i j : ℕ) where
 
         module _ (l : longIn a (inner m) ≡ false) (sh : every short (s .contents .particles) ≡ true) (few : limits s ≡ true) where
           short-now : every short (unfolds (c .side) a (inner m) b rest .particles) ≡ true
-          short-now = short-unfolds (c .side) a (inner m) z b rest (every-without short again (s .contents .particles) i j sh) ∙ ap not l
+          short-now = short-unfolds (c .side) a (inner m) z b rest (every-without short replicated (s .contents .particles) i j sh) ∙ ap not l
 
           -- 17 by the counts
           abbrev room : ℕ → Bool
           room k = leb (k + particlesIn a) 32 & (leb (length (s .contents .boxes) + boxesIn a) 16 & leb (s .contents .minted + newNamesIn a) 256)
 
-          room-is : (k : ℕ) → length (without again (s .contents .particles) i j) ≡ k → withinLimits (unfolds (c .side) a (inner m) b rest) ≡ room k
+          room-is : (k : ℕ) → length (without replicated (s .contents .particles) i j) ≡ k → withinLimits (unfolds (c .side) a (inner m) b rest) ≡ room k
           room-is k q =
               let ad = unfolds-adds (c .side) a (inner m) b rest in
               ap₂ _&_ (ap (λ (x : ℕ). leb x 32) (ad .particles ∙ ap (λ (x : ℕ). x + particlesIn a) q)) (ap₂ _&_ (ap (λ (x : ℕ). leb x 16) (ad .boxes)) (ap (λ (x : ℕ). leb x 256) (ad .minted)))
 
-          pub meet-17 : (k : ℕ) → length (without again (s .contents .particles) i j) ≡ k → room k ≡ false → settled (meetParticles c s i j (output b ch g v) (input b′ n vs)) ≡ refuse 17
+          pub meet-17 : (k : ℕ) → length (without replicated (s .contents .particles) i j) ≡ k → room k ≡ false → settled (meetParticles c s i j (output b ch g v) (input b′ n vs)) ≡ refuse 17
           unfolding limits
           meet-17 k q r = settled-full _ (quiet (metCore m)) unfolded short-now (no-left _ _ (room-is k q ∙ r))
 
-          pub meet-done : (k : ℕ) → length (without again (s .contents .particles) i j) ≡ k → room k ≡ true → settled (meetParticles c s i j (output b ch g v) (input b′ n vs)) ≡ done (quiet (metCore m))
+          pub meet-done : (k : ℕ) → length (without replicated (s .contents .particles) i j) ≡ k → room k ≡ true →
+              settled (meetParticles c s i j (output b ch g v) (input b′ n vs)) ≡ done (quiet (metCore m))
           meet-done k q r =
               let w = limits-in s few in
               let y = room-is k q ∙ r in

@@ -1,158 +1,98 @@
--- Meet on the structs: a law for each way that the code goes.
+-- The whole step: what a pair is given, and the side after it, a law for each way that the code goes.
 use mathlib.Core.Path.{_≡_, refl, sym, ap, ap₂, subst, _∙_}
 use mathlib.Core.Bool.{Bool, true, false, cond}
-use mathlib.Core.List.{List}
-use mathlib.Core.Logic.{⊎-elim}
+use mathlib.Core.List.{List, map}
+use mathlib.Core.Option.{some}
 use Prim.Native.Nat.{ℕ, _+_, _-_, _<_, _≤_}
 use native.Mathlib.Omega.{arith}
-use borrow.Author.Tests.{leb-true, ltb-true, ltb-false, eqb-true}
+use borrow.Author.Tests.{leb-true, le-leb, ltb-true, ltb-false, eqb-true}
 use lib.Dec.{leb, ltb, eqb}
-use lib.ListN.{length, getD}
-use Rattle.model.specs.Basics.{_&_, Res, refuse, remove}
+use lib.ListN.{length, take, drop, getD}
+use lib.Seq.{drop-drop}
+use Rattle.model.specs.Basics.{_&_, refuse, every, remove}
 use Rattle.model.specs.Values.{Env, binders, extend}
 use Rattle.model.specs.Table.{Table, count, kind, field, scope, term}
-use Rattle.model.specs.Side.{Contents, Core}
-use Rattle.model.specs.Side.{Particle as MParticle}
+use Rattle.model.specs.Side.{Particle, Box, input, Contents, Core}
 use Rattle.model.specs.Unfolding.{unfolds, defined, particlesIn, boxesIn, newNamesIn}
 use Rattle.model.specs.Load.{Setting}
-use Rattle.model.specs.WellFormed.{envAt, wfParticle}
-use Rattle.model.specs.Step.{Moved, withContents, withParticles, without, meet, meetParticles, settled}
-use Rattle.model.proofs.Tests.{fst, snd, length-gone}
+use Rattle.model.specs.WellFormed.{wfParticle}
+use Rattle.model.specs.Step.{withContents, withParticles, without, meet, meetParticles, settled}
+use Rattle.model.proofs.Tests.{fst, snd, both, length-gone}
 use Rattle.model.proofs.Growing.{CoreOk, core-ok}
 use Rattle.model.proofs.Environments.{Sized}
-use Rattle.values.specs.Env.{viewEnv}
-use Rattle.sides.specs.declared.Particle.{Particle}
-use Rattle.sides.specs.declared.Particles.{Particles}
-use Rattle.sides.specs.declared.Side.{Side}
-use Rattle.sides.specs.Views.{viewParticle, viewParticles, viewBoxes, viewContents, viewCore, fitsParticles}
-use Rattle.sides.specs.Holding.{ParticlesIs}
-use Rattle.sides.proofs.Sides.{side-particles}
+use Rattle.tables.specs.declared.nodes.Node.{Node}
+use Rattle.tables.specs.Nodes.{table, NodeIs}
+use Rattle.sides.specs.declared.Rest.{Rest}
+use Rattle.sides.specs.Layout.{parts, rowAt, viewPlace, fitsPlace, viewRow, viewRows, fitsRows, viewBoxes, viewShelf}
+use Rattle.sides.specs.Sides.{coreOf, fitsSide}
+use Rattle.sides.proofs.Viewing.{view-row, input-view}
+use Rattle.environments.specs.Inputs.{valuesOf}
+use Rattle.environments.specs.Long.{longIn}
+use Rattle.environments.proofs.Slots.{env-sized}
 use Rattle.steps.specs.declared.Said.the-variants as said
-use Rattle.steps.specs.declared.SideStep.{SideStep}
 use Rattle.steps.specs.declared.Offer.{Offer}
 use Rattle.steps.specs.declared.Offer.the-variants.{At, Refused}
-use Rattle.steps.specs.StepIs.{Sane, StepIs}
-use Rattle.steps.specs.Asked.{Says, numberOf}
+use Rattle.steps.specs.Asked.{OfferIs, numberOf}
 use Rattle.steps.proofs.Settling.{limits-in}
-use Rattle.steps.proofs.Held.{sane, Full, elem-some, every-elem, particles-cap, boxes-cap, particles-n, boxes-n, particle-at, particle-any, output-at, input-at, output-short, output-home, viewOutput, viewInput, refused-is, quiet-is}
-use Rattle.unfolding.specs.Long.{longIn}
-use Rattle.unfolding.specs.Settling.{CanUnfold, contents}
-use Rattle.meeting.specs.Meeting.{patternAt, valuesOf, Meetable, MeetablePair, PairAt, Joins, Joining, JoinedIs, RoomIs, BodyUnfolded}
+use Rattle.steps.proofs.Held.{anySetting, offer-at, every-elem}
+use Rattle.steps.specs.declared.RestStep.{RestStep}
+use Rattle.steps.specs.Asked.{Says}
+use Rattle.steps.specs.StepIs.{Sane, StepIs}
+use Rattle.steps.proofs.Held.{sane, side-rows, side-lobby, side-shelf, boxes-kept, rows-cap, rows-n, boxes-cap, boxes-n, row-in, fits-at, value-in-place, output-home}
+use Rattle.steps.proofs.Held.{offer-refused, refused-is, quiet-is}
+use Rattle.unfolding.specs.declared.Counts.{Counts}
+use Rattle.unfolding.specs.Unfolded.{counted, putCounts, CanUnfold, UnfoldedIs}
 use Rattle.meeting.specs.declared.pairs.Joined.{Joined}
-use Rattle.meeting.proofs.MeetSteps.{meet-10, meet-10-input, meet-at, meet-13-no-output, meet-13-no-input, meet-17, meet-done}
-use Rattle.meeting.proofs.Joining.{the-term, for-all}
-
--- WHETHER i IS AN OUTPUT AND j AN INPUT
-module _ (o : Side) (i j : ℕ) (ok : Sane o) (full : Full o) (c : Setting) where
-  pub pair-past : o .particles .len ≤ i → settled (meet c (viewCore o) i j) ≡ refuse 10
-  pair-past h = meet-10 c (viewCore o) i j (rw (particles-n o ok full) h)
-
-  pub pair-past-input : i < o .particles .len → o .particles .len ≤ j → settled (meet c (viewCore o) i j) ≡ refuse 10
-  pair-past-input h g =
-      let p = elem-some (viewParticles (o .particles)) i (rw (particles-n o ok full) h) in
-      meet-10-input c (viewCore o) i j (p .0) (p .1) (rw (particles-n o ok full) g)
-
-  module _ (d : Particle) (h : i < o .particles .len) (g : j < o .particles .len) where
-    pub pair-no-output : getD (o .particles .rows) i d .«is_output» ≡ false → settled (meet c (viewCore o) i j) ≡ refuse 13
-    pair-no-output e = meet-13-no-output c (viewCore o) i j _ _ _ _ (input-at o ok full i d h e) (particle-at o ok full j d g)
-
-    pub pair-no-input : getD (o .particles .rows) i d .«is_output» ≡ true → getD (o .particles .rows) j d .«is_output» ≡ true → settled (meet c (viewCore o) i j) ≡ refuse 13
-    pair-no-input e f = meet-13-no-input c (viewCore o) i j _ _ _ _ _ _ _ _ (output-at o ok full i d h e) (output-at o ok full j d g f)
-
-pub pair-may : (o : Side) (i j : ℕ) → Sane o → Full o → (d : Particle) → i < o .particles .len → j < o .particles .len → getD (o .particles .rows) i d .«is_output» ≡ true →
-    getD (o .particles .rows) j d .«is_output» ≡ false → PairAt o i j
-pair-may o i j ok full d h g e f = record {
-  held-i = h;
-  held-j = g;
-  out = λ z. ap (λ (x : Particle). x .«is_output») (particle-any o ok full i z d h) ∙ e;
-  inp = λ z. ap (λ (x : Particle). x .«is_output») (particle-any o ok full j z d g) ∙ f;
-}
-
-true-not-false : true ≡ false → ⊥
-true-not-false e = let z : _≡_ {A = ℕ} 0 1 = cc in omega arith
-
--- A REFUSAL beside the old side
-pub number-refused : (m : Res Moved) (o : Side) (a : Offer) (n k : ℕ) (r : SideStep) → a ≡ Refused n → m ≡ refuse n → k ≡ numberOf a → Says (said.Refused k) o r → StepIs m o r
-number-refused m o a n k r e z q says = let same : n ≡ k = sym (q ∙ ap numberOf e) in refused-is m o k r (z ∙ ap refuse same) says
+use Rattle.meeting.specs.Meeting.{Meetable, MeetablePair, PairAt, nodeAt, inputEnv, inputPattern, Joins, Joining, JoinedIs, RoomIs, Apart, RowsLeft}
+use Rattle.meeting.proofs.MeetSteps.{meet-at, meet-17, meet-done}
+use Rattle.meeting.proofs.Joining.{the-term, onTable, for-all}
 
 -- WHAT A PAIR IS GIVEN
-module _ (t : Table) (side : ℕ) (o : Side) (M : Meetable t side o) where
-  pub side-few : side ≤ 2
-  side-few = ⊎-elim (λ e. omega arith) (λ e. omega arith) (M .side)
+module _ {t : Table} {side : ℕ} {l : List ℕ} {o : Rest} (M : Meetable t side l o) where
+  pub meetable-sane : Sane l o
+  meetable-sane = sane (M .setting) (M .counts) l o (M .long) (M .arrays) (M .ok)
 
-  pub meetable-sane : Sane o
-  meetable-sane = sane (M .setting) (M .counts) o (M .arrays) (M .ok)
+  core : CoreOk (M .setting) (M .counts) (coreOf l o)
+  core = core-ok (M .setting) (M .counts) (coreOf l o) (M .ok)
 
-  core : CoreOk (M .setting) (M .counts) (viewCore o)
-  core = core-ok (M .setting) (M .counts) (viewCore o) (M .ok)
+  module _ {i j : ℕ} (A : PairAt l (o .particles) i j) where
+    abbrev inputRow : Particle
+    inputRow = input (getD (rowAt l j) 1 0) (nodeAt l j) (valuesOf (rowAt l j))
 
-  module _ (full : Full o) (i j : ℕ) (A : PairAt o i j) (d d′ : Particle) where
-    abbrev p : Particle
-    p = getD (o .particles .rows) i d
+    input-ok : wfParticle t (M .counts) (length (viewBoxes l (o .boxes))) inputRow ≡ true
+    input-ok =
+        let held = view-row l (o .particles) j (A .held-j) (rows-cap l o meetable-sane) ∙ ap some (input-view (rowAt l j) (A .inp)) in
+        subst (λ (u : Table). wfParticle u (M .counts) (length (viewBoxes l (o .boxes))) inputRow ≡ true) (M .table)
+        (every-elem (wfParticle (M .setting .table) (M .counts) (length (viewBoxes l (o .boxes)))) (viewRows l (o .particles)) j inputRow held (core .contents .particles))
 
-    abbrev q : Particle
-    q = getD (o .particles .rows) j d′
-
-    out-ok : wfParticle t (M .counts) (length (viewBoxes (o .boxes))) (viewOutput p) ≡ true
-    out-ok =
-        subst (λ (u : Table). wfParticle u (M .counts) (length (viewBoxes (o .boxes))) (viewOutput p) ≡ true) (M .table)
-        (every-elem (wfParticle (M .setting .table) (M .counts) (length (viewBoxes (o .boxes)))) (viewParticles (o .particles)) i (viewOutput p) (output-at o meetable-sane full i d (A .held-i) (A .out d)) (core .contents .particles))
-
-    in-ok : wfParticle t (M .counts) (length (viewBoxes (o .boxes))) (viewInput q) ≡ true
-    in-ok =
-        subst (λ (u : Table). wfParticle u (M .counts) (length (viewBoxes (o .boxes))) (viewInput q) ≡ true) (M .table)
-        (every-elem (wfParticle (M .setting .table) (M .counts) (length (viewBoxes (o .boxes)))) (viewParticles (o .particles)) j (viewInput q) (input-at o meetable-sane full j d′ (A .held-j) (A .inp d′)) (core .contents .particles))
-
-    pub pair-able : MeetablePair t side o i j p q
+    pub pair-able : MeetablePair t side l o i j
     unfolding wfParticle
     pair-able =
-        let h = output-home o meetable-sane full i d (A .held-i) (A .out d) in
-        let cap = boxes-cap o meetable-sane full in
-        let few = particles-cap o meetable-sane full in
+        let ok = meetable-sane in
+        let w = snd _ _ input-ok in
         record {
-          passes = M .passes;
-          side = side-few;
-          sane = meetable-sane;
-          full = full;
+          narrow = M .narrow;
+          sane = ok;
+          pair = A;
           joinable = record {
-            scoping = record {
+            row = row-in l o ok i (A .held-i);
+            out = A .out;
+            value = value-in-place l o ok i (A .held-i) (A .out);
+            waits = record {
               passes = M .passes;
-              inside = ltb-true (q .node) (count t) (fst _ _ (snd _ _ in-ok));
-              names = eqb-true (length (valuesOf q)) (length (scope t (q .node))) (fst _ _ (snd _ _ (snd _ _ (snd _ _ in-ok))));
+              long = M .long;
+              row = row-in l o ok j (A .held-j);
+              input = A .inp;
+              fits = fits-at l o ok j (A .held-j);
+              inside = ltb-true (nodeAt l j) (count t) (fst _ _ w);
+              each = eqb-true (length (valuesOf (rowAt l j))) (length (scope t (nodeAt l j))) (fst _ _ (snd _ _ (snd _ _ w)));
             };
-            out = A .out d;
-            inp = A .inp d′;
-            kind = leb-true 5 (kind t (q .node)) (fst _ _ (snd _ _ (snd _ _ in-ok)));
-            counts = M .counts;
-            value = snd _ _ (snd _ _ (snd _ _ out-ok));
-            short = output-short o meetable-sane full i d (A .held-i) (A .out d);
+            kind = leb-true 5 (kind t (nodeAt l j)) (fst _ _ (snd _ _ w));
           };
-          apart = record { held-i = A .held-i; held-j = A .held-j; other = other; few = few };
-          home = omega arith;
         }
-      where
-        other : i ≡ j → ⊥
-        other e = true-not-false (sym (A .out d) ∙ ap (λ (x : ℕ). getD (o .particles .rows) x d .«is_output») e ∙ A .inp d)
-
-    pub meet-pair-is : (c : Setting) (r : SideStep) → StepIs (settled (meetParticles c (viewCore o) i j (viewParticle p) (viewParticle q))) o r → StepIs (settled (meet c (viewCore o) i j)) o r
-    meet-pair-is c r x =
-        subst (λ (m : Res Moved). StepIs m o r)
-        (sym (ap settled (meet-at c (viewCore o) i j _ _ (particle-at o meetable-sane full i d (A .held-i)) (particle-at o meetable-sane full j d′ (A .held-j))))) x
-
--- THE PAIR
-module _ (t : Table) (side : ℕ) (o : Side) (i j : ℕ) (p q : Particle) (M : MeetablePair t side o i j p q) (w : Joined) (jn : JoinedIs t p q w) where
-  pub joined-at : (n : ℕ) → w .offer ≡ At n → Joins t p q n (viewEnv (w .env))
-  joined-at n e = subst (λ (a : Offer). Joining t p q (viewEnv (w .env)) a) e (jn .is)
-
-  pub refused-pair : (x k : ℕ) (c : Setting) (r : SideStep) → w .offer ≡ Refused x → c .table ≡ t → k ≡ numberOf (w .offer) → Says (said.Refused k) o r →
-      StepIs (settled (meetParticles c (viewCore o) i j (viewParticle p) (viewParticle q))) o r
-  refused-pair x k c r e ct ke says =
-      let z : Joining t p q (viewEnv (w .env)) (Refused x) = subst (λ (a : Offer). Joining t p q (viewEnv (w .env)) a) e (jn .is) in
-      number-refused _ o (w .offer) x k r e (z c ct (viewCore o) i j) ke says
 
 -- how many particles are left
-
-length-left : (again : Bool) (l : List MParticle) (i j : ℕ) → i < length l → j < length l → (i ≡ j → ⊥) → length (without again l i j) ≡ length l - cond again 1 2
+length-left : (replicated : Bool) (l : List Particle) (i j : ℕ) → i < length l → j < length l → (i ≡ j → ⊥) → length (without replicated l i j) ≡ length l - cond replicated 1 2
 length-left true l i j p q n = omega (arith, length-gone l i p)
 length-left false l i j p q n = go (ltb i j) refl
   where
@@ -160,92 +100,163 @@ length-left false l i j p q n = go (ltb i j) refl
     go true e = let a = length-gone l j q in let lt = ltb-true i j e in let d = length-gone (remove l j) i (omega arith) in omega (arith, a, d)
     go false e = let a = length-gone l i p in let ge = ltb-false i j e in let d = length-gone (remove l i) j (omega (arith, n)) in omega (arith, a, d)
 
--- the counts before the body unfolds
-pub pair-counts : (o : Side) → Sane o → Full o → (rest : Particles) (k : ℕ) → rest .len ≡ o .particles .len - k → (rest .len ≤ 32) × (o .boxes .len ≤ 16) × (o .minted ≤ 256)
-pair-counts o ok full rest k e = (omega (arith, particles-cap o ok full), boxes-cap o ok full, limits-in (viewCore o) (ok .few) .minted)
+-- WHAT THE CHECK FOR AN OUTPUT AND AN INPUT ANSWERED: a refusal, or the input's position
+module _ (l : List ℕ) (o : Rest) (i j : ℕ) (a : Offer)
+    (h : (c : Setting) (s : Core) → s .contents .particles ≡ viewRows l (o .particles) → OfferIs (settled (meet c s i j)) j (PairAt l (o .particles) i) a) where
+  pub no-pair : {n k : ℕ} → a ≡ Refused n → k ≡ numberOf a → {r : RestStep} → Says (said.Refused k) o r → (c : Setting) → StepIs (settled (meet c (coreOf l o) i j)) l o l r
+  no-pair {n} {k} q e {r} says c = offer-refused (settled (meet c (coreOf l o) i j)) j (PairAt l (o .particles) i) a (h c (coreOf l o) refl) n k l o r q e says
 
--- the pair where it may meet: the body at node n unfolds under ρ
-module _ (t : Table) (side : ℕ) (o : Side) (i j : ℕ) (p q : Particle) (M : MeetablePair t side o i j p q) (n : ℕ) (ρ : Env) (J : Joins t p q n ρ) (again : Bool) (ag : again ≡ eqb (kind t (q .node)) 6)
-    (rest : Particles) (left : ParticlesIs (without again (viewParticles (o .particles)) i j) (o .particles .len - cond again 1 2) (fitsParticles (o .particles)) rest)
-    (room : Bool) (rm : RoomIs t n (rest .len) (o .boxes .len) (o .minted) room) where
-  abbrev parts : List MParticle
-  parts = viewParticles (o .particles)
+  module _ {k : ℕ} (q : a ≡ At k) where
+    at : (k ≡ j) × PairAt l (o .particles) i k
+    at = offer-at (settled (meet anySetting (coreOf l o) i j)) j (PairAt l (o .particles) i) a (h anySetting (coreOf l o) refl) k q
 
-  room-is : room ≡ leb (rest .len + particlesIn (term t n)) 32 & (leb (o .boxes .len + boxesIn (term t n)) 16 & leb (o .minted + newNamesIn (term t n)) 256)
-  room-is = rm .is (M .passes) (J .scoped .inside)
+    pub pair-at : PairAt l (o .particles) i k
+    pair-at = at .1
 
-  pub pair-can : room ≡ true → CanUnfold t side n ρ (p .at) rest (o .boxes) (o .minted)
-  pair-can e =
-      let y = sym room-is ∙ e in
-      record {
-        side = M .side;
+    pub met-at : (c : Setting) {m : List ℕ} {r : RestStep} → StepIs (settled (meet c (coreOf l o) i k)) l o m r → StepIs (settled (meet c (coreOf l o) i j)) l o m r
+    met-at c {m} {r} x = subst (λ (y : ℕ). StepIs (settled (meet c (coreOf l o) i y)) l o m r) (at .0) x
+
+-- a join where the check answers the body's node
+pub joined-at : {t : Table} {l : List ℕ} {i j : ℕ} {e : List ℕ} {w : Joined} → JoinedIs t l i j e w → {n : ℕ} → w .offer ≡ At n → Joins t l i j n e (w .names)
+joined-at {t} {l} {i} {j} {e} {w} h q = subst (λ (a : Offer). Joining t l i j e (w .names) a) q (h .is)
+
+-- an input is replicated where its node's kind is 6
+pub replicated-is : (ns pool : List ℕ) {n k : ℕ} → n ≡ k → {x : Node} → NodeIs ns n x → eqb (x .kind) 6 ≡ eqb (kind (table ns pool) k) 6
+replicated-is ns pool q i = ap (λ (y : ℕ). eqb y 6) (i .k ∙ ap (kind (table ns pool)) q)
+
+-- THE PAIR
+module _ {t : Table} {side : ℕ} {l : List ℕ} {o : Rest} {i j : ℕ} (M : MeetablePair t side l o i j) where
+  abbrev ok : Sane l o
+  ok = M .sane
+
+  other : i ≡ j → ⊥
+  other e = M .pair .inp (ap (λ (k : ℕ). getD (rowAt l k) 0 0) (sym e) ∙ M .pair .out)
+
+  pub two-rows : 2 ≤ o .particles
+  two-rows = omega (arith, other, M .pair .held-i, M .pair .held-j)
+
+  pub rows-apart : Apart l (o .particles) i j
+  rows-apart = record { long = ok .long; few = rows-cap l o ok; held-i = M .pair .held-i; held-j = M .pair .held-j; other = other }
+
+  pub pair-counts : (left k : ℕ) → left ≡ o .particles - k → (left ≤ 32) × (o .boxes ≤ 16) × (o .minted ≤ 256)
+  pair-counts left k e = (omega (arith, rows-cap l o ok), boxes-cap l o ok, limits-in (coreOf l o) (ok .few) .minted)
+
+  -- the model's step is that of the two particles
+  at-pair : (c : Setting) → meet c (coreOf l o) i j ≡ meetParticles c (coreOf l o) i j (viewRow (rowAt l i)) (viewRow (rowAt l j))
+  at-pair c =
+      meet-at c (coreOf l o) i j _ _ (view-row l (o .particles) i (M .pair .held-i) (rows-cap l o ok)) (view-row l (o .particles) j (M .pair .held-j) (rows-cap l o ok))
+
+  -- a refusal of 13 to 16
+  pub pair-refused : {e : List ℕ} {w : Joined} → JoinedIs t l i j e w → {x : ℕ} → w .offer ≡ Refused x → {k : ℕ} → k ≡ numberOf (w .offer) → {r : RestStep} → Says (said.Refused k) o r →
+      (c : Setting) → c .table ≡ t → StepIs (settled (meet c (coreOf l o) i j)) l o l r
+  pair-refused {e} {w} h {x} q {k} ke {r} says c ct =
+      let z : Joining t l i j e (w .names) (Refused x) = subst (λ (a : Offer). Joining t l i j e (w .names) a) q (h .is) in
+      let number : x ≡ k = sym (ke ∙ ap numberOf q) in
+      refused-is _ l o k r (ap settled (at-pair c) ∙ z c ct (coreOf l o) ∙ ap refuse number) says
+
+  -- WHERE THEY JOIN: the body at node n unfolds under the first d names of e
+  module _ {n : ℕ} {e : List ℕ} {d : ℕ} (J : Joins t l i j n e d) {replicated : Bool} (ag : replicated ≡ eqb (kind t (nodeAt l j)) 6)
+      {left : ℕ} (le : left ≡ o .particles - cond replicated 1 2) {room : Bool} (rm : RoomIs t n left (o .boxes) (o .minted) room) where
+    abbrev node : ℕ
+    node = field t (nodeAt l j) 4
+
+    abbrev π : Env
+    π = extend (inputEnv t l j) (binders (inputPattern t l j)) (J .fit .bound)
+
+    abbrev remains : List Particle
+    remains = without (eqb (kind t (nodeAt l j)) 6) (viewRows l (o .particles)) i j
+
+    its-defined : defined (term t node) π ≡ true
+    its-defined = sym (ap₂ (λ (x : ℕ) (y : Env). defined (term t x) y) (J .body) (J .env)) ∙ J .is-defined
+
+    its-short : longIn (term t node) π ≡ false
+    its-short = sym (ap₂ (λ (x : ℕ) (y : Env). longIn (term t x) y) (J .body) (J .env)) ∙ J .short
+
+    its-sized : Sized π
+    its-sized = subst (λ (y : Env). Sized y) (J .env) (env-sized e d (J .words))
+
+    remain-left : length remains ≡ left
+    remain-left =
+        let v = rows-n l o ok in
+        ap (λ (b : Bool). length (without b (viewRows l (o .particles)) i j)) (sym ag) ∙
+        length-left replicated (viewRows l (o .particles)) i j (omega (arith, v, M .pair .held-i)) (omega (arith, v, M .pair .held-j)) other ∙
+        ap (λ (k : ℕ). k - cond replicated 1 2) v ∙ sym le
+
+    abbrev roomOf : (boxes m : ℕ) → Bool
+    roomOf bs m = leb (left + particlesIn (term t m)) 32 & (leb (bs + boxesIn (term t m)) 16 & leb (o .minted + newNamesIn (term t m)) 256)
+
+    room-now : room ≡ roomOf (o .boxes) n
+    room-now = rm .is (J .scoped .passes) (J .scoped .inside)
+
+    room-then : roomOf (length (viewBoxes l (o .boxes))) node ≡ room
+    room-then = ap₂ roomOf (boxes-n l o ok) (sym (J .body)) ∙ sym room-now
+
+    pub pair-full : room ≡ false → {r : RestStep} → Says (said.Refused 17) o r → (c : Setting) → c .table ≡ t → StepIs (settled (meet c (coreOf l o) i j)) l o l r
+    pair-full z {r} says c ct =
+        let full = meet-17 (onTable (M .joinable) c) (coreOf l o) i j _ _ _ _ _ (nodeAt l j) (valuesOf (rowAt l j)) (nodeAt l j) (eqb (kind t (nodeAt l j)) 6) _ _ _ _
+        (the-term (M .joinable)) (J .fits) (J .fit) (J .matched) its-defined its-sized its-short (ok .short-outputs) (ok .few) left remain-left (room-then ∙ z) in
+        refused-is _ l o 17 r (ap settled (at-pair c) ∙ for-all (M .joinable) c ct (coreOf l o) ∙ full) says
+
+    -- THERE IS ROOM: the rows are gone, and the body unfolds in box b
+    module _ (y : room ≡ true) {m : List ℕ} (R : RowsLeft replicated l (o .particles) i j m) {b : ℕ} (be : b ≡ getD (rowAt l i) 1 0) where
+      abbrev before : Counts
+      before = record { particles = left; boxes = o .boxes; minted = o .minted }
+
+      room-yes : (left + particlesIn (term t n) ≤ 32) × (o .boxes + boxesIn (term t n) ≤ 16) × (o .minted + newNamesIn (term t n) ≤ 256)
+      room-yes =
+          let w = sym room-now ∙ y in
+          let few = leb-true (left + particlesIn (term t n)) 32 (fst _ _ w) in
+          let some-boxes = leb-true (o .boxes + boxesIn (term t n)) 16 (fst _ _ (snd _ _ w)) in
+          (few, some-boxes, leb-true (o .minted + newNamesIn (term t n)) 256 (snd _ _ (snd _ _ w)))
+
+      pub body-can : CanUnfold t side n b e d m before
+      body-can = record {
+        narrow = M .narrow;
         scoped = J .scoped;
         short = J .short;
-        particles = leb-true (rest .len + particlesIn (term t n)) 32 (fst _ _ y);
-        boxes = leb-true (o .boxes .len + boxesIn (term t n)) 16 (fst _ _ (snd _ _ y));
-        names = leb-true (o .minted + newNamesIn (term t n)) 256 (snd _ _ (snd _ _ y));
-        place = M .home;
+        particles = room-yes .0;
+        boxes = room-yes .1;
+        minted = room-yes .2;
+        place = omega (arith, be, output-home l o ok i (M .pair .held-i) (M .pair .out), boxes-cap l o ok);
+        long = R .long ∙ ok .long;
+        width = J .words .long;
+        values = J .words .places;
+        fits = ap (fitsRows m) le ∙ R .fits (side-rows l o (ok .arrays));
       }
 
-  abbrev node : ℕ
-  node = field t (q .node) 4
+      -- what the body is added to, as the model has it
+      before-is : counted m before ≡ withParticles (coreOf l o .contents) remains
+      before-is =
+          let ps : viewRows m left ≡ remains = ap (viewRows m) le ∙ R .view ∙ ap (λ (a : Bool). without a (viewRows l (o .particles)) i j) ag in
+          ap₂ (λ (x : List Particle) (z : List Box). record { particles = x; boxes = z; minted = o .minted }) ps (boxes-kept l m (R .behind) (o .boxes))
 
-  abbrev π : Env
-  π = extend (envAt t (q .node) (valuesOf q)) (binders (patternAt (t .pool) (field t (q .node) 3))) (J .fit .bound)
+      module _ {f w : List ℕ} {u : Counts} (U : UnfoldedIs side (term t n) b e d m before f w u) where
+        shelf-same : drop 4640 w ≡ drop 4640 l
+        shelf-same = U .shelf ∙ sym (drop-drop 32 4608 m) ∙ ap (drop 32) (R .behind) ∙ drop-drop 32 4608 l
 
-  its-defined : defined (term t node) π ≡ true
-  its-defined = sym (ap₂ (λ (x : ℕ) (y : Env). defined (term t x) y) (J .body) (J .env)) ∙ J .is-defined
+        pub after-fits : fitsSide w (putCounts o u) ≡ true
+        after-fits =
+            let shelf = ap (λ (x : List ℕ). leb (o .shelved) 32 & every fitsPlace (take (o .shelved) (parts 17 32 x))) shelf-same ∙ side-shelf l o (ok .arrays) in
+            both _ _ (U .fits) (both _ _ (le-leb (u .boxes) 16 (omega (arith, U .boxes, room-yes .1))) (both _ _ (side-lobby l o (ok .arrays)) shelf))
 
-  its-short : longIn (term t node) π ≡ false
-  its-short = sym (ap₂ (λ (x : ℕ) (y : Env). longIn (term t x) y) (J .body) (J .env)) ∙ J .short
+        module _ (c : Setting) (cs : c .side ≡ side) (ct : c .table ≡ t) where
+          abbrev after : Core
+          after = withContents (coreOf l o) (unfolds (c .side) (term t node) π (getD (rowAt l i) 1 0) (withParticles (coreOf l o .contents) remains))
 
-  its-sized : Sized π
-  its-sized = subst (λ (y : Env). Sized y) (J .env) (J .paired)
+          contents-are : counted w u ≡ unfolds (c .side) (term t node) π (getD (rowAt l i) 1 0) (withParticles (coreOf l o .contents) remains)
+          contents-are =
+              U .view ∙ ap₂ (λ (x : ℕ) (v : Env). unfolds side (term t x) v b (counted m before)) (J .body) (J .env) ∙
+              ap₂ (λ (x : ℕ) (v : Contents). unfolds side (term t node) π x v) be before-is ∙
+              ap (λ (x : ℕ). unfolds x (term t node) π (getD (rowAt l i) 1 0) (withParticles (coreOf l o .contents) remains)) (sym cs)
 
-  length-rest : length (without (eqb (kind t (q .node)) 6) parts i j) ≡ rest .len
-  length-rest =
-      let v = particles-n o (M .sane) (M .full) in
-      ap (λ (b : Bool). length (without b parts i j)) (sym ag) ∙
-      length-left again parts i j (omega (arith, M .apart .held-i)) (omega (arith, M .apart .held-j)) (M .apart .other) ∙
-      ap (λ (k : ℕ). k - cond again 1 2) v ∙ sym (left .len)
+          after-is : coreOf w (putCounts o u) ≡ after
+          after-is =
+              let shelf : viewShelf w (o .shelved) ≡ viewShelf l (o .shelved) = ap (λ (x : List ℕ). map viewPlace (take (o .shelved) (parts 17 32 x))) shelf-same in
+              ap₂ (λ (x : Contents) (h : List (List ℕ)). record { contents = x; lobby = coreOf l o .lobby; shelf = h; taken = o .taken }) contents-are shelf
 
-  abbrev roomOf : ℕ → Bool
-  roomOf m = leb (rest .len + particlesIn (term t m)) 32 & (leb (length (viewBoxes (o .boxes)) + boxesIn (term t m)) 16 & leb (o .minted + newNamesIn (term t m)) 256)
-
-  room-of : roomOf node ≡ room
-  room-of =
-      sym (ap roomOf (J .body)) ∙
-      ap (λ (k : ℕ). leb (rest .len + particlesIn (term t n)) 32 & (leb (k + boxesIn (term t n)) 16 & leb (o .minted + newNamesIn (term t n)) 256)) (boxes-n o (M .sane) (M .full)) ∙ sym room-is
-
-  module _ (c : Setting) (cs : c .side ≡ side) (ct : c .table ≡ t) (r : SideStep) where
-    abbrev c′ : Setting
-    c′ = record { wrapper = c .wrapper; side = c .side; table = t }
-
-    pub pair-full : room ≡ false → Says (said.Refused 17) o r → StepIs (settled (meetParticles c (viewCore o) i j (viewParticle p) (viewParticle q))) o r
-    pair-full e says =
-        refused-is _ o 17 r
-        (for-all t p q (M .joinable) i j c ct (viewCore o) ∙
-        meet-17 c′ (viewCore o) i j _ _ _ _ _ (q .node) (valuesOf q) (q .node) (eqb (kind t (q .node)) 6) _ _ _ _ (the-term t p q (M .joinable)) (J .fits) (J .fit) (J .matched) its-defined its-sized its-short
-        (M .sane .short-outputs) (M .sane .few) (rest .len) length-rest (room-of ∙ e)) says
-
-    abbrev after : Core
-    after = withContents (viewCore o) (unfolds (c .side) (term t node) π (p .at) (withParticles (viewContents o) (without (eqb (kind t (q .node)) 6) parts i j)))
-
-    contents-is : contents rest (o .boxes) (o .minted) ≡ withParticles (viewContents o) (without (eqb (kind t (q .node)) 6) parts i j)
-    contents-is = ap (withParticles (viewContents o)) (left .view ∙ ap (λ (b : Bool). without b parts i j) ag)
-
-    core-is : (s : Side) → BodyUnfolded t side n ρ (p .at) rest o s → viewCore s ≡ after
-    core-is s B =
-        let same : viewCore s ≡ withContents (viewCore o) (viewContents s) = rw (B .lobby, B .shelf, B .taken) in
-        let moved : unfolds side (term t n) ρ (p .at) (contents rest (o .boxes) (o .minted)) ≡ unfolds (c .side) (term t node) π (p .at) (withParticles (viewContents o) (without (eqb (kind t (q .node)) 6) parts i j)) =
-        ap₂ (λ (x : ℕ) (y : Env). unfolds side (term t x) y (p .at) (contents rest (o .boxes) (o .minted))) (J .body) (J .env) ∙
-        ap₂ (λ (x : ℕ) (y : Contents). unfolds x (term t node) π (p .at) y) (sym cs) contents-is in
-        same ∙ ap (withContents (viewCore o)) (B .view ∙ moved)
-
-    pub pair-did : room ≡ true → (s : Side) → BodyUnfolded t side n ρ (p .at) rest o s → Says said.Silent s r → StepIs (settled (meetParticles c (viewCore o) i j (viewParticle p) (viewParticle q))) o r
-    pair-did e s B says =
-        quiet-is _ after o s s r
-        (for-all t p q (M .joinable) i j c ct (viewCore o) ∙
-        meet-done c′ (viewCore o) i j _ _ _ _ _ (q .node) (valuesOf q) (q .node) (eqb (kind t (q .node)) 6) _ _ _ _ (the-term t p q (M .joinable)) (J .fits) (J .fit) (J .matched) its-defined its-sized its-short
-        (M .sane .short-outputs) (M .sane .few) (rest .len) length-rest (room-of ∙ e)) says refl
-        (core-is s B) (B .left) (B .arrays (left .fits (side-particles o (M .sane .arrays))) (M .sane .arrays))
+          pub pair-did : {s : Rest} → s ≡ putCounts o u → {r : RestStep} → Says said.Silent s r → StepIs (settled (meet c (coreOf l o) i j)) l o w r
+          pair-did {s} se {r} says =
+              let did = meet-done (onTable (M .joinable) c) (coreOf l o) i j _ _ _ _ _ (nodeAt l j) (valuesOf (rowAt l j)) (nodeAt l j) (eqb (kind t (nodeAt l j)) 6) _ _ _ _
+              (the-term (M .joinable)) (J .fits) (J .fit) (J .matched) its-defined its-sized its-short (ok .short-outputs) (ok .few) left remain-left (room-then ∙ y) in
+              let whole = ap settled (at-pair c) ∙ for-all (M .joinable) c ct (coreOf l o) ∙ did in
+              quiet-is _ after l w o s (putCounts o u) r whole says se after-is (U .long ∙ R .long) after-fits

@@ -1,36 +1,33 @@
-// What is left of the particles, the limits, and the body's unfolding.
+// The rows that go, the limits, and the counts after.
+ghost use mathlib.Core.Path.{_≡_};
 ghost use mathlib.Core.Bool.{cond};
 ghost use mathlib.Core.List.{List};
 ghost use Prim.Native.Nat.{ℕ, _-_, _≤_};
-ghost use Rattle.model.specs.Step.{without};
-ghost use Rattle.values.specs.Env.{viewEnv};
 ghost use Rattle.tables.specs.Nodes.{table};
-ghost use Rattle.sides.specs.Views.{viewParticles, fitsParticles};
-ghost use Rattle.sides.specs.Holding.{ParticlesIs};
-ghost use Rattle.unfolding.specs.Settling.{CanUnfold};
-ghost use Rattle.meeting.specs.Meeting.{Apart, RoomIs, BodyUnfolded};
+ghost use Rattle.meeting.specs.Meeting.{Apart, RowsLeft, RoomIs};
 use scopes::unfolded::unfolded_at;
-use sides::Particles;
 use sides::Side;
-use unfolding::contents::unfold_into;
-use values::Env;
+use sides::remove_row;
 
-// The particles without the output i, and without the input j unless it is replicated.
-pub fn remaining(ps: Particles, replicated: bool, i: usize, j: usize) -> Particles
-    requires { ⌜ Apart ps i j ⌝ }
-    ensures { λ r. ⌜ ParticlesIs (without replicated (viewParticles ps) i j) (ps .len - cond replicated 1 2) (fitsParticles ps) r ⌝ }
+// How many of n rows are left when an output and, unless it is replicated, an input go.
+pub(crate) fn rows_left(n: usize, replicated: bool) -> usize
+    requires { ⌜ 2 ≤ n ⌝ }
+    ensures { λ r. ⌜ r ≡ n - cond replicated 1 2 ⌝ }
 {
     if replicated {
-        return ps.without(i);
+        return n - 1;
     }
-    if i < j {
-        return ps.without(j).without(i);
-    }
-    ps.without(i).without(j)
+    n - 2
 }
 
 // Whether the limits are kept where the body at node n unfolds beside so many particles, boxes and minted names.
-pub fn has_room(nodes: &[u32], n: usize, particles: usize, boxes: usize, minted: usize) -> bool
+pub(crate) fn has_room(
+    nodes: &[u32],
+    n: usize,
+    particles: usize,
+    boxes: usize,
+    minted: usize,
+) -> bool
     requires { ⌜ (particles ≤ 32) × (boxes ≤ 16) × (minted ≤ 256) ⌝ }
     ensures { λ r. ⌜ ((pool : List ℕ) → RoomIs (table (now (nodes .entry)) pool) n particles boxes minted r) ⌝ }
 {
@@ -38,25 +35,20 @@ pub fn has_room(nodes: &[u32], n: usize, particles: usize, boxes: usize, minted:
     Side::contents_within(particles + u.particles, boxes + u.boxes, minted + u.names)
 }
 
-// The side where the body at node n has unfolded in box b, beside the particles that are left.
-pub fn with_body(
-    nodes: &[u32],
-    pool: &[u32],
-    side: u32,
-    o: Side,
-    rest: Particles,
-    n: usize,
-    e: Env,
-    b: usize,
-) -> Side
-    requires { ⌜ CanUnfold (table (now nodes) (now pool)) side n (viewEnv e) b rest (o .boxes) (o .minted) ⌝ }
-    ensures { λ r. ⌜ BodyUnfolded (table (now (nodes .entry)) (now (pool .entry))) side n (viewEnv e) b rest o r ⌝ }
+// The output i of n rows goes, and the input j unless it is replicated.
+pub(crate) fn remove_pair(rows: &mut [u32], n: usize, replicated: bool, i: usize, j: usize)
+    requires { ⌜ Apart (now rows) n i j ⌝ }
+    ensures { λ _. ⌜ RowsLeft replicated (now (rows .entry)) n i j (now (rows .exit)) ⌝ }
 {
-    let bs = o.boxes;
-    let u = unfold_into(nodes, pool, side, n, e, b, rest, bs, o.minted);
-    let particles = u.particles;
-    let boxes = u.boxes;
-    o.with_particles(particles)
-        .with_boxes(boxes)
-        .with_minted(u.minted)
+    if replicated {
+        remove_row(rows, i, n);
+        return;
+    }
+    if i < j {
+        let k = remove_row(rows, j, n);
+        remove_row(rows, i, k);
+        return;
+    }
+    let k = remove_row(rows, i, n);
+    remove_row(rows, j, k);
 }

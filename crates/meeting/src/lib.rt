@@ -1,93 +1,113 @@
-// Meet: an output and an input in one box, on one channel, with fitting tags. The input's body unfolds with the bindings.
+// Meet, over a side's lent words: an output and an input in one box, on one channel, with fitting tags. The input's body unfolds
+// with the bindings. A refusal leaves the very words.
 ghost use mathlib.Core.Path.{_≡_};
+ghost use Prim.Native.Nat.{_≤_};
+ghost use lib.ListN.{length};
 ghost use Rattle.model.specs.Load.{Setting};
-ghost use Rattle.model.specs.Step.{meet, meetParticles, settled};
-ghost use Rattle.sides.specs.Views.{viewParticle, viewCore};
+ghost use Rattle.model.specs.Side.{Core};
+ghost use Rattle.model.specs.Step.{meet, settled};
 ghost use Rattle.tables.specs.Nodes.{table};
+ghost use Rattle.sides.specs.Layout.{viewRows};
+ghost use Rattle.sides.specs.Sides.{coreOf};
 ghost use Rattle.steps.specs.Asked.{OfferIs};
-ghost use Rattle.steps.specs.StepIs.{Sane, StepIs};
+ghost use Rattle.steps.specs.StepIs.{StepIs};
 ghost use Rattle.meeting.specs.Meeting.{PairAt, Meetable, MeetablePair};
 use bodies::has_room;
-use bodies::remaining;
-use bodies::with_body;
+use bodies::remove_pair;
+use bodies::rows_left;
 use pairs::join;
-use sides::Particle;
-use sides::Side;
+use sides::Rest;
+use sides::Row;
+use sides::word_at;
 use steps::Offer;
+use steps::RestStep;
 use steps::Said;
-use steps::SideStep;
 use tables::nodes::node_at;
+use unfolding::Counts;
+use unfolding::unfold_at;
 
-mod bodies; // what is left of the particles, the limits, and the body's unfolding
+mod bodies; // the rows that go, the limits, the counts after
 mod pairs; // whether an output and an input meet
 
-// Whether particle i is an output and particle j an input. The position is j.
-fn pair_offer(o: Side, i: usize, j: usize) -> Offer
-    requires { ⌜ Sane o ⌝ }
-    ensures { λ r. ⌜ ((c : Setting) → OfferIs (settled (meet c (viewCore o) i j)) j (PairAt o i) r) ⌝ }
+// A word as a number of places.
+pub(crate) fn wide(x: u32) -> usize
+    ensures { λ r. ⌜ r ≡ x ⌝ }
 {
-    let ps = o.particles;
-    if ps.len <= i {
-        return Offer::Refused(10);
-    }
-    if ps.len <= j {
-        return Offer::Refused(10);
-    }
-    let p = ps.rows[i];
-    let q = ps.rows[j];
-    if p.is_output {
-        if q.is_output {
-            return Offer::Refused(13);
-        }
-        return Offer::At(j);
-    }
-    Offer::Refused(13)
+    x as usize
 }
 
-// The output p, particle i, and the input q, particle j.
+// Whether row i of n is an output and row j an input. The position is j.
+fn pair_offer(rows: &[u32], n: usize, i: usize, j: usize) -> Offer
+    requires { ⌜ (length (now rows) ≡ 5184) × (n ≤ 32) ⌝ }
+    ensures { λ r. ⌜ ((c : Setting) (s : Core) → s .contents .particles ≡ viewRows (now (rows .entry)) n → OfferIs (settled (meet c s i j)) j (PairAt (now (rows .entry)) n i) r) ⌝ }
+{
+    if n <= i {
+        return Offer::Refused(10);
+    }
+    if n <= j {
+        return Offer::Refused(10);
+    }
+    if word_at(rows, i, Row::OUTPUT) != 1 {
+        return Offer::Refused(13);
+    }
+    if word_at(rows, j, Row::OUTPUT) == 1 {
+        return Offer::Refused(13);
+    }
+    Offer::At(j)
+}
+
+// The output i and the input j. The limits are tested before a row goes.
 fn meet_pair(
     nodes: &[u32],
     pool: &[u32],
     side: u32,
-    o: Side,
+    rows: &mut [u32],
+    o: Rest,
     i: usize,
     j: usize,
-    p: Particle,
-    q: Particle,
-) -> SideStep
-    requires { ⌜ MeetablePair (table (now nodes) (now pool)) side o i j p q ⌝ }
-    ensures { λ r. ⌜ ((c : Setting) → c .side ≡ side → c .table ≡ table (now (nodes .entry)) (now (pool .entry)) → StepIs (settled (meetParticles c (viewCore o) i j (viewParticle p) (viewParticle q))) o r) ⌝ }
+) -> RestStep
+    requires { ⌜ MeetablePair (table (now nodes) (now pool)) side (now rows) o i j ⌝ }
+    ensures { λ r. ⌜ ((c : Setting) → c .side ≡ side → c .table ≡ table (now (nodes .entry)) (now (pool .entry)) → StepIs (settled (meet c (coreOf (now (rows .entry)) o) i j)) (now (rows .entry)) o (now (rows .exit)) r) ⌝ }
 {
-    let w = join(nodes, pool, p, q);
+    let mut e = [0; 144];
+    let w = join(nodes, pool, rows, i, j, &mut e);
     let a = w.offer;
     let Offer::At(n) = a else {
-        return SideStep::plain(Said::Refused(a.number()), o);
+        return RestStep::plain(Said::Refused(a.number()), o);
     };
-    let e = w.env;
-    let x = node_at(nodes, q.node);
-    let ps = o.particles;
-    let bs = o.boxes;
-    let rest = remaining(ps, x.kind == 6, i, j);
-    if has_room(nodes, n, rest.len, bs.len, o.minted) {
-        return SideStep::plain(
-            Said::Silent,
-            with_body(nodes, pool, side, o, rest, n, e, p.at),
-        );
+    let x = node_at(nodes, wide(word_at(rows, j, Row::NODE)));
+    let replicated = x.kind == 6;
+    let left = rows_left(o.particles, replicated);
+    if !has_room(nodes, n, left, o.boxes, o.minted) {
+        return RestStep::plain(Said::Refused(17), o);
     }
-    SideStep::plain(Said::Refused(17), o)
+    let b = wide(word_at(rows, i, Row::BOX));
+    remove_pair(rows, o.particles, replicated, i, j);
+    let c = Counts {
+        particles: left,
+        boxes: o.boxes,
+        minted: o.minted,
+    };
+    let u = unfold_at(nodes, pool, side, n, b, &mut e, w.names, rows, c);
+    RestStep::plain(Said::Silent, u.put_into(o))
 }
 
 // Meet: output i and input j.
-pub fn meet(nodes: &[u32], pool: &[u32], side: u32, o: Side, i: usize, j: usize) -> SideStep
-    requires { ⌜ Meetable (table (now nodes) (now pool)) side o ⌝ }
-    ensures { λ r. ⌜ ((c : Setting) → c .side ≡ side → c .table ≡ table (now (nodes .entry)) (now (pool .entry)) → StepIs (settled (meet c (viewCore o) i j)) o r) ⌝ }
+pub fn meet(
+    nodes: &[u32],
+    pool: &[u32],
+    side: u32,
+    rows: &mut [u32],
+    o: Rest,
+    i: usize,
+    j: usize,
+) -> RestStep
+    requires { ⌜ Meetable (table (now nodes) (now pool)) side (now rows) o ⌝ }
+    ensures { λ r. ⌜ ((c : Setting) → c .side ≡ side → c .table ≡ table (now (nodes .entry)) (now (pool .entry)) → StepIs (settled (meet c (coreOf (now (rows .entry)) o) i j)) (now (rows .entry)) o (now (rows .exit)) r) ⌝ }
 {
-    let a = pair_offer(o, i, j);
+    let a = pair_offer(rows, o.particles, i, j);
     let Offer::At(k) = a else {
-        return SideStep::plain(Said::Refused(a.number()), o);
+        return RestStep::plain(Said::Refused(a.number()), o);
     };
-    let ps = o.particles;
-    let p = ps.rows[i];
-    let q = ps.rows[k];
-    meet_pair(nodes, pool, side, o, i, k, p, q)
+    meet_pair(nodes, pool, side, rows, o, i, k)
 }

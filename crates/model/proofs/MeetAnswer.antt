@@ -49,7 +49,6 @@ use Rattle.model.proofs.MatchingBack.{MatchedBack, match-back}
 use Rattle.model.proofs.DefinedBack.{env-back, sound-fits}
 use Rattle.model.proofs.LongOutputs.{Lengths, env-lengths, short-unless-long}
 use Rattle.model.proofs.Completing.{Answers}
-use Rattle.model.proofs.Completing.{Answers}
 use Rattle.model.proofs.SilentTargets.{silent-leads}
 
 -- complementary tags fit

@@ -1,1 +1,3 @@
+pub mod BeginLaws
 pub mod RunLaws
+pub mod Turns

@@ -1,13 +1,13 @@
 -- A run by words.
 use mathlib.Core.Path.{_≡_, refl, sym, ap, subst, _∙_}
-use mathlib.Core.Bool.{Bool, true, false, _&&_}
+use mathlib.Core.Bool.{Bool, true, false}
 use mathlib.Core.List.{List, [], _∷_, _++_, append-nil, append-assoc}
 use mathlib.Core.Option.{Option, none, some}
 use Prim.Native.Nat.{ℕ, _+_, _-_, _*_, _/_, _<_, _≤_}
 use native.Mathlib.Omega.{arith}
 use native.Mathlib.Numerals.{add-one}
 use borrow.Author.Tests.{lt-ltb, le-ltb}
-use lib.Dec.{eqb, ltb}
+use lib.Dec.{ltb}
 use lib.ListN.{length, getD, take, drop, set, replicate, length-append, take-append-drop}
 use lib.Seq.{paste, take-all, length-take-le, drop-drop, paste-suc, length-paste, take-paste, drop-paste}
 use Rattle.model.specs.Basics.{choose}
@@ -15,30 +15,21 @@ use Rattle.model.specs.Side.{State as MState}
 use Rattle.model.specs.Load.{Composition, Refused, Loaded, refused, ok, load}
 use Rattle.model.specs.WellFormed.{ready}
 use Rattle.model.specs.Step.{Step, step}
-use Rattle.model.proofs.Invariant.{keeps}
-use Rattle.model.proofs.Starts.{starts}
-use Rattle.model.specs.Answer.{Given, given}
 use Rattle.model.specs.Runs.{answers}
+use Rattle.model.proofs.Tests.{some-inj}
+use Rattle.model.proofs.Invariant.{keeps}
 use Rattle.format.specs.Words.{before, stepsOf, stepAt, saidWords, givenWords, answerWords, allAnswerWords, tooShort, runFrom, runSteps, runOf}
 use Rattle.format.specs.Words.{Ran as FRan}
 use Rattle.format.proofs.AnswerWords.{answers-many}
 use Rattle.format.proofs.StepWords.{steps-next, steps-short, steps-cut, steps-end, Next, next-step}
 use Rattle.steps.specs.declared.Said.{Said}
 use Rattle.steps.specs.declared.Said.the-variants as said
-use Rattle.sides.specs.declared.Side.{Side}
-use Rattle.sides.specs.declared.State.{State}
-use Rattle.sides.specs.Views.{viewState, stateOf, fitsArrays}
-use Rattle.sides.proofs.Sides.{state-some, state-none}
-use Rattle.interpreter.specs.declared.Outcome.the-variants as outcome
-use Rattle.interpreter.specs.declared.LoadAnswer.{LoadAnswer}
+use Rattle.loading.specs.declared.Outcome.the-variants as outcome
+use Rattle.loading.specs.Loading.{outcomeOf}
+use Rattle.answers.specs.Answers.{saidOf, givenFor}
 use Rattle.running.specs.declared.Ran.{Ran}
 use Rattle.running.specs.declared.Ran.the-variants as ran
-use Rattle.interpreter.proofs.WrapperLaws.{isPipeline}
-use Rattle.interpreter.specs.Loading.{outcomeOf, stateLoaded, LoadIs}
-use Rattle.dispatch.specs.Stepping.{asked}
-use Rattle.interpreter.specs.Answers.{saidOf, givenFor}
 use Rattle.running.specs.Running.{countOf, wordsIn, Put, RunIs}
-use Rattle.model.proofs.Tests.{some-inj}
 
 -- HOW MANY STEPS
 -- n steps before a count
@@ -55,7 +46,8 @@ unfolding before
 count-before n x none = refl
 count-before n x (some xs) = ap some (omega arith)
 
-pub count-next : (l : List ℕ) (p n c : ℕ) (z : Option ℕ) → c ≡ getD l (p + 4) 0 → p + 5 ≤ length l → c ≤ length l - (p + 5) → z ≡ plus n (countOf (stepsOf (drop p l))) → z ≡ plus (n + 1) (countOf (stepsOf (drop (p + 5 + c) l)))
+pub count-next : (l : List ℕ) (p n c : ℕ) (z : Option ℕ) → c ≡ getD l (p + 4) 0 → p + 5 ≤ length l → c ≤ length l - (p + 5) →
+    z ≡ plus n (countOf (stepsOf (drop p l))) → z ≡ plus (n + 1) (countOf (stepsOf (drop (p + 5 + c) l)))
 count-next l p n c z w a h e =
     e
     ∙ ap (λ (r : Option (List Step)). plus n (countOf r)) (steps-next l p a (omega arith))
@@ -72,7 +64,8 @@ pub count-end : (l : List ℕ) (p n : ℕ) (z : Option ℕ) → length l ≤ p �
 count-end l p n z h e = sym (e ∙ ap (λ (r : Option (List Step)). plus n (countOf r)) (steps-end l p h) ∙ ap some (omega arith))
 
 -- COPIES
-pub copy-next : (l d : List ℕ) (at m : ℕ) (ws : List ℕ) (k : ℕ) → length d ≡ m → l ≡ paste d at ws k → at + k < m → k < length ws → set l (at + k) (getD ws k 0) ≡ paste d at ws (k + 1)
+pub copy-next : (l d : List ℕ) (at m : ℕ) (ws : List ℕ) (k : ℕ) → length d ≡ m → l ≡ paste d at ws k → at + k < m → k < length ws →
+    set l (at + k) (getD ws k 0) ≡ paste d at ws (k + 1)
 copy-next l d at m ws k z e a b = ap (λ (x : List ℕ). set x (at + k) (getD ws k 0)) e ∙ paste-suc d at ws k 0 (omega arith) b ∙ ap (paste d at ws) (sym (add-one k))
 
 pub copy-all : (l d : List ℕ) (at : ℕ) (ws : List ℕ) (k n : ℕ) → k ≡ n → l ≡ paste d at ws k → l ≡ paste d at ws n
@@ -85,7 +78,12 @@ two-said said.In = refl
 two-said said.Out = refl
 two-said (said.Refused n) = refl
 
-pub words-made : (y : Said) (a b s n m : ℕ) (ws l : List ℕ) → n ≡ m → a ≡ getD (saidWords (saidOf y)) 0 0 → b ≡ getD (saidWords (saidOf y)) 1 0 → length ws ≡ 16 → l ≡ paste (set (set (set (set (replicate 20 0) 0 a) 1 b) 2 s) 3 n) 4 ws 16 → l ≡ wordsIn y s m ws
+-- its first four words, before zeros
+abbrev pub headOf : (said number side len : ℕ) → List ℕ
+headOf a b s n = set (set (set (set (replicate 20 0) 0 a) 1 b) 2 s) 3 n
+
+pub words-made : (y : Said) (a b s n m : ℕ) (ws l : List ℕ) → n ≡ m → a ≡ getD (saidWords (saidOf y)) 0 0 → b ≡ getD (saidWords (saidOf y)) 1 0 → length ws ≡ 16 →
+    l ≡ paste (headOf a b s n) 4 ws 16 → l ≡ wordsIn y s m ws
 words-made y a b s n m ws l z p q e h =
     h
     ∙ append-nil (a ∷ b ∷ s ∷ n ∷ take 16 ws)
@@ -104,13 +102,6 @@ pub answer-words : (y : Said) (s : ℕ) (l ws of : List ℕ) (n : ℕ) → n ≡
 answer-words y s l ws of n p q h = h ∙ ap (λ (m : ℕ). wordsIn y s m ws) p ∙ ap (wordsIn y s (length l)) q
 
 -- THE RUN
--- the state of two sides
-abbrev pub joined : (one two : Side) → State
-joined a c = record { one = a; two = c }
-
-pub same-joined : {a b c d : Side} → a ≡ b → c ≡ d → joined a c ≡ joined b d
-same-joined p q = rw (p, q)
-
 -- the words written so far, and the steps still to come
 pub record Running (b : Composition) (s : MState) (l lent : List ℕ) (n k p : ℕ) (t : MState) (out : List ℕ) : Type 0 where
   pub rest : List Step
@@ -158,7 +149,8 @@ module _ {b : Composition} {s : MState} {l lent : List ℕ} {n k p : ℕ} {t : M
   pub next-fits : k < n → getD l (p + 4) 0 ≤ length l - (p + 5)
   next-fits lt = coming lt .next .fits
 
-  pub run-more : (lt : k < n) → 20 * n ≤ length lent → (u : MState) (ws new : List ℕ) (place : ℕ) → ws ≡ answerWords (step b t (stepAt l p) .answer) → length ws ≡ 20 → u ≡ step b t (stepAt l p) .after → new ≡ paste out (20 * k) ws 20 → place ≡ p + 5 + getD l (p + 4) 0 → Running b s l lent n (k + 1) place u new
+  pub run-more : (lt : k < n) → 20 * n ≤ length lent → (u : MState) (ws new : List ℕ) (place : ℕ) → ws ≡ answerWords (step b t (stepAt l p) .answer) → length ws ≡ 20 →
+      u ≡ step b t (stepAt l p) .after → new ≡ paste out (20 * k) ws 20 → place ≡ p + 5 + getD l (p + 4) 0 → Running b s l lent n (k + 1) place u new
   unfolding answers
   run-more lt room u ws new place e len after put at =
       let y = coming lt in
@@ -166,14 +158,17 @@ module _ {b : Composition} {s : MState} {l lent : List ℕ} {n k p : ℕ} {t : M
       let q : 20 * (k + 1) ≡ 20 * k + 20 = omega arith in
       let inside : 20 * k ≤ length out = omega (arith, h .size) in
       let all : 20 ≤ length ws = omega arith in
-      let taken : take (20 * (k + 1)) new ≡ take (20 * k) out ++ ws = ap (λ (m : ℕ). take m new) q ∙ ap (take (20 * k + 20)) put ∙ take-paste out (20 * k) ws 20 inside all ∙ ap (λ (z : List ℕ). take (20 * k) out ++ z) (take-all 20 ws (omega arith)) in
+      let taken : take (20 * (k + 1)) new ≡ take (20 * k) out ++ ws =
+      ap (λ (m : ℕ). take m new) q ∙ ap (take (20 * k + 20)) put ∙ take-paste out (20 * k) ws 20 inside all ∙ ap (λ (z : List ℕ). take (20 * k) out ++ z) (take-all 20 ws (omega arith)) in
       record {
         rest = y .others;
         left = ap (λ (m : ℕ). stepsOf (drop m l)) at ∙ y .next .rest;
         many = omega (arith, h .many, ap length (y .is));
         ready = ap (ready b) after ∙ keeps b t x (h .ready);
         size = ap length put ∙ length-paste out (20 * k) ws 20 (omega (arith, h .size)) all ∙ h .size;
-        same = ap (λ (m : ℕ). drop m new) q ∙ ap (drop (20 * k + 20)) put ∙ drop-paste out (20 * k) ws 20 inside all ∙ sym (drop-drop 20 (20 * k) out) ∙ ap (drop 20) (h .same) ∙ drop-drop 20 (20 * k) lent ∙ ap (λ (m : ℕ). drop m lent) (sym q);
+        same =
+            ap (λ (m : ℕ). drop m new) q ∙ ap (drop (20 * k + 20)) put ∙ drop-paste out (20 * k) ws 20 inside all ∙
+            sym (drop-drop 20 (20 * k) out) ∙ ap (drop 20) (h .same) ∙ drop-drop 20 (20 * k) lent ∙ ap (λ (m : ℕ). drop m lent) (sym q);
         total = λ xs f.
             h .total xs f
             ∙ ap (λ (r : List Step). take (20 * k) out ++ allAnswerWords (answers b t r)) (y .is ∙ ap (λ (z : Step). z ∷ y .others) (sym (y .next .step)))
@@ -183,11 +178,6 @@ module _ {b : Composition} {s : MState} {l lent : List ℕ} {n k p : ℕ} {t : M
             ∙ ap (λ (z : List ℕ). z ++ allAnswerWords (answers b u (y .others))) (sym taken);
       }
 
-  -- the same by the structs: u is the state of the two sides after the step
-  pub run-on : k < n → 20 * n ≤ length lent → (v u : State) → v ≡ u → (g : Given) → g ≡ given (step b t (stepAt l p) .answer) → length (givenWords g) ≡ 20 → viewState u ≡ step b t (stepAt l p) .after → fitsArrays u ≡ true →
-      (new : List ℕ) (place : ℕ) → new ≡ paste out (20 * k) (givenWords g) 20 → place ≡ p + 5 + getD l (p + 4) 0 → (fitsArrays v ≡ true) × Running b s l lent n (k + 1) place (viewState v) new
-  run-on lt room v u q g e len after fits new place put at = (ap fitsArrays q ∙ fits, run-more lt room (viewState v) (givenWords g) new place (ap givenWords e) len (ap viewState q ∙ after) put at)
-
   pub run-end : n ≤ k → 20 * n ≤ length lent → (xs : List Step) → stepsOf l ≡ some xs → Put (allAnswerWords (answers b s xs)) n lent out
   unfolding answers
   run-end le room xs f = by (h .rest) refl
@@ -195,7 +185,8 @@ module _ {b : Composition} {s : MState} {l lent : List ℕ} {n k p : ℕ} {t : M
       by : (r : List Step) → h .rest ≡ r → Put (allAnswerWords (answers b s xs)) n lent out
       by (y ∷ ys) e = absurd (omega (arith, h .many, ap length e))
       by [] e =
-          let w : allAnswerWords (answers b s xs) ≡ take (20 * k) out = h .total xs f ∙ ap (λ (r : List Step). take (20 * k) out ++ allAnswerWords (answers b t r)) e ∙ append-nil (take (20 * k) out) in
+          let w : allAnswerWords (answers b s xs) ≡ take (20 * k) out =
+          h .total xs f ∙ ap (λ (r : List Step). take (20 * k) out ++ allAnswerWords (answers b t r)) e ∙ append-nil (take (20 * k) out) in
           let c : length (allAnswerWords (answers b s xs)) ≡ 20 * k = ap length w ∙ length-take-le (20 * k) out (omega (arith, h .size, h .many)) in
           record {
             size = omega (arith, c, h .many, ap length e);
@@ -206,6 +197,16 @@ module _ {b : Composition} {s : MState} {l lent : List ℕ} {n k p : ℕ} {t : M
           }
 
 -- WHAT A RUN COMES TO
+-- the state is the one that load leads to
+pub put-from : (b : Composition) (s t : MState) (xs : List Step) (n : ℕ) (lent new : List ℕ) → load b ≡ ok t → load b ≡ ok s →
+    Put (allAnswerWords (answers b t xs)) n lent new → Put (allAnswerWords (answers b s xs)) n lent new
+put-from b s t xs n lent new e f h =
+    let same : t ≡ s = ok-same t s (sym e ∙ f) in
+    subst (λ (y : MState). Put (allAnswerWords (answers b y xs)) n lent new) same h
+  where
+    ok-same : (t s : MState) → ok t ≡ ok s → t ≡ s
+    ok-same t s q = cc
+
 pub has-room : (m n : ℕ) → n ≤ m / 20 → 20 * n ≤ m
 has-room m n h = omega arith
 
@@ -252,41 +253,8 @@ module _ (b : Composition) (l lent : List ℕ) where
     pub run-refused : n ≤ length lent / 20 → (k i m : ℕ) → outcomeOf (load b) ≡ outcome.Refused k i m → RunIs (runOf b l (length lent)) lent lent (ran.Refused k i m)
     run-refused room k i m e = run-by (room-left room ∙ ap (runFrom b (h .steps)) (refused-is k i m (load b) e)) (record { answer = refl; put = record { size = refl; words = refl } })
 
-    pub run-done : n ≤ length lent / 20 → (s : MState) → load b ≡ ok s → (new : List ℕ) → Put (allAnswerWords (answers b s (h .steps))) n lent new → RunIs (runOf b l (length lent)) lent new (ran.Done n)
+    pub run-done : n ≤ length lent / 20 → (s : MState) → load b ≡ ok s → (new : List ℕ) →
+        Put (allAnswerWords (answers b s (h .steps))) n lent new → RunIs (runOf b l (length lent)) lent new (ran.Done n)
     run-done room s e new w =
         let many : n ≡ length (answers b s (h .steps)) = sym (h .many) ∙ sym (answers-many b s (h .steps)) in
         run-by (room-left room ∙ ap (runFrom b (h .steps)) e) (record { answer = ap ran.Done many; put = record { size = w .size ∙ ap (λ (m : ℕ). 20 * m) many; words = w .words } })
-
--- a load that is ok gives the state that its struct holds
-pub record Begun (b : Composition) (t : State) : Type 0 where
-  pub loads : load b ≡ ok (viewState t)
-  pub arrays : fitsArrays t ≡ true
-  pub ready : ready b (viewState t) ≡ true
-
-some-view : (t : State) (s : MState) → stateOf t ≡ some s → (fitsArrays t ≡ true) × (viewState t ≡ s)
-some-view t s g = by (fitsArrays t) refl
-  where
-    by : (x : Bool) → fitsArrays t ≡ x → (fitsArrays t ≡ true) × (viewState t ≡ s)
-    by true e = (e, some-inj (sym (state-some t e) ∙ g))
-    by false e = let z : none ≡ some s = sym (state-none t e) ∙ g in let w : _≡_ {A = ℕ} 0 1 = cc in absurd (omega arith)
-
-pub begun : (b : Composition) (a : LoadAnswer) → LoadIs (load b) a → a .outcome ≡ outcome.Ok → Begun b (a .state)
-begun b a h e = by (load b) refl (h .outcome) (h .state)
-  where
-    by : (o : Loaded) → load b ≡ o → a .outcome ≡ outcomeOf o → stateOf (a .state) ≡ some (stateLoaded o) → Begun b (a .state)
-    by (refused x) q f g = let z : outcome.Ok ≡ outcome.Refused (x .number) (x .side) (x .node) = sym e ∙ f in let w : _≡_ {A = ℕ} 0 1 = cc in absurd (omega arith)
-    by (ok s) q f g =
-        let y = some-view (a .state) s g in
-        let k : load b ≡ ok (viewState (a .state)) = q ∙ ap ok (sym (y .1)) in
-        record { loads = k; arrays = y .0; ready = starts b (viewState (a .state)) k }
-
--- the step asked for is the one whose words stand at a place
-pub asked-at : (l : List ℕ) (p k i j : ℕ) (ws : List ℕ) → k ≡ stepAt l p .kind → i ≡ stepAt l p .i → j ≡ stepAt l p .j → ws ≡ stepAt l p .words → asked k (stepAt l p .side) i j ws ≡ stepAt l p
-asked-at l p k i j ws a b c d = rw (a, b, c, d)
-
--- which side is asked, by the word read
-pub not-first : {n m : ℕ} → n ≡ m → (n ≡ 1 → ⊥) → m ≡ 1 → ⊥
-not-first e h z = h (e ∙ z)
-
-pub asked-second : (b : Composition) {n m : ℕ} {r q : Bool} → n ≡ m → r ≡ eqb n 2 && eqb (b .wrapper) 2 → r ≡ q → eqb m 2 && isPipeline b ≡ q
-asked-second b e f g = ap (λ (k : ℕ). eqb k 2 && eqb (b .wrapper) 2) (sym e) ∙ sym f ∙ g

@@ -8,7 +8,7 @@ use Rattle.model.specs.Step.{Step}
 use Rattle.format.specs.Words.{brokenOff, tooShort, unloaded, answered, givenWords, writtenBy, onto}
 use Rattle.format.specs.Words.{Ran as FRan}
 use Rattle.steps.specs.declared.Said.{Said}
-use Rattle.interpreter.specs.Answers.{saidOf}
+use Rattle.answers.specs.Answers.{saidOf}
 use Rattle.running.specs.declared.step_words.Counted.{Counted}
 use Rattle.running.specs.declared.step_words.Counted.the-variants as counted
 use Rattle.running.specs.declared.Ran.{Ran}

@@ -5,9 +5,9 @@ ghost use lib.ListN.{length, getD};
 ghost use lib.Seq.{paste};
 ghost use Rattle.format.specs.Words.{saidWords, givenWords};
 ghost use Rattle.values.specs.Env.{viewValue};
-ghost use Rattle.interpreter.specs.Answers.{saidOf, givenFor};
+ghost use Rattle.answers.specs.Answers.{saidOf, givenFor};
 ghost use Rattle.running.specs.Running.{wordsIn};
-use interpreter::padded;
+use answers::padded;
 use steps::Said;
 use values::Value;
 

@@ -1,5 +1,13 @@
 pub mod Lists
+pub mod Lobbies
 pub mod Marks
 pub mod Tagged
-pub mod Sides
-pub mod Shelving
+pub mod Sets
+pub mod Parts
+pub mod Storing
+pub mod Reading
+pub mod Substituting
+pub mod Viewing
+pub mod Putting
+pub mod Binding
+pub mod Behind

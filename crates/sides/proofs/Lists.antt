@@ -13,8 +13,6 @@ use lib.Seq.{take-suc-set, take-suc, take-set-lt, drop-append-le, drop-set-lt, d
 use Rattle.model.specs.Basics.{Res, _&_, every, remove, pick}
 use Rattle.model.proofs.Tests.{fst, snd, both, every-append, every-one, every-remove, every-set}
 
--- what owning an array of structs tells of its list's length: for `search unmap`
-
 -- a list without its place i, in two parts
 split-suc : {A : Type 0} (l : List A) (i : ℕ) → take i l ++ drop (suc i) l ≡ remove l i
 split-suc [] zero = refl
@@ -58,13 +56,6 @@ module _ {A B : Type 0} (f : A → B) where
       go (x ∷ l) (suc n) zero h m = refl
       go (x ∷ l) (suc n) (suc i) h m = go l n i (omega arith) (omega arith)
   view-at l zero i d h m = absurd (omega arith)
-
-  pub view-pick : {C : Type 0} (l : List A) (n i : ℕ) (d : A) (g : B → Res C) → i < n → n ≤ length l → pick (map f (take n l)) i g ≡ g (f (getD l i d))
-  unfolding pick
-  view-pick l zero i d g h m = absurd (omega arith)
-  view-pick [] (suc n) i d g h m = absurd (omega arith)
-  view-pick (x ∷ l) (suc n) zero d g h m = refl
-  view-pick (x ∷ l) (suc n) (suc i) d g h m = view-pick l n i d g (omega arith) (omega arith)
 
 -- a test of every held element
 module _ {A : Type 0} (f : A → Bool) (l : List A) where
@@ -138,14 +129,6 @@ stops a b e = rw e
 pub goes-on : (a b r : Bool) → a ≡ true → r ≡ b → r ≡ a & b
 unfolding _&_
 goes-on a b r e p = rw e p
-
--- whether there is room for one more in a full array's list
-pub has-room : {A B : Type 0} (f : A → B) (l : List A) (n cap : ℕ) → length l ≡ cap → ltb n cap ≡ ltb (length (map f (take n l))) cap
-has-room f l n cap full = rw (length-map (take n l) f) (go (ltb n cap) refl)
-  where
-    go : (b : Bool) → ltb n cap ≡ b → ltb n cap ≡ ltb (length (take n l)) cap
-    go true e = let h = ltb-true n cap e in e ∙ sym (lt-ltb (length (take n l)) cap (omega (arith, length-take n l)))
-    go false e = let h = ltb-false n cap e in e ∙ sym (le-ltb (length (take n l)) cap (omega (arith, length-take n l)))
 
 -- THE LAWS OF A COUNT WITHIN ITS ARRAY, with a test of every held element
 module _ {A : Type 0} (g : A → Bool) (l : List A) (cap : ℕ) (full : length l ≡ cap) where

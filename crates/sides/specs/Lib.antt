@@ -1,3 +1,7 @@
 pub mod Views
-pub mod Puts
 pub mod Holding
+pub mod Layout
+pub mod Stored
+pub mod Environments
+pub mod Sides
+pub mod Puts

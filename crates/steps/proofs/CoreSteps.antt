@@ -37,15 +37,8 @@ putCore s i p = withContents s (withParticles (s .contents) (set (s .contents .p
 abbrev pub enterCore : Core → List ℕ → Core
 enterCore s v = withLobby s (s .lobby ++ (record { status = down; chan = 0; val = v } ∷ []))
 
-abbrev pub takeCore : Core → ℕ → List ℕ → Core
-takeCore s i v = record { contents = s .contents; lobby = s .lobby ++ (record { status = down; chan = 2; val = v } ∷ []); shelf = s .shelf; taken = set (s .taken) i true }
-
 abbrev pub quiet : Core → Moved
 quiet s = record { label = silent; val = []; core = s }
-
--- side 1's shelf has the first places of the taken marks
-pub taken-first : (i : ℕ) → takenAt 1 i ≡ i
-taken-first i = omega arith
 
 module _ (s : Core) (sh : every short (s .contents .particles) ≡ true) (few : limits s ≡ true) where
   in-limits : Within s
@@ -253,29 +246,3 @@ module _ (s : Core) (sh : every short (s .contents .particles) ≡ true) (few : 
         let w = in-limits in
         settled-within _ (record { label = enters; val = ws; core = enterCore s ws }) (enter-is e t) sh
         (record { particles = w .particles; boxes = w .boxes; minted = w .minted; lobby = omega (arith, length-append (s .lobby) (record { status = down; chan = 0; val = ws } ∷ [])); shelf = w .shelf })
-
-  -- take
-  module _ (h : List (List ℕ)) (i : ℕ) where
-    pub take-10 : length h ≤ i → settled (takes 1 h s i) ≡ refuse 10
-    unfolding takes
-    take-10 p = settled-refused _ _ (pick-past h i _ p)
-
-    take-at : (v : List ℕ) → getElem? h i ≡ some v → takes 1 h s i ≡ need (not (getD (s .taken) i false)) 13 (silently (takeCore s i v))
-    unfolding takes
-    take-at v e =
-        pick-at h i v _ e ∙
-        ap (λ (n : ℕ). need (not (getD (s .taken) n false)) 13 (silently (record { contents = s .contents; lobby = s .lobby ++ (record { status = down; chan = 2; val = v } ∷ []); shelf = s .shelf; taken = set (s .taken) n true }))) (taken-first i)
-
-    pub take-13 : (v : List ℕ) → getElem? h i ≡ some v → getD (s .taken) i false ≡ true → settled (takes 1 h s i) ≡ refuse 13
-    take-13 v e t = settled-refused _ _ (take-at v e ∙ need-false _ _ _ (ap not t))
-
-    pub take-17 : (v : List ℕ) → getElem? h i ≡ some v → getD (s .taken) i false ≡ false → 16 ≤ length (s .lobby) → settled (takes 1 h s i) ≡ refuse 17
-    take-17 v e t p =
-        settled-full _ (quiet (takeCore s i v)) (take-at v e ∙ need-true _ _ _ (ap not t)) sh
-        (over-lobby (takeCore s i v) (omega (arith, length-append (s .lobby) (record { status = down; chan = 2; val = v } ∷ []))))
-
-    pub take-done : (v : List ℕ) → getElem? h i ≡ some v → getD (s .taken) i false ≡ false → length (s .lobby) < 16 → settled (takes 1 h s i) ≡ done (quiet (takeCore s i v))
-    take-done v e t p =
-        let w = in-limits in
-        settled-within _ (quiet (takeCore s i v)) (take-at v e ∙ need-true _ _ _ (ap not t)) sh
-        (record { particles = w .particles; boxes = w .boxes; minted = w .minted; lobby = omega (arith, length-append (s .lobby) (record { status = down; chan = 2; val = v } ∷ [])); shelf = w .shelf })

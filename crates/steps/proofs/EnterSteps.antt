@@ -1,131 +1,180 @@
--- Enter and take: a law for each way that the code goes.
+-- Enter and take, and the marks of left names: a law for each way that the code goes.
 use mathlib.Core.Path.{_≡_, refl, sym, ap, subst, _∙_}
+use mathlib.Core.Logic.{⊎-elim}
 use mathlib.Core.Bool.{Bool, true, false, _||_}
 use mathlib.Core.List.{List, [], _∷_, _++_}
-use Prim.Native.Nat.{ℕ, _+_, _<_, _≤_}
+use mathlib.Core.Option.{some}
+use Prim.Native.Nat.{ℕ, zero, suc, _+_, _<_, _≤_}
+use native.Mathlib.Numerals.{add-one}
 use native.Mathlib.Omega.{arith}
 use borrow.Author.Tests.{leb-true}
-use lib.ListN.{length, getD, set, take}
+use lib.Dec.{leb}
+use lib.ListN.{length, getD, getElem?, set, take}
 use lib.Seq.{take-all}
-use Rattle.model.specs.Basics.{_&_, _or_, refuse, every}
+use Rattle.model.specs.Basics.{_&_, _or_, refuse, every, oneOf}
 use Rattle.model.specs.Values.{isValue, isMinted}
-use Rattle.model.specs.Step.{enter, enters, takes, marked, settled}
-use Rattle.model.proofs.Tests.{fst, both}
+use Rattle.model.specs.Side.{down, takenAt}
+use Rattle.model.specs.Step.{enter, enters, takes, markOf, settled}
+use Rattle.model.proofs.Tests.{fst, snd, both, or-cases}
 use Rattle.values.specs.declared.Value.{Value}
 use Rattle.values.specs.Env.{viewValue, Stores}
 use Rattle.sides.specs.declared.Status.the-variants.{Down}
 use Rattle.sides.specs.declared.Message.{Message}
 use Rattle.sides.specs.declared.Lobby.{Lobby}
-use Rattle.sides.specs.declared.Shelf.{Shelf}
-use Rattle.sides.specs.declared.Side.{Side}
-use Rattle.sides.specs.Views.{viewMessage, viewLobby, viewShelf, viewCore, fitsValue, fitsMessage, fitsLobby, fitsShelf, fitsSide}
+use Rattle.sides.specs.Views.{viewMessage, viewLobby, fitsMessage, fitsLobby}
 use Rattle.sides.specs.Holding.{LobbyIs}
+use Rattle.sides.proofs.Lists.{view-length, view-at, every-at, every-more, every-fails}
+use Rattle.sides.proofs.Lobbies.{value-fits}
+use Rattle.sides.specs.declared.Rest.{Rest}
+use Rattle.sides.specs.Layout.{shelfOf, viewPlace, fitsPlace, viewShelf, ValueIs}
+use Rattle.sides.specs.Sides.{coreOf, fitsSide}
 use Rattle.sides.specs.Puts.{putLobby, putTaken}
-use Rattle.sides.proofs.Sides.{side-particles, side-boxes, side-lobby, side-shelf, side-fits, value-fits, shelf-length, shelf-at, shelf-fits-at, shelf-short}
-use Rattle.sides.proofs.Lists.{every-more, every-fails}
+use Rattle.sides.proofs.Reading.{shelf-count}
 use Rattle.steps.specs.declared.Said.the-variants as said
-use Rattle.steps.specs.declared.SideStep.{SideStep}
-use Rattle.steps.specs.StepIs.{StepIs, Sane}
-use Rattle.steps.specs.Asked.{Says, EnterAt, TakeAt, knownBy, mayEnter}
 use Rattle.steps.proofs.CoreSteps as core
-use Rattle.steps.proofs.Held.{Full, lobby-n, quiet-is, said-is}
+use Rattle.steps.specs.declared.RestStep.{RestStep}
+use Rattle.steps.specs.StepIs.{StepIs, Sane}
+use Rattle.steps.specs.Asked.{Says, EnterAt, Source, TakeAt, knownBy, mayEnter}
+use Rattle.steps.proofs.TakeCore as source
+use Rattle.steps.proofs.Held.{Full, side-rows, side-lobby, side-shelf, side-again, same-core, lobby-n, quiet-is, said-is}
+
+-- A MINTED NAME has a place among the marks
+pub mark-in : (w : ℕ) → isMinted w ≡ true → markOf w < 512
+unfolding _or_
+mark-in w e =
+    ⊎-elim (λ p. let a = leb-true 65536 w (fst _ _ p) in let b = leb-true w 65791 (snd _ _ p) in omega arith)
+    (λ p. let a = leb-true 131072 w (fst _ _ p) in let b = leb-true w 131327 (snd _ _ p) in omega arith)
+    (or-cases (leb 65536 w & leb w 65791) (leb 131072 w & leb w 131327) e)
+
+-- ONE OF A LIST, looked at one after the other
+module _ {A : Type 0} (f : A → Bool) where
+  one-here : (l : List A) (k : ℕ) (d : A) → k < length l → f (getD l k d) ≡ true → oneOf f l ≡ true
+  one-here [] k d h e = absurd (omega arith)
+  one-here (x ∷ l) zero d h e = rw e
+  one-here (x ∷ l) (suc k) d h e = later (f x) (one-here l k d (omega arith) e)
+    where
+      later : (a : Bool) {b : Bool} → b ≡ true → a || b ≡ true
+      later true p = refl
+      later false p = p
+
+  pub one-hit : (l : List A) (k : ℕ) (d : A) → k < length l → f (getD l k d) ≡ true → true ≡ oneOf f l
+  one-hit l k d h e = sym (one-here l k d h e)
+
+  one-next : (l : List A) (k : ℕ) (d : A) → k < length l → f (getD l k d) ≡ false → oneOf f (take k l) ≡ false → oneOf f (take (suc k) l) ≡ false
+  one-next [] k d h e p = absurd (omega arith)
+  one-next (x ∷ l) zero d h e p = rw e
+  one-next (x ∷ l) (suc k) d h e p = both-off (f x) (oneOf f (take k l)) (one-next l k d (omega arith) e) p
+    where
+      both-off : (a b : Bool) {c : Bool} → (b ≡ false → c ≡ false) → a || b ≡ false → a || c ≡ false
+      both-off true b g q = q
+      both-off false b g q = g q
+
+  pub one-more : (l : List A) (k : ℕ) (d : A) → k < length l → f (getD l k d) ≡ false → oneOf f (take k l) ≡ false → oneOf f (take (k + 1) l) ≡ false
+  one-more l k d h e p = ap (λ (n : ℕ). oneOf f (take n l)) (add-one k) ∙ one-next l k d h e p
+
+  pub one-none : (l : List A) (k : ℕ) → length l ≤ k → oneOf f (take k l) ≡ false → false ≡ oneOf f l
+  one-none l k h p = sym (ap (oneOf f) (sym (take-all k l h)) ∙ p)
 
 -- a word that may enter
-module _ (l1 l2 : List Bool) (w : ℕ) where
-  pub may-one : (x : Bool) → isMinted w ≡ true → (isMinted w ≡ true → x ≡ marked l1 w) → x ≡ true → true ≡ mayEnter l1 l2 w
+module _ (ms : List (List Bool)) (w : ℕ) where
+  pub may-minted : (r : Bool) (m : ℕ) → isMinted w ≡ true → m ≡ markOf w → r ≡ oneOf (λ l. getD l m false) ms → r ≡ mayEnter ms w
   unfolding _or_
-  may-one x m p e = let q : marked l1 w ≡ true = sym (p m) ∙ e in rw (m, q)
+  may-minted r m p e q = rw p (q ∙ ap (λ (k : ℕ). oneOf (λ l. getD l k false) ms) e)
 
-  pub may-two : (x y : Bool) → isMinted w ≡ true → (isMinted w ≡ true → x ≡ marked l1 w) → x ≡ false → (isMinted w ≡ true → y ≡ marked l2 w) → y ≡ mayEnter l1 l2 w
-  unfolding _or_
-  may-two x y m p e q = let z : marked l1 w ≡ false = sym (p m) ∙ e in rw (m, z) (q m ∙ alone (marked l2 w))
-    where
-      alone : (t : Bool) → t ≡ t || false
-      alone true = refl
-      alone false = refl
-
-  pub may-other : isMinted w ≡ false → true ≡ mayEnter l1 l2 w
+  pub may-other : isMinted w ≡ false → true ≡ mayEnter ms w
   unfolding _or_
   may-other m = rw m
 
 -- words that may enter, one by one
-module _ (l1 l2 : List Bool) (ws : List ℕ) (k : ℕ) where
-  pub may-more : (r : Bool) → k < length ws → every (mayEnter l1 l2) (take k ws) ≡ true → r ≡ mayEnter l1 l2 (getD ws k 0) → r ≡ true → every (mayEnter l1 l2) (take (k + 1) ws) ≡ true
-  may-more r h p e t = every-more (mayEnter l1 l2) ws k 0 h (sym e ∙ t) p
+module _ (ms : List (List Bool)) (ws : List ℕ) (k : ℕ) where
+  pub may-more : (r : Bool) → k < length ws → every (mayEnter ms) (take k ws) ≡ true → r ≡ mayEnter ms (getD ws k 0) → r ≡ true → every (mayEnter ms) (take (k + 1) ws) ≡ true
+  may-more r h p e t = every-more (mayEnter ms) ws k 0 h (sym e ∙ t) p
 
-  pub may-fails : (r : Bool) → k < length ws → r ≡ mayEnter l1 l2 (getD ws k 0) → r ≡ false → false ≡ every (mayEnter l1 l2) ws
-  may-fails r h e t = sym (ap (every (mayEnter l1 l2)) (sym (take-all (length ws) ws (omega arith))) ∙ every-fails (mayEnter l1 l2) ws k (length ws) 0 h (omega arith) (sym e ∙ t))
+  pub may-fails : (r : Bool) → k < length ws → r ≡ mayEnter ms (getD ws k 0) → r ≡ false → false ≡ every (mayEnter ms) ws
+  may-fails r h e t = sym (ap (every (mayEnter ms)) (sym (take-all (length ws) ws (omega arith))) ∙ every-fails (mayEnter ms) ws k (length ws) 0 h (omega arith) (sym e ∙ t))
 
-  pub may-all : length ws ≤ k → every (mayEnter l1 l2) (take k ws) ≡ true → true ≡ every (mayEnter l1 l2) ws
-  may-all h p = sym (ap (every (mayEnter l1 l2)) (sym (take-all k ws h)) ∙ p)
+  pub may-all : length ws ≤ k → every (mayEnter ms) (take k ws) ≡ true → true ≡ every (mayEnter ms) ws
+  may-all h p = sym (ap (every (mayEnter ms)) (sym (take-all k ws h)) ∙ p)
 
--- enter
-module _ (o : Side) (ok : Sane o) (full : Full o) (l1 l2 : List Bool) (ws : List ℕ) where
-  pub enter-no-value : isValue ws ≡ false → settled (enter (knownBy l1 l2) (viewCore o) ws) ≡ refuse 11
-  enter-no-value e = core.enter-11 (viewCore o) (ok .short-outputs) (ok .few) (knownBy l1 l2) ws e
+-- ENTER
+module _ (l : List ℕ) (o : Rest) (ms : List (List Bool)) (ws : List ℕ) (ok : Sane l o) where
+  pub enter-no-value : isValue ws ≡ false → settled (enter (knownBy ms) (coreOf l o) ws) ≡ refuse 11
+  enter-no-value e = core.enter-11 (coreOf l o) (ok .short-outputs) (ok .few) (knownBy ms) ws e
 
-  pub enter-unknown : isValue ws ≡ true → every (mayEnter l1 l2) ws ≡ false → settled (enter (knownBy l1 l2) (viewCore o) ws) ≡ refuse 12
-  enter-unknown e f = core.enter-12 (viewCore o) (ok .short-outputs) (ok .few) (knownBy l1 l2) ws e f
+  pub enter-unknown : isValue ws ≡ true → every (mayEnter ms) ws ≡ false → settled (enter (knownBy ms) (coreOf l o) ws) ≡ refuse 12
+  enter-unknown e f = core.enter-12 (coreOf l o) (ok .short-outputs) (ok .few) (knownBy ms) ws e f
 
-  pub enter-full : isValue ws ≡ true → every (mayEnter l1 l2) ws ≡ true → 16 ≤ o .lobby .len → settled (enter (knownBy l1 l2) (viewCore o) ws) ≡ refuse 17
-  enter-full e f n = core.enter-17 (viewCore o) (ok .short-outputs) (ok .few) (knownBy l1 l2) ws e f (rw (lobby-n o ok full) n)
+  module _ (full : Full o) where
+    pub enter-full : isValue ws ≡ true → every (mayEnter ms) ws ≡ true → 16 ≤ o .lobby .len → settled (enter (knownBy ms) (coreOf l o) ws) ≡ refuse 17
+    enter-full e f n = core.enter-17 (coreOf l o) (ok .short-outputs) (ok .few) (knownBy ms) ws e f (rw (lobby-n l o ok full) n)
 
-  few-words : isValue ws ≡ true → length ws ≤ 16
-  unfolding isValue
-  few-words p = leb-true (length ws) 16 (fst _ _ p)
+    few-words : isValue ws ≡ true → length ws ≤ 16
+    unfolding isValue
+    few-words p = leb-true (length ws) 16 (fst _ _ p)
 
-  pub enter-did : (k : ℕ) (r : SideStep) (v : Value) (m : Message) (l : Lobby) (t : Side) (n : ℕ) → k ≡ o .lobby .len → EnterAt l1 l2 ws k → Stores ws v →
-      m ≡ record { status = Down; channel = 0; value = v } →
-      LobbyIs (viewLobby (o .lobby) ++ (viewMessage m ∷ [])) n (fitsLobby (o .lobby) & fitsMessage m) l →
-      t ≡ putLobby o l →
-      r ≡ record { said = said.In; value = v; side = t } →
-      StepIs (settled (enter (knownBy l1 l2) (viewCore o) ws)) o r
-  enter-did k r v m l t n same a st me ls te re =
-      let few : length ws ≤ 16 = few-words (a .shape) in
-      let vw : viewValue v ≡ ws = st .words ∙ take-all 16 ws few in
-      let len : v .len ≤ 16 = omega (arith, st .count) in
-      let room : o .lobby .len < 16 = rw same at (a .room) in
-      let fits : fitsSide (putLobby o l) ≡ true =
-      side-fits (putLobby o l) (side-particles o (ok .arrays)) (side-boxes o (ok .arrays)) (ls .fits (both _ _ (side-lobby o (ok .arrays)) (ap fitsMessage me ∙ value-fits v len))) (side-shelf o (ok .arrays)) in
-      rw re
-      (said-is _ (record { label = enters; val = ws; core = core.enterCore (viewCore o) ws }) o (putLobby o l) (record { said = said.In; value = v; side = t })
-      (core.enter-done (viewCore o) (ok .short-outputs) (ok .few) (knownBy l1 l2) ws (a .shape) (a .names) (rw (lobby-n o ok full) room))
-      refl vw len te (rw (ls .view, me, vw)) refl fits)
+    pub enter-did : (k : ℕ) (r : RestStep) (v : Value) (m : Message) (y : Lobby) (t : Rest) (n : ℕ) → k ≡ o .lobby .len → EnterAt ms ws k → Stores ws v →
+        m ≡ record { status = Down; channel = 0; value = v } →
+        LobbyIs (viewLobby (o .lobby) ++ (viewMessage m ∷ [])) n (fitsLobby (o .lobby) & fitsMessage m) y →
+        t ≡ putLobby o y →
+        r ≡ record { said = said.In; value = v; rest = t } →
+        StepIs (settled (enter (knownBy ms) (coreOf l o) ws)) l o l r
+    enter-did k r v m y t n same a st me ys te re =
+        let few : length ws ≤ 16 = few-words (a .shape) in
+        let vw : viewValue v ≡ ws = st .words ∙ take-all 16 ws few in
+        let len : v .len ≤ 16 = omega (arith, st .count) in
+        let room : o .lobby .len < 16 = rw same at (a .room) in
+        let fits : fitsSide l (putLobby o y) ≡ true =
+        side-again l l o (putLobby o y) (ok .arrays) refl (side-rows l o (ok .arrays)) (ys .fits (both _ _ (side-lobby l o (ok .arrays)) (ap fitsMessage me ∙ value-fits v len))) (side-shelf l o (ok .arrays)) in
+        let d = core.enter-done (coreOf l o) (ok .short-outputs) (ok .few) (knownBy ms) ws (a .shape) (a .names) (rw (lobby-n l o ok full) room) in
+        rw re
+        (said-is _ (record { label = enters; val = ws; core = core.enterCore (coreOf l o) ws }) l l o (putLobby o y) (record { said = said.In; value = v; rest = t }) d refl vw len te
+        (rw (ys .view, me, vw)) refl fits)
 
--- what would stand past a shelf's end
-pub blank : Value
-blank = record { words = []; len = 0 }
+-- TAKE, from the shelf of the words h, which has n values
+module _ (l : List ℕ) (o : Rest) (m : ℕ) (h : List ℕ) (n i : ℕ) (ok : Sane l o) (full : Full o) (s : Source m h n) where
+  cap : n ≤ 32
+  cap = leb-true n 32 (fst _ _ (s .fits))
 
--- take
-module _ (o : Side) (i : ℕ) (h : Shelf) (ok : Sane o) (full : Full o) (rows : length (h .rows) ≡ 32) (fit : fitsShelf h ≡ true) where
-  cap : h .len ≤ 32
-  cap = shelf-short h fit
+  pub take-past : n ≤ i → settled (takes m (viewShelf h n) (coreOf l o) i) ≡ refuse 10
+  take-past p = source.take-10 (coreOf l o) (ok .short-outputs) (ok .few) m (viewShelf h n) i (rw (view-length viewPlace (shelfOf h) n (rw (shelf-count h) cap)) p)
 
-  pub take-past : h .len ≤ i → settled (takes 1 (viewShelf h) (viewCore o) i) ≡ refuse 10
-  take-past p = core.take-10 (viewCore o) (ok .short-outputs) (ok .few) (viewShelf h) i (rw (shelf-length h rows cap) p)
+  module _ (p : i < n) where
+    held : getElem? (viewShelf h n) i ≡ some (viewPlace (getD (shelfOf h) i []))
+    held = view-at viewPlace (shelfOf h) n i [] p (rw (shelf-count h) cap)
 
-  module _ (d : Value) (p : i < h .len) where
-    pub take-again : getD (o .taken) i false ≡ true → settled (takes 1 (viewShelf h) (viewCore o) i) ≡ refuse 13
-    take-again t = core.take-13 (viewCore o) (ok .short-outputs) (ok .few) (viewShelf h) i (viewValue (getD (h .rows) i d)) (shelf-at h rows cap i d p) t
+    pub taken-in : takenAt m i < 64
+    taken-in = let a = s .last in omega (arith, s .first, cap)
 
-    pub take-full : getD (o .taken) i false ≡ false → 16 ≤ o .lobby .len → settled (takes 1 (viewShelf h) (viewCore o) i) ≡ refuse 17
-    take-full t n = core.take-17 (viewCore o) (ok .short-outputs) (ok .few) (viewShelf h) i (viewValue (getD (h .rows) i d)) (shelf-at h rows cap i d p) t (rw (lobby-n o ok full) n)
+    pub shelf-in : i < 32
+    shelf-in = omega (arith, cap)
 
-pub take-did : (o : Side) (i k : ℕ) (h : Shelf) → k ≡ i → (ok : Sane o) → Full o → length (h .rows) ≡ 32 → fitsShelf h ≡ true → (d : Value) (r : SideStep) (m : Message) (l : Lobby) (s t : Side) (n : ℕ) (b : List Bool) → TakeAt o h k →
-    m ≡ record { status = Down; channel = 2; value = getD (h .rows) k d } →
-    LobbyIs (viewLobby (o .lobby) ++ (viewMessage m ∷ [])) n (fitsLobby (o .lobby) & fitsMessage m) l →
-    s ≡ putLobby o l →
-    b ≡ set (o .taken) k true →
-    t ≡ putTaken s b →
-    Says said.Silent t r →
-    StepIs (settled (takes 1 (viewShelf h) (viewCore o) i)) o r
-take-did o i k h same ok full rows fit d r m l s t n b a me ls se be te says =
-    let v : Value = getD (h .rows) k d in
-    let cap : h .len ≤ 32 = shelf-short h fit in
-    let vf : fitsValue v ≡ true = shelf-fits-at h rows cap k d (a .held) fit in
-    let fits : fitsSide (putTaken (putLobby o l) b) ≡ true =
-    side-fits (putTaken (putLobby o l) b) (side-particles o (ok .arrays)) (side-boxes o (ok .arrays)) (ls .fits (both _ _ (side-lobby o (ok .arrays)) (ap fitsMessage me ∙ vf))) (side-shelf o (ok .arrays)) in
-    subst (λ (x : ℕ). StepIs (settled (takes 1 (viewShelf h) (viewCore o) x)) o r) same
-    (quiet-is _ (core.takeCore (viewCore o) k (viewValue v)) o t (putTaken (putLobby o l) b) r
-    (core.take-done (viewCore o) (ok .short-outputs) (ok .few) (viewShelf h) k (viewValue v) (shelf-at h rows cap k d (a .held)) (a .fresh) (rw (lobby-n o ok full) (a .room)))
-    says (te ∙ ap (λ (y : Side). putTaken y b) se) (rw (ls .view, me, be)) refl fits)
+    pub shelf-fits-at : fitsPlace (getD (shelfOf h) i []) ≡ true
+    shelf-fits-at = every-at fitsPlace (shelfOf h) n i [] p (rw (shelf-count h) cap) (snd _ _ (s .fits))
+
+    pub take-again : getD (o .taken) (takenAt m i) false ≡ true → settled (takes m (viewShelf h n) (coreOf l o) i) ≡ refuse 13
+    take-again t = source.take-13 (coreOf l o) (ok .short-outputs) (ok .few) m (viewShelf h n) i _ held t
+
+    pub take-full : getD (o .taken) (takenAt m i) false ≡ false → 16 ≤ o .lobby .len → settled (takes m (viewShelf h n) (coreOf l o) i) ≡ refuse 17
+    take-full t q = source.take-17 (coreOf l o) (ok .short-outputs) (ok .few) m (viewShelf h n) i _ held t (rw (lobby-n l o ok full) q)
+
+pub take-did : (l : List ℕ) (o : Rest) (m : ℕ) (h : List ℕ) (n i k : ℕ) → k ≡ i → (ok : Sane l o) (full : Full o) (s : Source m h n) (r : RestStep) (v : Value) (g : Message) (y : Lobby) (t u : Rest) (c j : ℕ) (b : List Bool) → TakeAt o m n k →
+    ValueIs (viewPlace (getD (shelfOf h) k [])) v →
+    g ≡ record { status = Down; channel = 2; value = v } →
+    LobbyIs (viewLobby (o .lobby) ++ (viewMessage g ∷ [])) c (fitsLobby (o .lobby) & fitsMessage g) y →
+    t ≡ putLobby o y →
+    j ≡ takenAt m k →
+    b ≡ set (o .taken) j true →
+    u ≡ putTaken t b →
+    Says said.Silent u r →
+    StepIs (settled (takes m (viewShelf h n) (coreOf l o) i)) l o l r
+take-did l o m h n i k same ok full s r v g y t u c j b a vi ge ys te je be ue says =
+    let x : List ℕ = viewPlace (getD (shelfOf h) k []) in
+    let d = source.take-done (coreOf l o) (ok .short-outputs) (ok .few) m (viewShelf h n) k x (held l o m h n k ok full s (a .held)) (a .fresh) (rw (lobby-n l o ok full) (a .room)) in
+    let marks : b ≡ set (o .taken) (takenAt m k) true = be ∙ ap (λ (z : ℕ). set (o .taken) z true) je in
+    let w : Rest = putTaken (putLobby o y) (set (o .taken) (takenAt m k) true) in
+    let fits : fitsSide l w ≡ true =
+    side-again l l o w (ok .arrays) refl (side-rows l o (ok .arrays)) (ys .fits (both _ _ (side-lobby l o (ok .arrays)) (ap fitsMessage ge ∙ value-fits v (vi .short)))) (side-shelf l o (ok .arrays)) in
+    let sent = ap (λ (z : Message). viewLobby (o .lobby) ++ (viewMessage z ∷ [])) ge ∙ ap (λ (z : List ℕ). viewLobby (o .lobby) ++ (record { status = down; chan = 2; val = z } ∷ [])) (vi .view) in
+    subst (λ (z : ℕ). StepIs (settled (takes m (viewShelf h n) (coreOf l o) z)) l o l r) same
+    (quiet-is _ (source.takeCore m (coreOf l o) k x) l l o u w r d says (ue ∙ ap (λ (z : Rest). putTaken z b) te ∙ ap (putTaken (putLobby o y)) marks)
+    (same-core (o .minted) (set (o .taken) (takenAt m k) true) refl refl (ys .view ∙ sent) refl) refl fits)

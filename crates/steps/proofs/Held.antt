@@ -1,5 +1,6 @@
 -- What the steps use of a side that they may act on; what makes a function's answer that of the model.
 use mathlib.Core.Path.{_≡_, refl, sym, ap, subst, _∙_}
+use mathlib.Core.Logic.{_≢_}
 use mathlib.Core.Bool.{Bool, true, false, not}
 use mathlib.Core.List.{List, [], _∷_, map}
 use mathlib.Core.Option.{some}
@@ -7,55 +8,39 @@ use Prim.Native.Nat.{ℕ, zero, suc, _+_, _<_, _≤_}
 use native.Mathlib.Omega.{arith}
 use borrow.Author.Tests.{ltb-true, leb-true, leb-false, not-true, not-false}
 use lib.Dec.{leb}
-use lib.ListN.{length, take, getD, getElem?, length-take}
+use lib.ListN.{length, take, drop, getD, getElem?, length-take, length-drop}
+use lib.Seq.{drop-drop}
 use Rattle.model.specs.Basics.{Res, refuse, done, every}
-use Rattle.model.specs.Side.{output, input, Core}
-use Rattle.model.specs.Side.{Particle as MParticle}
+use Rattle.model.specs.Side.{Particle, output, input, Box, Core}
+use Rattle.model.specs.Side.{Message as MMessage}
 use Rattle.model.specs.Wrapper.{filter}
 use Rattle.model.specs.Load.{Setting}
 use Rattle.model.specs.WellFormed.{Counts, wfCore, wfParticle}
-use Rattle.model.specs.Step.{Moved, marks}
-use Rattle.model.proofs.Tests.{fst, snd, every-mono}
+use Rattle.model.specs.Step.{Moved}
+use Rattle.model.proofs.Tests.{fst, snd, both, every-mono}
 use Rattle.model.proofs.Growing.{CoreOk, core-ok}
 use Rattle.model.proofs.Invariant.{core-short, core-limits}
 use Rattle.values.specs.declared.Value.{Value}
 use Rattle.values.specs.Env.{viewValue, Stores}
 use Rattle.sides.specs.declared.Message.{Message}
-use Rattle.sides.specs.declared.Particle.{Particle}
-use Rattle.sides.specs.declared.BoxRow.{BoxRow}
-use Rattle.sides.specs.declared.Side.{Side}
-use Rattle.sides.specs.Views.{viewCore, viewMessage, viewParticle, viewBox, viewTag, viewLobby, viewParticles, viewBoxes, viewShelf, fitsSide, fitsValue, fitsParticle, fitsMessage}
-use Rattle.sides.proofs.Sides.{fits-output, lobby-length, lobby-at, lobby-fits-at, lobby-short, particles-length, particles-at, particles-fits-at, particles-short, boxes-length, boxes-at, boxes-short, shelf-length, shelf-short, value-short, side-particles, side-boxes, side-lobby, side-shelf}
+use Rattle.sides.specs.Views.{viewMessage, viewLobby, fitsMessage, fitsLobby}
+use Rattle.sides.proofs.Lists.{view-length, view-at, every-at}
+use Rattle.sides.proofs.Lobbies.{lobby-length, lobby-at, lobby-fits-at, lobby-short, value-short}
+use Rattle.sides.specs.declared.Rest.{Rest}
+use Rattle.sides.specs.Layout.{parts, rowAt, placesOf, tagIn, viewPlace, fitsPlace, viewRow, fitsRow, viewRows, fitsRows, boxesOf, viewBox, viewBoxes, shelfOf, viewShelf, fitsShelf}
+use Rattle.sides.specs.Sides.{coreOf, fitsSide}
+use Rattle.sides.proofs.Reading.{boxes-count, shelf-count, place-short, first-place, first-fits}
+use Rattle.sides.proofs.Viewing.{view-count, view-row, fits-row, output-view, input-view}
+use Rattle.steps.specs.declared.Said.{Said}
 use Rattle.steps.specs.declared.Said.the-variants as said
 use Rattle.steps.specs.declared.Offer.{Offer}
 use Rattle.steps.specs.declared.Offer.the-variants.{At, Refused}
-use Rattle.steps.specs.declared.SideStep.{SideStep}
-use Rattle.steps.specs.StepIs.{labelOf, Outcome, StepIs, housed, Sane}
-use Rattle.steps.specs.Asked.{Says, OfferIs, numberOf}
+use Rattle.steps.specs.StepIs.{labelOf, housed}
+use Rattle.steps.specs.Asked.{OfferIs, numberOf}
 use Rattle.steps.proofs.CoreSteps.{quiet}
-
--- a well-formed side whose counts are within their arrays is one that the steps may act on
-pub sane : (c : Setting) (k : Counts) (o : Side) → fitsSide o ≡ true → wfCore c k (viewCore o) ≡ true → Sane o
-unfolding wfParticle
-sane c k o f w =
-    let ok : CoreOk c k (viewCore o) = core-ok c k (viewCore o) w in
-    record {
-      arrays = f;
-      few = core-limits c k (viewCore o) ok;
-      short-outputs = core-short c k (viewCore o) ok;
-      homes = every-mono _ _ home (viewParticles (o .particles)) (ok .contents .particles);
-    }
-  where
-    home : (p : MParticle) → wfParticle (c .table) k (length (viewBoxes (o .boxes))) p ≡ true → housed (length (viewBoxes (o .boxes))) p ≡ true
-    home (output b ch g v) h = fst _ _ h
-    home (input b n vs) h = fst _ _ h
-
--- what owning a side tells of its arrays
-pub record Full (o : Side) : Type 0 where
-  pub msgs : length (o .lobby .msgs) ≡ 16
-  pub particles : length (o .particles .rows) ≡ 32
-  pub boxes : length (o .boxes .rows) ≡ 16
-  pub shelf : length (o .shelf .rows) ≡ 32
+use Rattle.steps.specs.declared.RestStep.{RestStep}
+use Rattle.steps.specs.StepIs.{Outcome, StepIs, Sane}
+use Rattle.steps.specs.Asked.{Says, channelIn, valueIn}
 
 -- a limit test of one more: where it fails, and where it passes
 pub none-more : (n k : ℕ) (r : Bool) → r ≡ leb (n + 1) k → not r ≡ true → k ≤ n
@@ -91,127 +76,166 @@ every-elem f (y ∷ l) (suc i) x e p = every-elem f l i x e (snd _ _ p)
 pub words-short : (v : Value) → v .len ≤ 16 → length (viewValue v) ≤ 16
 words-short v h = omega (arith, length-take (v .len) (v .words))
 
--- a particle by its kind
-abbrev pub viewOutput : Particle → MParticle
-viewOutput p = output (p .at) (p .channel) (viewTag (p .tag)) (viewValue (p .value))
+-- a well-formed side whose counts are within their arrays is one that the steps may act on
+pub sane : (c : Setting) (k : Counts) (l : List ℕ) (o : Rest) → length l ≡ 5184 → fitsSide l o ≡ true → wfCore c k (coreOf l o) ≡ true → Sane l o
+unfolding wfParticle
+sane c k l o n f w =
+    let ok : CoreOk c k (coreOf l o) = core-ok c k (coreOf l o) w in
+    record {
+      long = n;
+      arrays = f;
+      few = core-limits c k (coreOf l o) ok;
+      short-outputs = core-short c k (coreOf l o) ok;
+      homes = every-mono _ _ home (viewRows l (o .particles)) (ok .contents .particles);
+    }
+  where
+    home : (p : Particle) → wfParticle (c .table) k (length (viewBoxes l (o .boxes))) p ≡ true → housed (length (viewBoxes l (o .boxes))) p ≡ true
+    home (output b ch g v) h = fst _ _ h
+    home (input b n vs) h = fst _ _ h
 
-abbrev pub viewInput : Particle → MParticle
-viewInput p = input (p .at) (p .node) (map viewValue (take (p .n) (p .vals)))
+-- what owning the rest of a side tells of its lobby's array
+pub record Full (o : Rest) : Type 0 where
+  pub msgs : length (o .lobby .msgs) ≡ 16
 
-pub view-output : (p : Particle) → p .«is_output» ≡ true → viewParticle p ≡ viewOutput p
-view-output p e = rw e
+-- THE FOUR LISTS within their arrays
+module _ (l : List ℕ) (o : Rest) (f : fitsSide l o ≡ true) where
+  pub side-rows : fitsRows l (o .particles) ≡ true
+  side-rows = fst _ _ f
 
-pub view-input : (p : Particle) → p .«is_output» ≡ false → viewParticle p ≡ viewInput p
-view-input p e = rw e
+  pub side-boxes : o .boxes ≤ 16
+  side-boxes = leb-true (o .boxes) 16 (fst _ _ (snd _ _ f))
 
-pub fits-of : (p : Particle) → p .«is_output» ≡ true → fitsParticle p ≡ true → fitsValue (p .value) ≡ true
-fits-of p e f = fits-output p e ∙ f
+  pub side-lobby : fitsLobby (o .lobby) ≡ true
+  side-lobby = fst _ _ (snd _ _ (snd _ _ f))
 
-module _ (o : Side) (ok : Sane o) (full : Full o) where
+  pub side-shelf : fitsShelf l (o .shelved) ≡ true
+  side-shelf = snd _ _ (snd _ _ (snd _ _ f))
+
+-- another side with the same number of boxes
+pub side-again : (l m : List ℕ) (o t : Rest) → fitsSide l o ≡ true → t .boxes ≡ o .boxes → fitsRows m (t .particles) ≡ true → fitsLobby (t .lobby) ≡ true → fitsShelf m (t .shelved) ≡ true → fitsSide m t ≡ true
+side-again l m o t f e a b c = both _ _ a (both _ _ (ap (λ (n : ℕ). leb n 16) e ∙ fst _ _ (snd _ _ f)) (both _ _ b c))
+
+-- WHAT STANDS BEHIND THE ROWS
+module _ (l m : List ℕ) (e : drop 4608 m ≡ drop 4608 l) where
+  pub boxes-kept : (n : ℕ) → viewBoxes m n ≡ viewBoxes l n
+  boxes-kept n = ap (λ (x : List ℕ). map viewBox (take n (parts 2 16 x))) e
+
+  places-kept : shelfOf m ≡ shelfOf l
+  places-kept = ap (parts 17 32) (sym (drop-drop 32 4608 m) ∙ ap (drop 32) e ∙ drop-drop 32 4608 l)
+
+  pub shelf-kept : (n : ℕ) → viewShelf m n ≡ viewShelf l n
+  shelf-kept n = ap (λ (x : List (List ℕ)). map viewPlace (take n x)) places-kept
+
+  pub shelf-fits-kept : (n : ℕ) → fitsShelf l n ≡ true → fitsShelf m n ≡ true
+  shelf-fits-kept n f = both _ _ (fst _ _ f) (ap (λ (x : List (List ℕ)). every fitsPlace (take n x)) places-kept ∙ snd _ _ f)
+
+-- a core by its four lists
+pub same-core : {p q : List Particle} {a b : List Box} {x y : List MMessage} {h k : List (List ℕ)} (m : ℕ) (t : List Bool) → p ≡ q → a ≡ b → x ≡ y → h ≡ k →
+    _≡_ {A = Core} (record { contents = record { particles = p; boxes = a; minted = m }; lobby = x; shelf = h; taken = t })
+    (record { contents = record { particles = q; boxes = b; minted = m }; lobby = y; shelf = k; taken = t })
+same-core m t e f g i = rw (e, f, g, i)
+
+module _ (l : List ℕ) (o : Rest) (ok : Sane l o) where
+  pub rows-cap : o .particles ≤ 32
+  rows-cap = leb-true (o .particles) 32 (fst _ _ (side-rows l o (ok .arrays)))
+
+  pub rows-n : length (viewRows l (o .particles)) ≡ o .particles
+  rows-n = view-count l (o .particles) rows-cap
+
+  pub boxes-cap : o .boxes ≤ 16
+  boxes-cap = side-boxes l o (ok .arrays)
+
+  pub boxes-n : length (viewBoxes l (o .boxes)) ≡ o .boxes
+  boxes-n = view-length viewBox (boxesOf l) (o .boxes) (rw (boxes-count l) boxes-cap)
+
   pub lobby-cap : o .lobby .len ≤ 16
-  lobby-cap = lobby-short (o .lobby) (side-lobby o (ok .arrays))
+  lobby-cap = lobby-short (o .lobby) (side-lobby l o (ok .arrays))
 
-  pub particles-cap : o .particles .len ≤ 32
-  particles-cap = particles-short (o .particles) (side-particles o (ok .arrays))
+  pub shelf-cap : o .shelved ≤ 32
+  shelf-cap = leb-true (o .shelved) 32 (fst _ _ (side-shelf l o (ok .arrays)))
 
-  pub boxes-cap : o .boxes .len ≤ 16
-  boxes-cap = boxes-short (o .boxes) (side-boxes o (ok .arrays))
+  pub shelf-n : length (viewShelf l (o .shelved)) ≡ o .shelved
+  shelf-n = view-length viewPlace (shelfOf l) (o .shelved) (rw (shelf-count l) shelf-cap)
 
-  pub shelf-cap : o .shelf .len ≤ 32
-  shelf-cap = shelf-short (o .shelf) (side-shelf o (ok .arrays))
+  -- a box
+  pub box-at : (j : ℕ) → j < o .boxes → getElem? (viewBoxes l (o .boxes)) j ≡ some (viewBox (getD (boxesOf l) j []))
+  box-at j h = view-at viewBox (boxesOf l) (o .boxes) j [] h (rw (boxes-count l) boxes-cap)
 
-  pub lobby-n : length (viewLobby (o .lobby)) ≡ o .lobby .len
-  lobby-n = lobby-length (o .lobby) (full .msgs) lobby-cap
+  -- a row: an output, or a waiting input
+  module _ (i : ℕ) (h : i < o .particles) where
+    pub row-in : i < 32
+    row-in = omega (arith, rows-cap)
 
-  pub particles-n : length (viewParticles (o .particles)) ≡ o .particles .len
-  particles-n = particles-length (o .particles) (full .particles) particles-cap
+    pub fits-at : fitsRow (rowAt l i) ≡ true
+    fits-at = fits-row l (o .particles) i h rows-cap (side-rows l o (ok .arrays))
 
-  pub boxes-n : length (viewBoxes (o .boxes)) ≡ o .boxes .len
-  boxes-n = boxes-length (o .boxes) (full .boxes) boxes-cap
+    pub input-at : getD (rowAt l i) 0 0 ≢ 1 → (b : ℕ) × (n : ℕ) × (vs : List (List ℕ)) × (getElem? (viewRows l (o .particles)) i ≡ some (input b n vs))
+    input-at e = (_, _, _, view-row l (o .particles) i h rows-cap ∙ ap some (input-view (rowAt l i) e))
 
-  pub shelf-n : length (viewShelf (o .shelf)) ≡ o .shelf .len
-  shelf-n = shelf-length (o .shelf) (full .shelf) shelf-cap
+    module _ (e : getD (rowAt l i) 0 0 ≡ 1) where
+      pub output-at : getElem? (viewRows l (o .particles)) i ≡ some (output (getD (rowAt l i) 1 0) (channelIn l i) (tagIn (rowAt l i)) (valueIn l i))
+      output-at = view-row l (o .particles) i h rows-cap ∙ ap some (output-view (rowAt l i) e)
 
-  pub message-at : (i : ℕ) (d : Message) → i < o .lobby .len → getElem? (viewLobby (o .lobby)) i ≡ some (viewMessage (getD (o .lobby .msgs) i d))
-  message-at i d h = lobby-at (o .lobby) (full .msgs) lobby-cap i d h
+      -- its value
+      pub value-in-place : fitsPlace (getD (placesOf (rowAt l i)) 0 []) ≡ true
+      value-in-place = ap fitsPlace (first-place (rowAt l i)) ∙ first-fits (rowAt l i) fits-at e
 
-  pub message-fits : (i : ℕ) (d : Message) → i < o .lobby .len → fitsMessage (getD (o .lobby .msgs) i d) ≡ true
-  message-fits i d h = lobby-fits-at (o .lobby) (full .msgs) lobby-cap i d h (side-lobby o (ok .arrays))
+      pub value-length : length (valueIn l i) ≤ 16
+      unfolding viewPlace
+      value-length =
+          let v : List ℕ = getD (placesOf (rowAt l i)) 0 [] in
+          omega (arith, place-short v value-in-place, length-take (getD v 0 0) (drop 1 v))
 
-  pub message-short : (i : ℕ) (d : Message) → i < o .lobby .len → getD (o .lobby .msgs) i d .value .len ≤ 16
-  message-short i d h = value-short (getD (o .lobby .msgs) i d .value) (message-fits i d h)
+      -- its box stands
+      pub output-home : getD (rowAt l i) 1 0 < o .boxes
+      output-home =
+          let p = every-elem (housed (length (viewBoxes l (o .boxes)))) (viewRows l (o .particles)) i _ output-at (ok .homes) in
+          omega (arith, ltb-true (getD (rowAt l i) 1 0) (length (viewBoxes l (o .boxes))) p, boxes-n)
 
-  pub message-any : (i : ℕ) (d e : Message) → i < o .lobby .len → getD (o .lobby .msgs) i d ≡ getD (o .lobby .msgs) i e
-  message-any i d e h = getD-any (o .lobby .msgs) i d e (omega (arith, lobby-cap, full .msgs))
+  -- a message
+  module _ (full : Full o) where
+    pub lobby-n : length (viewLobby (o .lobby)) ≡ o .lobby .len
+    lobby-n = lobby-length (o .lobby) (full .msgs) lobby-cap
 
-  pub particle-at : (i : ℕ) (d : Particle) → i < o .particles .len → getElem? (viewParticles (o .particles)) i ≡ some (viewParticle (getD (o .particles .rows) i d))
-  particle-at i d h = particles-at (o .particles) (full .particles) particles-cap i d h
+    module _ (i : ℕ) (d : Message) (h : i < o .lobby .len) where
+      pub message-at : getElem? (viewLobby (o .lobby)) i ≡ some (viewMessage (getD (o .lobby .msgs) i d))
+      message-at = lobby-at (o .lobby) (full .msgs) lobby-cap i d h
 
-  pub particle-any : (i : ℕ) (d e : Particle) → i < o .particles .len → getD (o .particles .rows) i d ≡ getD (o .particles .rows) i e
-  particle-any i d e h = getD-any (o .particles .rows) i d e (omega (arith, particles-cap, full .particles))
+      pub message-fits : fitsMessage (getD (o .lobby .msgs) i d) ≡ true
+      message-fits = lobby-fits-at (o .lobby) (full .msgs) lobby-cap i d h (side-lobby l o (ok .arrays))
 
-  pub box-at : (j : ℕ) (d : BoxRow) → j < o .boxes .len → getElem? (viewBoxes (o .boxes)) j ≡ some (viewBox (getD (o .boxes .rows) j d))
-  box-at j d h = boxes-at (o .boxes) (full .boxes) boxes-cap j d h
+      pub message-short : getD (o .lobby .msgs) i d .value .len ≤ 16
+      message-short = value-short (getD (o .lobby .msgs) i d .value) message-fits
 
-  pub box-any : (j : ℕ) (d e : BoxRow) → j < o .boxes .len → getD (o .boxes .rows) j d ≡ getD (o .boxes .rows) j e
-  box-any j d e h = getD-any (o .boxes .rows) j d e (omega (arith, boxes-cap, full .boxes))
-
-  -- an output, an input
-  module _ (i : ℕ) (d : Particle) (h : i < o .particles .len) where
-    pub output-at : getD (o .particles .rows) i d .«is_output» ≡ true → getElem? (viewParticles (o .particles)) i ≡ some (viewOutput (getD (o .particles .rows) i d))
-    output-at e = particle-at i d h ∙ ap some (view-output (getD (o .particles .rows) i d) e)
-
-    pub input-at : getD (o .particles .rows) i d .«is_output» ≡ false → getElem? (viewParticles (o .particles)) i ≡ some (viewInput (getD (o .particles .rows) i d))
-    input-at e = particle-at i d h ∙ ap some (view-input (getD (o .particles .rows) i d) e)
-
-    pub output-short : getD (o .particles .rows) i d .«is_output» ≡ true → getD (o .particles .rows) i d .value .len ≤ 16
-    output-short e = value-short (getD (o .particles .rows) i d .value) (fits-of (getD (o .particles .rows) i d) e (particles-fits-at (o .particles) (full .particles) particles-cap i d h (side-particles o (ok .arrays))))
-
-    -- its box stands
-    pub output-home : getD (o .particles .rows) i d .«is_output» ≡ true → getD (o .particles .rows) i d .at < o .boxes .len
-    output-home e =
-        let p = every-elem (housed (length (viewBoxes (o .boxes)))) (viewParticles (o .particles)) i (viewOutput (getD (o .particles .rows) i d)) (output-at e) (ok .homes) in
-        omega (arith, ltb-true (getD (o .particles .rows) i d .at) (length (viewBoxes (o .boxes))) p, boxes-n)
+      pub message-any : (e : Message) → getD (o .lobby .msgs) i d ≡ getD (o .lobby .msgs) i e
+      message-any e = getD-any (o .lobby .msgs) i d e (omega (arith, lobby-cap, full .msgs))
 
 pub stored-none : (v : Value) → Stores [] v → v .len ≤ 16
 stored-none v s = omega (arith, s .count)
 
--- a refusal beside the old side
-pub refused-is : (m : Res Moved) (o : Side) (n : ℕ) (r : SideStep) → m ≡ refuse n → Says (said.Refused n) o r → StepIs m o r
-refused-is m o n r e p = record {
-  is = subst (λ (x : Res Moved). Outcome x o r) (sym e) (record { says = p .says; kept = p .side; value = p .value .words; short-value = stored-none (r .value) (p .value) });
+-- a refusal beside the old words and the old rest
+pub refused-is : (x : Res Moved) (l : List ℕ) (o : Rest) (n : ℕ) (r : RestStep) → x ≡ refuse n → Says (said.Refused n) o r → StepIs x l o l r
+refused-is x l o n r e p = record {
+  is = subst (λ (y : Res Moved). Outcome y l o l r) (sym e) (record { says = p .says; words = refl; kept = p .rest; value = p .value .words; short-value = stored-none (r .value) (p .value) });
 }
 
--- a silent step to the side s
-pub quiet-is : (m : Res Moved) (k : Core) (o s t : Side) (r : SideStep) → m ≡ done (quiet k) → Says said.Silent s r → s ≡ t → viewCore t ≡ k → t .left ≡ o .left → fitsSide t ≡ true → StepIs m o r
-quiet-is m k o s t r e p q v l f =
-    let same : r .side ≡ t = p .side ∙ q in
-    record {
-      is = subst (λ (x : Res Moved). Outcome x o r) (sym e)
-          (record {
-            says = ap labelOf (p .says);
-            value = p .value .words;
-            short-value = stored-none (r .value) (p .value);
-            core = ap viewCore same ∙ v;
-            left = ap (λ (x : Side). x .left) same ∙ l;
-            arrays = ap fitsSide same ∙ f;
-          });
-    }
-
--- a step with a label and a value
-pub said-is : (m : Res Moved) (mv : Moved) (o t : Side) (r : SideStep) → m ≡ done mv → labelOf (r .said) ≡ done (mv .label) → viewValue (r .value) ≡ mv .val → r .value .len ≤ 16 → r .side ≡ t →
-    viewCore t ≡ mv .core → t .left ≡ marks (mv .label) (mv .val) (o .left) → fitsSide t ≡ true → StepIs m o r
-said-is m mv o t r e y x z q v l f = record {
-  is = subst (λ (x : Res Moved). Outcome x o r) (sym e) (record { says = y; value = x; short-value = z; core = ap viewCore q ∙ v; left = ap (λ (x : Side). x .left) q ∙ l; arrays = ap fitsSide q ∙ f });
+-- what is said with a value, beside the words m and the rest t
+pub said-is : (x : Res Moved) (d : Moved) (l m : List ℕ) (o t : Rest) (r : RestStep) → x ≡ done d → labelOf (r .said) ≡ done (d .label) → viewValue (r .value) ≡ d .val → r .value .len ≤ 16 →
+    r .rest ≡ t → coreOf m t ≡ d .core → length m ≡ length l → fitsSide m t ≡ true → StepIs x l o m r
+said-is x d l m o t r e s v n q c k f = record {
+  is = subst (λ (y : Res Moved). Outcome y l o m r) (sym e) (record { says = s; value = v; short-value = n; core = ap (coreOf m) q ∙ c; long = k; arrays = ap (fitsSide m) q ∙ f });
 }
+
+-- a silent step to the words m and the rest t
+pub quiet-is : (x : Res Moved) (k : Core) (l m : List ℕ) (o s t : Rest) (r : RestStep) → x ≡ done (quiet k) → Says said.Silent s r → s ≡ t → coreOf m t ≡ k → length m ≡ length l → fitsSide m t ≡ true → StepIs x l o m r
+quiet-is x k l m o s t r e p q c n f = said-is x (quiet k) l m o t r e (ap labelOf (p .says)) (p .value .words) (stored-none (r .value) (p .value)) (p .rest ∙ q) c n f
 
 -- what a check answered
-module _ (m : Res Moved) (i : ℕ) (P : ℕ → Type 0) (a : Offer) (x : OfferIs m i P a) where
-  pub offer-at : (k : ℕ) → a ≡ At k → (k ≡ i) × P k
-  offer-at k e = subst (λ (y : Offer). OfferIs m i P y) e x
+pub offer-at : (x : Res Moved) (i : ℕ) (P : ℕ → Type 0) (a : Offer) → OfferIs x i P a → (k : ℕ) → a ≡ At k → (k ≡ i) × P k
+offer-at x i P a w k e = subst (λ (y : Offer). OfferIs x i P y) e w
 
-  pub offer-refused : (n k : ℕ) (o : Side) (r : SideStep) → a ≡ Refused n → k ≡ numberOf a → Says (said.Refused k) o r → StepIs m o r
-  offer-refused n k o r e q p =
-      let z : m ≡ refuse n = subst (λ (y : Offer). OfferIs m i P y) e x in
-      let same : n ≡ k = sym (q ∙ ap numberOf e) in
-      refused-is m o k r (z ∙ ap refuse same) p
+pub offer-refused : (x : Res Moved) (i : ℕ) (P : ℕ → Type 0) (a : Offer) → OfferIs x i P a → (n k : ℕ) (l : List ℕ) (o : Rest) (r : RestStep) → a ≡ Refused n → k ≡ numberOf a → Says (said.Refused k) o r → StepIs x l o l r
+offer-refused x i P a w n k l o r e q p =
+    let z : x ≡ refuse n = subst (λ (y : Offer). OfferIs x i P y) e w in
+    let same : n ≡ k = sym (q ∙ ap numberOf e) in
+    refused-is x l o k r (z ∙ ap refuse same) p

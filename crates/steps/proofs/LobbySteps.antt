@@ -1,128 +1,139 @@
 -- Down, pass and leave: a law for each way that the code goes.
-use mathlib.Core.Path.{_≡_, refl, ap, subst, _∙_}
-use mathlib.Core.Bool.{Bool, true, false}
-use mathlib.Core.List.{List, [], _∷_, _++_}
-use Prim.Native.Nat.{ℕ, _<_, _≤_}
+use mathlib.Core.Path.{_≡_, refl, sym, ap, subst, _∙_}
+use mathlib.Core.Bool.{true, false}
+use mathlib.Core.List.{List, [], _∷_}
+use Prim.Native.Nat.{ℕ, _+_, _*_, _<_, _≤_}
 use borrow.Author.Tests.{ne-eqb}
 use lib.ListN.{length, getD, set}
 use Rattle.model.specs.Basics.{_&_, refuse, remove}
-use Rattle.model.specs.Side.{output, fromParent}
-use Rattle.model.specs.Step.{isDown, isArrived, isLeaving, goDown, pass, leave, leaves, markAll, withLobby, settled}
+use Rattle.model.specs.Step.{isDown, isArrived, isLeaving, goDown, pass, leave, leaves, withLobby, settled}
 use Rattle.model.proofs.Tests.{both}
 use Rattle.values.specs.Env.{viewValue}
 use Rattle.sides.specs.declared.Status.the-variants.{Leaving}
+use Rattle.sides.specs.declared.Tag.the-variants.{FromParent}
 use Rattle.sides.specs.declared.Message.{Message}
 use Rattle.sides.specs.declared.Lobby.{Lobby}
-use Rattle.sides.specs.declared.Particle.{Particle}
-use Rattle.sides.specs.declared.Particles.{Particles}
-use Rattle.sides.specs.declared.Side.{Side}
-use Rattle.sides.specs.Views.{viewStatus, viewMessage, viewLobby, viewParticle, viewParticles, viewCore, fitsValue, fitsMessage, fitsLobby, fitsParticle, fitsParticles, fitsSide}
-use Rattle.sides.specs.Holding.{LobbyIs, ParticlesIs}
-use Rattle.sides.specs.Puts.{putParticles, putLobby, putLeft}
-use Rattle.sides.proofs.Sides.{side-particles, side-boxes, side-lobby, side-shelf, side-fits}
+use Rattle.sides.specs.Views.{viewStatus, viewMessage, viewLobby, fitsMessage, fitsLobby}
+use Rattle.sides.specs.Holding.{LobbyIs}
+use Rattle.sides.specs.declared.Output.{Output}
+use Rattle.sides.specs.declared.Rest.{Rest}
+use Rattle.sides.specs.Stored.{outputPut}
+use Rattle.sides.specs.Sides.{coreOf, fitsSide}
+use Rattle.sides.specs.Puts.{putParticles, putLobby}
+use Rattle.sides.proofs.Storing.{output-length}
+use Rattle.sides.proofs.Putting.{output-put, add-view, add-fits}
+use Rattle.sides.proofs.Behind.{behind-output}
 use Rattle.steps.specs.declared.Said.the-variants as said
-use Rattle.steps.specs.declared.SideStep.{SideStep}
-use Rattle.steps.specs.StepIs.{StepIs, Sane}
-use Rattle.steps.specs.Asked.{Says, DownAt, PassAt, LeaveAt}
 use Rattle.steps.proofs.Settling.{no-left, no-right}
 use Rattle.steps.proofs.CoreSteps as core
-use Rattle.steps.proofs.Held.{Full, lobby-n, particles-n, message-at, message-fits, message-short, message-any, words-short, quiet-is, said-is}
+use Rattle.steps.proofs.Held.{words-short}
+use Rattle.steps.specs.declared.RestStep.{RestStep}
+use Rattle.steps.specs.StepIs.{StepIs, Sane}
+use Rattle.steps.specs.Asked.{Says, DownAt, PassAt, LeaveAt}
+use Rattle.steps.proofs.Held.{Full, side-rows, side-lobby, side-shelf, side-again, boxes-kept, shelf-kept, shelf-fits-kept, same-core, rows-n, lobby-n, message-at, message-fits, message-short, message-any, quiet-is, said-is}
 
-module _ (o : Side) (i : ℕ) (ok : Sane o) (full : Full o) where
-  short : length (viewLobby (o .lobby)) ≡ o .lobby .len
-  short = lobby-n o ok full
+module _ (l : List ℕ) (o : Rest) (i : ℕ) (ok : Sane l o) (full : Full o) where
+  past : o .lobby .len ≤ i → length (viewLobby (o .lobby)) ≤ i
+  past h = rw (lobby-n l o ok full) h
 
   -- a position past the lobby
-  pub down-past : o .lobby .len ≤ i → settled (goDown (viewCore o) i) ≡ refuse 10
-  down-past h = core.down-10 (viewCore o) (ok .short-outputs) (ok .few) i (rw short h)
+  pub down-past : o .lobby .len ≤ i → settled (goDown (coreOf l o) i) ≡ refuse 10
+  down-past h = core.down-10 (coreOf l o) (ok .short-outputs) (ok .few) i (past h)
 
-  pub pass-past : o .lobby .len ≤ i → settled (pass (viewCore o) i) ≡ refuse 10
-  pass-past h = core.pass-10 (viewCore o) (ok .short-outputs) (ok .few) i (rw short h)
+  pub pass-past : o .lobby .len ≤ i → settled (pass (coreOf l o) i) ≡ refuse 10
+  pass-past h = core.pass-10 (coreOf l o) (ok .short-outputs) (ok .few) i (past h)
 
-  pub leave-past : o .lobby .len ≤ i → settled (leave (viewCore o) i) ≡ refuse 10
-  leave-past h = core.leave-10 (viewCore o) (ok .short-outputs) (ok .few) i (rw short h)
+  pub leave-past : o .lobby .len ≤ i → settled (leave (coreOf l o) i) ≡ refuse 10
+  leave-past h = core.leave-10 (coreOf l o) (ok .short-outputs) (ok .few) i (past h)
 
   module _ (d : Message) (h : i < o .lobby .len) where
-    pub down-not : isDown (viewStatus (getD (o .lobby .msgs) i d .status)) ≡ false → settled (goDown (viewCore o) i) ≡ refuse 13
-    down-not t = core.down-13 (viewCore o) (ok .short-outputs) (ok .few) i (viewMessage (getD (o .lobby .msgs) i d)) (message-at o ok full i d h) t
+    pub down-not : isDown (viewStatus (getD (o .lobby .msgs) i d .status)) ≡ false → settled (goDown (coreOf l o) i) ≡ refuse 13
+    down-not t = core.down-13 (coreOf l o) (ok .short-outputs) (ok .few) i _ (message-at l o ok full i d h) t
 
-    pub down-full : isDown (viewStatus (getD (o .lobby .msgs) i d .status)) ≡ true → 32 ≤ o .particles .len → settled (goDown (viewCore o) i) ≡ refuse 17
+    pub down-full : isDown (viewStatus (getD (o .lobby .msgs) i d .status)) ≡ true → 32 ≤ o .particles → settled (goDown (coreOf l o) i) ≡ refuse 17
     down-full t f =
-        core.down-17 (viewCore o) (ok .short-outputs) (ok .few) i (viewMessage (getD (o .lobby .msgs) i d)) (message-at o ok full i d h) t
-        (words-short (getD (o .lobby .msgs) i d .value) (message-short o ok full i d h)) (rw (particles-n o ok full) f)
+        core.down-17 (coreOf l o) (ok .short-outputs) (ok .few) i _ (message-at l o ok full i d h) t
+        (words-short (getD (o .lobby .msgs) i d .value) (message-short l o ok full i d h)) (rw (rows-n l o ok) f)
 
-    pub down-may : isDown (viewStatus (getD (o .lobby .msgs) i d .status)) ≡ true → o .particles .len < 32 → DownAt o i
-    down-may t f = record { held = h; status = λ e. ap (λ (x : Message). isDown (viewStatus (x .status))) (message-any o ok full i e d h) ∙ t; room = f }
+    pub down-may : isDown (viewStatus (getD (o .lobby .msgs) i d .status)) ≡ true → o .particles < 32 → DownAt o i
+    down-may t f = record { held = h; status = λ e. ap (λ (x : Message). isDown (viewStatus (x .status))) (sym (message-any l o ok full i d h e)) ∙ t; room = f }
 
-    pub pass-not : isArrived (viewStatus (getD (o .lobby .msgs) i d .status)) ≡ false → settled (pass (viewCore o) i) ≡ refuse 13
-    pass-not t = core.pass-13 (viewCore o) (ok .short-outputs) (ok .few) i (viewMessage (getD (o .lobby .msgs) i d)) (message-at o ok full i d h) (no-left _ _ t)
+    pub pass-not : isArrived (viewStatus (getD (o .lobby .msgs) i d .status)) ≡ false → settled (pass (coreOf l o) i) ≡ refuse 13
+    pass-not t = core.pass-13 (coreOf l o) (ok .short-outputs) (ok .few) i _ (message-at l o ok full i d h) (no-left _ _ t)
 
-    pub pass-other : (getD (o .lobby .msgs) i d .channel ≡ 1 → ⊥) → settled (pass (viewCore o) i) ≡ refuse 13
-    pass-other n = core.pass-13 (viewCore o) (ok .short-outputs) (ok .few) i (viewMessage (getD (o .lobby .msgs) i d)) (message-at o ok full i d h) (no-right _ _ (ne-eqb _ _ n))
+    pub pass-other : (getD (o .lobby .msgs) i d .channel ≡ 1 → ⊥) → settled (pass (coreOf l o) i) ≡ refuse 13
+    pass-other n = core.pass-13 (coreOf l o) (ok .short-outputs) (ok .few) i _ (message-at l o ok full i d h) (no-right _ _ (ne-eqb _ _ n))
 
     pub pass-may : isArrived (viewStatus (getD (o .lobby .msgs) i d .status)) ≡ true → getD (o .lobby .msgs) i d .channel ≡ 1 → PassAt o i
     pass-may t c = record {
       held = h;
-      status = λ e. ap (λ (x : Message). isArrived (viewStatus (x .status))) (message-any o ok full i e d h) ∙ t;
-      chan = λ e. ap (λ (x : Message). x .channel) (message-any o ok full i e d h) ∙ c;
+      status = λ e. ap (λ (x : Message). isArrived (viewStatus (x .status))) (sym (message-any l o ok full i d h e)) ∙ t;
+      chan = λ e. ap (λ (x : Message). x .channel) (sym (message-any l o ok full i d h e)) ∙ c;
     }
 
-    pub leave-not : isLeaving (viewStatus (getD (o .lobby .msgs) i d .status)) ≡ false → settled (leave (viewCore o) i) ≡ refuse 13
-    leave-not t = core.leave-13 (viewCore o) (ok .short-outputs) (ok .few) i (viewMessage (getD (o .lobby .msgs) i d)) (message-at o ok full i d h) t
+    pub leave-not : isLeaving (viewStatus (getD (o .lobby .msgs) i d .status)) ≡ false → settled (leave (coreOf l o) i) ≡ refuse 13
+    leave-not t = core.leave-13 (coreOf l o) (ok .short-outputs) (ok .few) i _ (message-at l o ok full i d h) t
 
     pub leave-may : isLeaving (viewStatus (getD (o .lobby .msgs) i d .status)) ≡ true → LeaveAt o i
-    leave-may t = record { held = h; status = λ e. ap (λ (x : Message). isLeaving (viewStatus (x .status))) (message-any o ok full i e d h) ∙ t }
+    leave-may t = record { held = h; status = λ e. ap (λ (x : Message). isLeaving (viewStatus (x .status))) (sym (message-any l o ok full i d h e)) ∙ t }
+
+-- what a message that goes down becomes
+abbrev pub lowered : Message → Output
+lowered m = record { at = 0; channel = m .channel; tag = FromParent; value = m .value }
 
 -- what is made of lobby k, which is the i that was asked for
-module _ (o : Side) (i k : ℕ) (same : k ≡ i) (ok : Sane o) (full : Full o) (d : Message) (r : SideStep) where
-  pub down-did : (p : Particle) (q : Particles) (l : Lobby) (s t : Side) (n n′ : ℕ) → DownAt o k →
-      viewParticle p ≡ output 0 (getD (o .lobby .msgs) k d .channel) fromParent (viewValue (getD (o .lobby .msgs) k d .value)) →
-      fitsParticle p ≡ fitsValue (getD (o .lobby .msgs) k d .value) →
-      ParticlesIs (viewParticles (o .particles) ++ (viewParticle p ∷ [])) n (fitsParticles (o .particles) & fitsParticle p) q →
-      s ≡ putParticles o q →
-      LobbyIs (remove (viewLobby (o .lobby)) k) n′ (fitsLobby (o .lobby)) l →
-      t ≡ putLobby s l →
+module _ (l : List ℕ) (o : Rest) (i k : ℕ) (same : k ≡ i) (ok : Sane l o) (full : Full o) (d : Message) (r : RestStep) where
+  pub down-did : (m : List ℕ) (n c : ℕ) (y : Lobby) (s t : Rest) → DownAt o k →
+      (n ≡ o .particles + 1) × (m ≡ outputPut l (144 * o .particles) (lowered (getD (o .lobby .msgs) k d))) →
+      s ≡ putParticles o n →
+      LobbyIs (remove (viewLobby (o .lobby)) k) c (fitsLobby (o .lobby)) y →
+      t ≡ putLobby s y →
       Says said.Silent t r →
-      StepIs (settled (goDown (viewCore o) i)) o r
-  down-did p q l s t n n′ a pv pf ps se ls te says =
-      let m : Message = getD (o .lobby .msgs) k d in
-      let e = core.down-done (viewCore o) (ok .short-outputs) (ok .few) k (viewMessage m) (message-at o ok full k d (a .held)) (a .status d)
-      (words-short (m .value) (message-short o ok full k d (a .held))) (rw (particles-n o ok full) (a .room)) in
-      let fits : fitsSide (putLobby (putParticles o q) l) ≡ true =
-      side-fits (putLobby (putParticles o q) l) (ps .fits (both _ _ (side-particles o (ok .arrays)) (pf ∙ message-fits o ok full k d (a .held))))
-      (side-boxes o (ok .arrays)) (ls .fits (side-lobby o (ok .arrays))) (side-shelf o (ok .arrays)) in
-      subst (λ (x : ℕ). StepIs (settled (goDown (viewCore o) x)) o r) same
-      (quiet-is _ (core.downCore (viewCore o) k (viewMessage m)) o t (putLobby (putParticles o q) l) r e says (te ∙ ap (λ (x : Side). putLobby x l) se)
-      (rw (ps .view, ls .view, pv)) refl fits)
+      StepIs (settled (goDown (coreOf l o) i)) l o m r
+  down-did m n c y s t a put se ys te says =
+      let x : Message = getD (o .lobby .msgs) k d in
+      let p : Output = lowered x in
+      let h = message-short l o ok full k d (a .held) in
+      let e = core.down-done (coreOf l o) (ok .short-outputs) (ok .few) k _ (message-at l o ok full k d (a .held)) (a .status d) (words-short (x .value) h) (rw (rows-n l o ok) (a .room)) in
+      let w : List ℕ = outputPut l (144 * o .particles) p in
+      let rp = output-put l (o .particles) p (ok .long) (a .room) h in
+      let b = behind-output l (o .particles) p (a .room) h in
+      let u : Rest = putLobby (putParticles o (o .particles + 1)) y in
+      let fits : fitsSide w u ≡ true =
+      side-again l w o u (ok .arrays) refl (add-fits l w (o .particles) _ rp (a .room) (side-rows l o (ok .arrays))) (ys .fits (side-lobby l o (ok .arrays)))
+      (shelf-fits-kept l w b (o .shelved) (side-shelf l o (ok .arrays))) in
+      let is = same-core (o .minted) (o .taken) (add-view l w (o .particles) _ rp (a .room)) (boxes-kept l w b (o .boxes)) (ys .view) (shelf-kept l w b (o .shelved)) in
+      let q : t ≡ u = te ∙ ap (λ (z : Rest). putLobby z y) (se ∙ ap (putParticles o) (put .0)) in
+      subst (λ (z : ℕ). StepIs (settled (goDown (coreOf l o) z)) l o m r) same
+      (subst (λ (z : List ℕ). StepIs (settled (goDown (coreOf l o) k)) l o z r) (sym (put .1))
+      (quiet-is _ _ l w o t u r e says q is (output-length l (144 * o .particles) p) fits))
 
-  pub pass-did : (m′ : Message) (l : Lobby) (t : Side) (n : ℕ) → PassAt o k →
-      m′ ≡ record { status = Leaving; channel = 1; value = getD (o .lobby .msgs) k d .value } →
-      LobbyIs (set (viewLobby (o .lobby)) k (viewMessage m′)) n (fitsLobby (o .lobby) & fitsMessage m′) l →
-      t ≡ putLobby o l →
+  pub pass-did : (x : Message) (y : Lobby) (t : Rest) (n : ℕ) → PassAt o k →
+      x ≡ record { status = Leaving; channel = 1; value = getD (o .lobby .msgs) k d .value } →
+      LobbyIs (set (viewLobby (o .lobby)) k (viewMessage x)) n (fitsLobby (o .lobby) & fitsMessage x) y →
+      t ≡ putLobby o y →
       Says said.Silent t r →
-      StepIs (settled (pass (viewCore o) i)) o r
-  pass-did m′ l t n a me ls te says =
-      let m : Message = getD (o .lobby .msgs) k d in
-      let e = core.pass-done (viewCore o) (ok .short-outputs) (ok .few) k (viewMessage m) (message-at o ok full k d (a .held)) (a .status d) (a .chan d) in
-      let fits : fitsSide (putLobby o l) ≡ true =
-      side-fits (putLobby o l) (side-particles o (ok .arrays)) (side-boxes o (ok .arrays))
-      (ls .fits (both _ _ (side-lobby o (ok .arrays)) (ap fitsMessage me ∙ message-fits o ok full k d (a .held)))) (side-shelf o (ok .arrays)) in
-      subst (λ (x : ℕ). StepIs (settled (pass (viewCore o) x)) o r) same
-      (quiet-is _ (core.passCore (viewCore o) k (viewMessage m)) o t (putLobby o l) r e says te (rw (ls .view, me)) refl fits)
+      StepIs (settled (pass (coreOf l o) i)) l o l r
+  pass-did x y t n a xe ys te says =
+      let e = core.pass-done (coreOf l o) (ok .short-outputs) (ok .few) k _ (message-at l o ok full k d (a .held)) (a .status d) (a .chan d) in
+      let fits : fitsSide l (putLobby o y) ≡ true =
+      side-again l l o (putLobby o y) (ok .arrays) refl (side-rows l o (ok .arrays)) (ys .fits (both _ _ (side-lobby l o (ok .arrays)) (ap fitsMessage xe ∙ message-fits l o ok full k d (a .held))))
+      (side-shelf l o (ok .arrays)) in
+      subst (λ (z : ℕ). StepIs (settled (pass (coreOf l o) z)) l o l r) same
+      (quiet-is _ _ l l o t (putLobby o y) r e says te (same-core (o .minted) (o .taken) refl refl (ys .view ∙ ap (λ (u : Message). set (viewLobby (o .lobby)) k (viewMessage u)) xe) refl) refl fits)
 
-  pub leave-did : (l : Lobby) (s t : Side) (n : ℕ) (x : List Bool) → LeaveAt o k →
-      LobbyIs (remove (viewLobby (o .lobby)) k) n (fitsLobby (o .lobby)) l →
-      x ≡ markAll (o .left) (viewValue (getD (o .lobby .msgs) k d .value)) →
-      s ≡ putLobby o l →
-      t ≡ putLeft s x →
-      r ≡ record { said = said.Out; value = getD (o .lobby .msgs) k d .value; side = t } →
-      StepIs (settled (leave (viewCore o) i)) o r
-  leave-did l s t n x a ls xe se te re =
+  pub leave-did : (y : Lobby) (t : Rest) (n : ℕ) → LeaveAt o k →
+      LobbyIs (remove (viewLobby (o .lobby)) k) n (fitsLobby (o .lobby)) y →
+      t ≡ putLobby o y →
+      r ≡ record { said = said.Out; value = getD (o .lobby .msgs) k d .value; rest = t } →
+      StepIs (settled (leave (coreOf l o) i)) l o l r
+  leave-did y t n a ys te re =
       let m : Message = getD (o .lobby .msgs) k d in
-      let e = core.leave-done (viewCore o) (ok .short-outputs) (ok .few) k (viewMessage m) (message-at o ok full k d (a .held)) (a .status d) in
-      let fits : fitsSide (putLeft (putLobby o l) x) ≡ true =
-      side-fits (putLeft (putLobby o l) x) (side-particles o (ok .arrays)) (side-boxes o (ok .arrays)) (ls .fits (side-lobby o (ok .arrays))) (side-shelf o (ok .arrays)) in
-      subst (λ (y : ℕ). StepIs (settled (leave (viewCore o) y)) o r) same
+      let e = core.leave-done (coreOf l o) (ok .short-outputs) (ok .few) k _ (message-at l o ok full k d (a .held)) (a .status d) in
+      let fits : fitsSide l (putLobby o y) ≡ true =
+      side-again l l o (putLobby o y) (ok .arrays) refl (side-rows l o (ok .arrays)) (ys .fits (side-lobby l o (ok .arrays))) (side-shelf l o (ok .arrays)) in
+      subst (λ (z : ℕ). StepIs (settled (leave (coreOf l o) z)) l o l r) same
       (rw re
-      (said-is _ (record { label = leaves; val = viewValue (m .value); core = withLobby (viewCore o) (remove (viewLobby (o .lobby)) k) }) o (putLeft (putLobby o l) x)
-      (record { said = said.Out; value = m .value; side = t }) e refl refl (message-short o ok full k d (a .held)) (te ∙ ap (λ (y : Side). putLeft y x) se) (rw (ls .view)) xe fits))
+      (said-is _ (record { label = leaves; val = viewValue (m .value); core = withLobby (coreOf l o) (remove (viewLobby (o .lobby)) k) }) l l o (putLobby o y)
+      (record { said = said.Out; value = m .value; rest = t }) e refl refl (message-short l o ok full k d (a .held)) te
+      (same-core (o .minted) (o .taken) refl refl (ys .view) refl) refl fits))

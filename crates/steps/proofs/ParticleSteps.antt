@@ -1,176 +1,182 @@
 -- Up and descend: a law for each way that the code goes.
 use mathlib.Core.Path.{_≡_, refl, sym, ap, subst, _∙_}
 use mathlib.Core.Bool.{true, false}
-use mathlib.Core.List.{[], _∷_, _++_}
-use Prim.Native.Nat.{ℕ, _<_, _≤_}
+use mathlib.Core.List.{List, [], _∷_, _++_, map}
+use Prim.Native.Nat.{ℕ, _+_, _-_, _*_, _<_, _≤_}
 use native.Mathlib.Omega.{arith}
-use lib.Dec.{eqb}
-use lib.ListN.{getD, set}
-use Rattle.model.specs.Basics.{_&_, refuse, remove}
-use Rattle.model.specs.Side.{output, fromParent, fromChild}
+use lib.Dec.{leb, eqb}
+use lib.ListN.{length, take, drop, getD}
+use Rattle.model.specs.Basics.{_&_, Res, refuse, done, every, remove}
+use Rattle.model.specs.Side.{output, arrived}
 use Rattle.model.specs.Load.{Setting}
 use Rattle.model.specs.Wrapper.{shelves}
-use Rattle.model.specs.Step.{isToParent, isToChild, up, upFrom, descend, settled}
+use Rattle.model.specs.Step.{Moved, isToParent, isToChild, up, upFrom, descend, settled}
 use Rattle.model.proofs.Tests.{both}
 use Rattle.values.specs.declared.Value.{Value}
 use Rattle.values.specs.Env.{viewValue}
 use Rattle.sides.specs.declared.Status.the-variants.{Arrived}
+use Rattle.sides.specs.declared.Tag.{Tag}
+use Rattle.sides.specs.declared.Tag.the-variants.{FromParent, FromChild}
 use Rattle.sides.specs.declared.Message.{Message}
 use Rattle.sides.specs.declared.Lobby.{Lobby}
-use Rattle.sides.specs.declared.Particle.{Particle}
-use Rattle.sides.specs.declared.Particles.{Particles}
-use Rattle.sides.specs.declared.BoxRow.{BoxRow}
-use Rattle.sides.specs.declared.Shelf.{Shelf}
-use Rattle.sides.specs.declared.Side.{Side}
-use Rattle.sides.specs.Views.{viewTag, viewMessage, viewLobby, viewParticle, viewParticles, viewBox, viewShelf, viewCore, fitsValue, fitsMessage, fitsLobby, fitsParticle, fitsParticles, fitsShelf, fitsSide}
-use Rattle.sides.specs.Holding.{LobbyIs, ParticlesIs, ShelfIs}
-use Rattle.sides.specs.Puts.{putParticles, putLobby, putShelf}
-use Rattle.sides.proofs.Sides.{side-particles, side-boxes, side-lobby, side-shelf, side-fits, value-fits}
+use Rattle.sides.specs.Views.{viewTag, viewMessage, viewLobby, fitsMessage, fitsLobby}
+use Rattle.sides.specs.Holding.{LobbyIs}
+use Rattle.sides.proofs.Lobbies.{value-fits}
+use Rattle.sides.specs.declared.Rest.{Rest}
+use Rattle.sides.specs.Layout.{rowAt, tagIn, viewRow, fitsRow, viewRows, fitsRows, boxesOf, viewBox, ValueIs}
+use Rattle.sides.specs.Stored.{movedTo, rowGone, shelfPut}
+use Rattle.sides.specs.Sides.{coreOf, fitsSide}
+use Rattle.sides.specs.Puts.{putParticles, putShelved, putLobby}
+use Rattle.sides.proofs.Storing.{moved-length, gone-length, shelf-length}
+use Rattle.sides.proofs.Putting.{moved-put, put-view, put-fits, gone-view, gone-fits}
+use Rattle.sides.proofs.Behind.{behind-moved, behind-gone, shelf-rows, shelf-boxes, shelf-view, shelf-more-fits}
 use Rattle.steps.specs.declared.Said.the-variants as said
-use Rattle.steps.specs.declared.SideStep.{SideStep}
-use Rattle.steps.specs.StepIs.{StepIs, Sane}
-use Rattle.steps.specs.Asked.{Says, UpAt, DescendAt}
 use Rattle.steps.proofs.CoreSteps as core
-use Rattle.steps.proofs.Held.{Full, elem-some, lobby-n, particles-n, boxes-n, shelf-n, particle-any, box-at, box-any, output-at, input-at, output-short, words-short, refused-is, quiet-is}
+use Rattle.steps.proofs.Held.{elem-some}
+use Rattle.steps.specs.declared.RestStep.{RestStep}
+use Rattle.steps.specs.StepIs.{StepIs, Sane}
+use Rattle.steps.specs.Asked.{Says, channelIn, valueIn, UpAt, DescendAt}
+use Rattle.steps.proofs.Held.{Full, side-rows, side-lobby, side-shelf, side-again, boxes-kept, shelf-kept, shelf-fits-kept, same-core, rows-cap, rows-n, boxes-n, shelf-n, lobby-n, box-at, row-in, fits-at, input-at, output-at, value-length, refused-is, quiet-is}
 
-module _ (o : Side) (i : ℕ) (ok : Sane o) (full : Full o) where
-  pub up-past : (c : Setting) → o .particles .len ≤ i → settled (up c (viewCore o) i) ≡ refuse 10
-  up-past c h = core.up-10 (viewCore o) (ok .short-outputs) (ok .few) c i (rw (particles-n o ok full) h)
+module _ (l : List ℕ) (o : Rest) (i : ℕ) (ok : Sane l o) where
+  pub up-past : (c : Setting) → o .particles ≤ i → settled (up c (coreOf l o) i) ≡ refuse 10
+  up-past c h = core.up-10 (coreOf l o) (ok .short-outputs) (ok .few) c i (rw (rows-n l o ok) h)
 
-  pub descend-past : (j : ℕ) → o .particles .len ≤ i → settled (descend (viewCore o) i j) ≡ refuse 10
-  descend-past j h = core.descend-10 (viewCore o) (ok .short-outputs) (ok .few) i j (rw (particles-n o ok full) h)
+  pub descend-past : (j : ℕ) → o .particles ≤ i → settled (descend (coreOf l o) i j) ≡ refuse 10
+  descend-past j h = core.descend-10 (coreOf l o) (ok .short-outputs) (ok .few) i j (rw (rows-n l o ok) h)
 
-  pub descend-no-box : (j : ℕ) → i < o .particles .len → o .boxes .len ≤ j → settled (descend (viewCore o) i j) ≡ refuse 10
-  descend-no-box j h b =
-      let p = elem-some (viewParticles (o .particles)) i (rw (particles-n o ok full) h) in
-      core.descend-10-box (viewCore o) (ok .short-outputs) (ok .few) i j (p .0) (p .1) (rw (boxes-n o ok full) b)
+  module _ (h : i < o .particles) where
+    pub up-no-output : (c : Setting) → (getD (rowAt l i) 0 0 ≡ 1 → ⊥) → settled (up c (coreOf l o) i) ≡ refuse 13
+    up-no-output c e = let p = input-at l o ok i h e in core.up-input (coreOf l o) (ok .short-outputs) (ok .few) c i _ _ _ (p .3)
 
-  module _ (d : Particle) (h : i < o .particles .len) where
-    pub up-no-output : (c : Setting) → getD (o .particles .rows) i d .«is_output» ≡ false → settled (up c (viewCore o) i) ≡ refuse 13
-    up-no-output c e = core.up-input (viewCore o) (ok .short-outputs) (ok .few) c i _ _ _ (input-at o ok full i d h e)
+    pub up-not : (c : Setting) → getD (rowAt l i) 0 0 ≡ 1 → isToParent (tagIn (rowAt l i)) ≡ false → settled (up c (coreOf l o) i) ≡ refuse 13
+    up-not c e t = core.up-13 (coreOf l o) (ok .short-outputs) (ok .few) c i _ _ _ _ (output-at l o ok i h e) t
 
-    pub up-not : (c : Setting) → getD (o .particles .rows) i d .«is_output» ≡ true → isToParent (viewTag (getD (o .particles .rows) i d .tag)) ≡ false → settled (up c (viewCore o) i) ≡ refuse 13
-    up-not c e t = core.up-13 (viewCore o) (ok .short-outputs) (ok .few) c i _ _ _ _ (output-at o ok full i d h e) t
+    module _ (j : ℕ) where
+      pub descend-no-box : o .boxes ≤ j → settled (descend (coreOf l o) i j) ≡ refuse 10
+      descend-no-box b =
+          let p = elem-some (viewRows l (o .particles)) i (rw (rows-n l o ok) h) in
+          core.descend-10-box (coreOf l o) (ok .short-outputs) (ok .few) i j (p .0) (p .1) (rw (boxes-n l o ok) b)
 
-    pub up-may : getD (o .particles .rows) i d .«is_output» ≡ true → isToParent (viewTag (getD (o .particles .rows) i d .tag)) ≡ true → UpAt o i
-    up-may e t = record {
-      held = h;
-      is = λ z. ap (λ (x : Particle). x .«is_output») (particle-any o ok full i z d h) ∙ e;
-      tag = λ z. ap (λ (x : Particle). isToParent (viewTag (x .tag))) (particle-any o ok full i z d h) ∙ t;
-    }
+      module _ (b : j < o .boxes) where
+        pub descend-no-output : (getD (rowAt l i) 0 0 ≡ 1 → ⊥) → settled (descend (coreOf l o) i j) ≡ refuse 13
+        descend-no-output e = let p = input-at l o ok i h e in core.descend-input (coreOf l o) (ok .short-outputs) (ok .few) i j _ _ _ _ (p .3) (box-at l o ok j b)
 
-    module _ (j : ℕ) (y : BoxRow) (b : j < o .boxes .len) where
-      pub descend-no-output : getD (o .particles .rows) i d .«is_output» ≡ false → settled (descend (viewCore o) i j) ≡ refuse 13
-      descend-no-output e = core.descend-input (viewCore o) (ok .short-outputs) (ok .few) i j _ _ _ _ (input-at o ok full i d h e) (box-at o ok full j y b)
+        module _ (e : getD (rowAt l i) 0 0 ≡ 1) where
+          pub descend-handler-box : j ≡ 0 → settled (descend (coreOf l o) i j) ≡ refuse 13
+          descend-handler-box z = core.descend-13-handler-box (coreOf l o) (ok .short-outputs) (ok .few) i j _ _ _ _ _ (output-at l o ok i h e) (box-at l o ok j b) z
 
-      module _ (e : getD (o .particles .rows) i d .«is_output» ≡ true) where
-        pub descend-handler-box : j ≡ 0 → settled (descend (viewCore o) i j) ≡ refuse 13
-        descend-handler-box z = core.descend-13-handler-box (viewCore o) (ok .short-outputs) (ok .few) i j _ _ _ _ _ (output-at o ok full i d h e) (box-at o ok full j y b) z
+          pub descend-parent : (viewBox (getD (boxesOf l) j []) .parent ≡ getD (rowAt l i) 1 0 → ⊥) → settled (descend (coreOf l o) i j) ≡ refuse 13
+          descend-parent n = core.descend-13-parent (coreOf l o) (ok .short-outputs) (ok .few) i j _ _ _ _ _ (output-at l o ok i h e) (box-at l o ok j b) n
 
-        pub descend-parent : (getD (o .boxes .rows) j y .parent ≡ getD (o .particles .rows) i d .at → ⊥) → settled (descend (viewCore o) i j) ≡ refuse 13
-        descend-parent n = core.descend-13-parent (viewCore o) (ok .short-outputs) (ok .few) i j _ _ _ _ _ (output-at o ok full i d h e) (box-at o ok full j y b) n
+          pub descend-name : isToChild (tagIn (rowAt l i)) (viewBox (getD (boxesOf l) j []) .name) ≡ false → settled (descend (coreOf l o) i j) ≡ refuse 13
+          descend-name n = core.descend-13-name (coreOf l o) (ok .short-outputs) (ok .few) i j _ _ _ _ _ (output-at l o ok i h e) (box-at l o ok j b) n
 
-        pub descend-name : isToChild (viewTag (getD (o .particles .rows) i d .tag)) (getD (o .boxes .rows) j y .name) ≡ false → settled (descend (viewCore o) i j) ≡ refuse 13
-        descend-name n = core.descend-13-name (viewCore o) (ok .short-outputs) (ok .few) i j _ _ _ _ _ (output-at o ok full i d h e) (box-at o ok full j y b) n
+-- AN OUTPUT MOVED to another box, with another tag
+module _ (l : List ℕ) (o : Rest) (i : ℕ) (ok : Sane l o) (h : i < o .particles) (e : getD (rowAt l i) 0 0 ≡ 1) (r : RestStep) where
+  moved-is : (x : Res Moved) (box : ℕ) (t : Tag) (m : List ℕ) → x ≡ done (core.quiet (core.putCore (coreOf l o) i (output box (channelIn l i) (viewTag t) (valueIn l i)))) →
+      m ≡ movedTo l (144 * i) box t → Says said.Silent o r → StepIs x l o m r
+  moved-is x box t m q p says =
+      let w : List ℕ = movedTo l (144 * i) box t in
+      let rp = moved-put l i box t (ok .long) (row-in l o ok i h) e (fits-at l o ok i h) in
+      let b = behind-moved l i box t (row-in l o ok i h) in
+      let fits : fitsSide w o ≡ true =
+      side-again l w o o (ok .arrays) refl (put-fits l w i _ rp (o .particles) h (side-rows l o (ok .arrays))) (side-lobby l o (ok .arrays))
+      (shelf-fits-kept l w b (o .shelved) (side-shelf l o (ok .arrays))) in
+      let is = same-core (o .minted) (o .taken) (put-view l w i _ rp (o .particles) h) (boxes-kept l w b (o .boxes)) refl (shelf-kept l w b (o .shelved)) in
+      subst (λ (z : List ℕ). StepIs x l o z r) (sym p) (quiet-is x _ l w o o o r q says refl is (moved-length l (144 * i) box t) fits)
 
-        pub descend-may : (j ≡ 0 → ⊥) → getD (o .boxes .rows) j y .parent ≡ getD (o .particles .rows) i d .at → isToChild (viewTag (getD (o .particles .rows) i d .tag)) (getD (o .boxes .rows) j y .name) ≡ true → DescendAt o j i
-        descend-may z p t = record {
-          held = h;
-          box = b;
-          inner = z;
-          is = λ u. ap (λ (x : Particle). x .«is_output») (particle-any o ok full i u d h) ∙ e;
-          parent = λ u w. ap (λ (x : BoxRow). x .parent) (box-any o ok full j w y b) ∙ p ∙ ap (λ (x : Particle). x .at) (particle-any o ok full i d u h);
-          tag = λ u w. ap (λ (x : Particle). isToChild (viewTag (x .tag)) (getD (o .boxes .rows) j w .name)) (particle-any o ok full i u d h) ∙
-              ap (λ (x : BoxRow). isToChild (viewTag (getD (o .particles .rows) i d .tag)) (x .name)) (box-any o ok full j w y b) ∙ t;
-        }
+  -- out of box b to its parent
+  pub box-did : (c : Setting) (b parent name : ℕ) (m : List ℕ) → 0 < b → b < o .boxes → parent ≡ viewBox (getD (boxesOf l) b []) .parent → name ≡ viewBox (getD (boxesOf l) b []) .name →
+      m ≡ movedTo l (144 * i) parent (FromChild name) →
+      Says said.Silent o r →
+      StepIs (settled (upFrom c (coreOf l o) i b (channelIn l i) (valueIn l i))) l o m r
+  box-did c b parent name m z k pe ne me says =
+      let d = core.box-done (coreOf l o) (ok .short-outputs) (ok .few) c i b (channelIn l i) (valueIn l i) _ z (box-at l o ok b k) (value-length l o ok i h e) in
+      moved-is _ _ (FromChild (viewBox (getD (boxesOf l) b []) .name)) m d
+      (me ∙ ap (λ (x : ℕ). movedTo l (144 * i) x (FromChild name)) pe ∙ ap (λ (x : ℕ). movedTo l (144 * i) (viewBox (getD (boxesOf l) b []) .parent) (FromChild x)) ne) says
 
--- output i out of its box
-module _ (o : Side) (i : ℕ) (ok : Sane o) (full : Full o) (c : Setting) (r : SideStep) where
-  module _ (v : Value) (e : shelves (c .wrapper) (c .side) ≡ true) where
-    pub shelf-full : 32 ≤ o .shelf .len → Says (said.Refused 17) o r → StepIs (settled (upFrom c (viewCore o) i 0 2 (viewValue v))) o r
-    shelf-full h says = refused-is _ o 17 r (core.shelf-17 (viewCore o) (ok .short-outputs) (ok .few) c i (viewValue v) e (rw (shelf-n o ok full) h)) says
-
-    pub shelf-did : (q : Particles) (x : Shelf) (s t : Side) (n n′ : ℕ) → o .shelf .len < 32 → v .len ≤ 16 →
-        ParticlesIs (remove (viewParticles (o .particles)) i) n (fitsParticles (o .particles)) q →
-        s ≡ putParticles o q →
-        ShelfIs (viewShelf (o .shelf) ++ (viewValue v ∷ [])) n′ (fitsShelf (o .shelf) & fitsValue v) x →
-        t ≡ putShelf s x →
+  -- A ROW GONE: the particle's value v has been read
+  module _ (c : Setting) (v : Value) (vi : ValueIs (valueIn l i) v) (m : List ℕ) (n : ℕ) where
+    pub lobby-did : (ch : ℕ) (g : Message) (y : Lobby) (k : ℕ) (s t : Rest) → shelves (c .wrapper) (c .side) & eqb (channelIn l i) 2 ≡ false → Full o → o .lobby .len < 16 →
+        ch ≡ channelIn l i →
+        g ≡ record { status = Arrived; channel = ch; value = v } →
+        (n ≡ o .particles - 1) × (m ≡ rowGone l i (o .particles)) →
+        s ≡ putParticles o n →
+        LobbyIs (viewLobby (o .lobby) ++ (viewMessage g ∷ [])) k (fitsLobby (o .lobby) & fitsMessage g) y →
+        t ≡ putLobby s y →
         Says said.Silent t r →
-        StepIs (settled (upFrom c (viewCore o) i 0 2 (viewValue v))) o r
-    shelf-did q x s t n n′ h l ps se xs te says =
-        let fits : fitsSide (putShelf (putParticles o q) x) ≡ true =
-        side-fits (putShelf (putParticles o q) x) (ps .fits (side-particles o (ok .arrays))) (side-boxes o (ok .arrays)) (side-lobby o (ok .arrays))
-        (xs .fits (both _ _ (side-shelf o (ok .arrays)) (value-fits v l))) in
-        quiet-is _ (core.shelfCore (viewCore o) i (viewValue v)) o t (putShelf (putParticles o q) x) r
-        (core.shelf-done (viewCore o) (ok .short-outputs) (ok .few) c i (viewValue v) e (rw (shelf-n o ok full) h)) says (te ∙ ap (λ (y : Side). putShelf y x) se)
-        (rw (ps .view, xs .view)) refl fits
+        StepIs (settled (upFrom c (coreOf l o) i 0 (channelIn l i) (valueIn l i))) l o m r
+    lobby-did ch g y k s t off full room che ge gone se ys te says =
+        let w : List ℕ = rowGone l i (o .particles) in
+        let cap = rows-cap l o ok in
+        let b = behind-gone l i (o .particles) h cap in
+        let d = core.lobby-done (coreOf l o) (ok .short-outputs) (ok .few) c i (channelIn l i) (valueIn l i) off (rw (lobby-n l o ok full) room) in
+        let u : Rest = putLobby (putParticles o (o .particles - 1)) y in
+        let fits : fitsSide w u ≡ true =
+        side-again l w o u (ok .arrays) refl (gone-fits l i (o .particles) (ok .long) h cap (side-rows l o (ok .arrays)))
+        (ys .fits (both _ _ (side-lobby l o (ok .arrays)) (ap fitsMessage ge ∙ value-fits v (vi .short)))) (shelf-fits-kept l w b (o .shelved) (side-shelf l o (ok .arrays))) in
+        let sent = ap (λ (x : Message). viewLobby (o .lobby) ++ (viewMessage x ∷ [])) (ge ∙ ap (λ (x : ℕ). record { status = Arrived; channel = x; value = v }) che) ∙
+        ap (λ (x : List ℕ). viewLobby (o .lobby) ++ (record { status = arrived; chan = channelIn l i; val = x } ∷ [])) (vi .view) in
+        let is = same-core (o .minted) (o .taken) (gone-view l i (o .particles) (ok .long) h cap) (boxes-kept l w b (o .boxes)) (ys .view ∙ sent) (shelf-kept l w b (o .shelved)) in
+        subst (λ (z : List ℕ). StepIs (settled (upFrom c (coreOf l o) i 0 (channelIn l i) (valueIn l i))) l o z r) (sym (gone .1))
+        (quiet-is _ _ l w o t u r d says (te ∙ ap (λ (x : Rest). putLobby x y) (se ∙ ap (putParticles o) (gone .0))) is (gone-length l i (o .particles)) fits)
 
-  module _ (ch : ℕ) (v : Value) (e : shelves (c .wrapper) (c .side) & eqb ch 2 ≡ false) where
-    pub lobby-full : 16 ≤ o .lobby .len → Says (said.Refused 17) o r → StepIs (settled (upFrom c (viewCore o) i 0 ch (viewValue v))) o r
-    lobby-full h says = refused-is _ o 17 r (core.lobby-17 (viewCore o) (ok .short-outputs) (ok .few) c i ch (viewValue v) e (rw (lobby-n o ok full) h)) says
-
-    pub lobby-did : (q : Particles) (m : Message) (l : Lobby) (s t : Side) (n n′ : ℕ) → o .lobby .len < 16 → v .len ≤ 16 →
-        ParticlesIs (remove (viewParticles (o .particles)) i) n (fitsParticles (o .particles)) q →
-        s ≡ putParticles o q →
-        m ≡ record { status = Arrived; channel = ch; value = v } →
-        LobbyIs (viewLobby (o .lobby) ++ (viewMessage m ∷ [])) n′ (fitsLobby (o .lobby) & fitsMessage m) l →
-        t ≡ putLobby s l →
+    pub shelf-did : (w : List ℕ) (s t : Rest) → shelves (c .wrapper) (c .side) ≡ true → o .shelved < 32 →
+        w ≡ shelfPut l (o .shelved) (viewValue v) →
+        (n ≡ o .particles - 1) × (m ≡ rowGone w i (o .particles)) →
+        s ≡ putParticles o n →
+        t ≡ putShelved s (o .shelved + 1) →
         Says said.Silent t r →
-        StepIs (settled (upFrom c (viewCore o) i 0 ch (viewValue v))) o r
-    lobby-did q m l s t n n′ h k ps se me ls te says =
-        let fits : fitsSide (putLobby (putParticles o q) l) ≡ true =
-        side-fits (putLobby (putParticles o q) l) (ps .fits (side-particles o (ok .arrays))) (side-boxes o (ok .arrays))
-        (ls .fits (both _ _ (side-lobby o (ok .arrays)) (ap fitsMessage me ∙ value-fits v k))) (side-shelf o (ok .arrays)) in
-        quiet-is _ (core.lobbyCore (viewCore o) i ch (viewValue v)) o t (putLobby (putParticles o q) l) r
-        (core.lobby-done (viewCore o) (ok .short-outputs) (ok .few) c i ch (viewValue v) e (rw (lobby-n o ok full) h)) says (te ∙ ap (λ (y : Side). putLobby y l) se)
-        (rw (ps .view, ls .view, me)) refl fits
+        StepIs (settled (upFrom c (coreOf l o) i 0 2 (valueIn l i))) l o m r
+    shelf-did w s t on room we gone se te says =
+        let x : List ℕ = valueIn l i in
+        let a : List ℕ = shelfPut l (o .shelved) x in
+        let z : List ℕ = rowGone a i (o .particles) in
+        let cap = rows-cap l o ok in
+        let b = behind-gone a i (o .particles) h cap in
+        let al : length a ≡ 5184 = shelf-length l (o .shelved) x ∙ ok .long in
+        let few = value-length l o ok i h e in
+        let d = core.shelf-done (coreOf l o) (ok .short-outputs) (ok .few) c i x on (rw (shelf-n l o ok) room) in
+        let u : Rest = putShelved (putParticles o (o .particles - 1)) (o .shelved + 1) in
+        let rows-fit : fitsRows a (o .particles) ≡ true = ap (λ (y : List (List ℕ)). leb (o .particles) 32 & every fitsRow (take (o .particles) y)) (shelf-rows l (o .shelved) x) ∙ side-rows l o (ok .arrays) in
+        let fits : fitsSide z u ≡ true =
+        side-again l z o u (ok .arrays) refl (gone-fits a i (o .particles) al h cap rows-fit) (side-lobby l o (ok .arrays))
+        (shelf-fits-kept a z b (o .shelved + 1) (shelf-more-fits l (o .shelved) x (ok .long) room few (side-shelf l o (ok .arrays)))) in
+        let ps = gone-view a i (o .particles) al h cap ∙ ap (λ (y : List (List ℕ)). remove (map viewRow (take (o .particles) y)) i) (shelf-rows l (o .shelved) x) in
+        let bs = boxes-kept a z b (o .boxes) ∙ ap (λ (y : List (List ℕ)). map viewBox (take (o .boxes) y)) (shelf-boxes l (o .shelved) x) in
+        let hs = shelf-kept a z b (o .shelved + 1) ∙ shelf-view l (o .shelved) x (ok .long) room few in
+        let words : m ≡ z = gone .1 ∙ ap (λ (y : List ℕ). rowGone y i (o .particles)) (we ∙ ap (shelfPut l (o .shelved)) (vi .view)) in
+        subst (λ (y : List ℕ). StepIs (settled (upFrom c (coreOf l o) i 0 2 x)) l o y r) (sym words)
+        (quiet-is _ _ l z o t u r d says (te ∙ ap (λ (y : Rest). putShelved y (o .shelved + 1)) (se ∙ ap (putParticles o) (gone .0))) (same-core (o .minted) (o .taken) ps bs refl hs)
+        (gone-length a i (o .particles) ∙ shelf-length l (o .shelved) x) fits)
 
-  pub box-did : (b ch : ℕ) (v : Value) (y : BoxRow) (p : Particle) (q : Particles) (s : Side) (n : ℕ) → 0 < b → b < o .boxes .len → v .len ≤ 16 →
-      viewParticle p ≡ output (getD (o .boxes .rows) b y .parent) ch (fromChild (getD (o .boxes .rows) b y .name)) (viewValue v) →
-      fitsParticle p ≡ fitsValue v →
-      ParticlesIs (set (viewParticles (o .particles)) i (viewParticle p)) n (fitsParticles (o .particles) & fitsParticle p) q →
-      s ≡ putParticles o q →
-      Says said.Silent s r →
-      StepIs (settled (upFrom c (viewCore o) i b ch (viewValue v))) o r
-  box-did b ch v y p q s n z h l pv pf ps se says =
-      let x : BoxRow = getD (o .boxes .rows) b y in
-      let fits : fitsSide (putParticles o q) ≡ true =
-      side-fits (putParticles o q) (ps .fits (both _ _ (side-particles o (ok .arrays)) (pf ∙ value-fits v l))) (side-boxes o (ok .arrays)) (side-lobby o (ok .arrays)) (side-shelf o (ok .arrays)) in
-      quiet-is _ (core.putCore (viewCore o) i (output (x .parent) ch (fromChild (x .name)) (viewValue v))) o s (putParticles o q) r
-      (core.box-done (viewCore o) (ok .short-outputs) (ok .few) c i b ch (viewValue v) (viewBox x) z (box-at o ok full b y h) (words-short v l)) says se
-      (rw (ps .view, pv)) refl fits
+-- no room
+module _ (l : List ℕ) (o : Rest) (i : ℕ) (ok : Sane l o) (c : Setting) (r : RestStep) (v : List ℕ) (says : Says (said.Refused 17) o r) where
+  pub shelf-full : shelves (c .wrapper) (c .side) ≡ true → 32 ≤ o .shelved → StepIs (settled (upFrom c (coreOf l o) i 0 2 v)) l o l r
+  shelf-full on h = refused-is _ l o 17 r (core.shelf-17 (coreOf l o) (ok .short-outputs) (ok .few) c i v on (rw (shelf-n l o ok) h)) says
 
-zero-of : (n : ℕ) → n ≤ 0 → 0 ≡ n
-zero-of n h = omega arith
+  pub lobby-full : (ch : ℕ) → shelves (c .wrapper) (c .side) & eqb ch 2 ≡ false → Full o → 16 ≤ o .lobby .len → StepIs (settled (upFrom c (coreOf l o) i 0 ch v)) l o l r
+  lobby-full ch off full h = refused-is _ l o 17 r (core.lobby-17 (coreOf l o) (ok .short-outputs) (ok .few) c i ch v off (rw (lobby-n l o ok full) h)) says
 
--- up, by the way that the output goes
-module _ (o : Side) (i k : ℕ) (same : k ≡ i) (ok : Sane o) (full : Full o) (c : Setting) (d : Particle) (r : SideStep) (a : UpAt o k) where
-  pub up-box : StepIs (settled (upFrom c (viewCore o) k (getD (o .particles .rows) k d .at) (getD (o .particles .rows) k d .channel) (viewValue (getD (o .particles .rows) k d .value)))) o r → StepIs (settled (up c (viewCore o) i)) o r
+-- up, by the way that the output goes: b is its box
+module _ (l : List ℕ) (o : Rest) (i k : ℕ) (same : k ≡ i) (ok : Sane l o) (c : Setting) (r : RestStep) (m : List ℕ) (a : UpAt l o k) (b : ℕ) (be : b ≡ getD (rowAt l k) 1 0) where
+  pub up-box : StepIs (settled (upFrom c (coreOf l o) k b (channelIn l k) (valueIn l k))) l o m r → StepIs (settled (up c (coreOf l o) i)) l o m r
   up-box x =
-      subst (λ (y : ℕ). StepIs (settled (up c (viewCore o) y)) o r) same
-      (rw (core.up-from (viewCore o) (ok .short-outputs) (ok .few) c k _ _ _ _ (output-at o ok full k d (a .held) (a .is d)) (a .tag d)) x)
+      subst (λ (y : ℕ). StepIs (settled (up c (coreOf l o) y)) l o m r) same
+      (rw (core.up-from (coreOf l o) (ok .short-outputs) (ok .few) c k _ _ _ _ (output-at l o ok k (a .held) (a .is)) (a .tag))
+      (subst (λ (y : ℕ). StepIs (settled (upFrom c (coreOf l o) k y (channelIn l k) (valueIn l k))) l o m r) be x))
 
-  pub up-shelf : getD (o .particles .rows) k d .at ≤ 0 → getD (o .particles .rows) k d .channel ≡ 2 →
-      StepIs (settled (upFrom c (viewCore o) k 0 2 (viewValue (getD (o .particles .rows) k d .value)))) o r → StepIs (settled (up c (viewCore o) i)) o r
-  up-shelf z e x = up-box (subst (λ (y : ℕ). StepIs (settled (upFrom c (viewCore o) k y (getD (o .particles .rows) k d .channel) (viewValue (getD (o .particles .rows) k d .value)))) o r) (zero-of _ z) (subst (λ (y : ℕ). StepIs (settled (upFrom c (viewCore o) k 0 y (viewValue (getD (o .particles .rows) k d .value)))) o r) (sym e) x))
+  pub up-lobby : b ≤ 0 → StepIs (settled (upFrom c (coreOf l o) k 0 (channelIn l k) (valueIn l k))) l o m r → StepIs (settled (up c (coreOf l o) i)) l o m r
+  up-lobby z x = let e : 0 ≡ b = omega arith in up-box (subst (λ (y : ℕ). StepIs (settled (upFrom c (coreOf l o) k y (channelIn l k) (valueIn l k))) l o m r) e x)
 
-  pub up-lobby : getD (o .particles .rows) k d .at ≤ 0 →
-      StepIs (settled (upFrom c (viewCore o) k 0 (getD (o .particles .rows) k d .channel) (viewValue (getD (o .particles .rows) k d .value)))) o r → StepIs (settled (up c (viewCore o) i)) o r
-  up-lobby z x = up-box (subst (λ (y : ℕ). StepIs (settled (upFrom c (viewCore o) k y (getD (o .particles .rows) k d .channel) (viewValue (getD (o .particles .rows) k d .value)))) o r) (zero-of _ z) x)
+  pub up-shelf : b ≤ 0 → channelIn l k ≡ 2 → StepIs (settled (upFrom c (coreOf l o) k 0 2 (valueIn l k))) l o m r → StepIs (settled (up c (coreOf l o) i)) l o m r
+  up-shelf z e x = up-lobby z (subst (λ (y : ℕ). StepIs (settled (upFrom c (coreOf l o) k 0 y (valueIn l k))) l o m r) (sym e) x)
 
 -- descend
-pub descend-did : (o : Side) (i k j : ℕ) → k ≡ i → (ok : Sane o) → Full o → (d : Particle) (y : BoxRow) (r : SideStep) (p : Particle) (q : Particles) (s : Side) (n : ℕ) → DescendAt o j k →
-    viewParticle p ≡ output j (getD (o .particles .rows) k d .channel) fromParent (viewValue (getD (o .particles .rows) k d .value)) →
-    fitsParticle p ≡ fitsValue (getD (o .particles .rows) k d .value) →
-    ParticlesIs (set (viewParticles (o .particles)) k (viewParticle p)) n (fitsParticles (o .particles) & fitsParticle p) q →
-    s ≡ putParticles o q →
-    Says said.Silent s r →
-    StepIs (settled (descend (viewCore o) i j)) o r
-descend-did o i k j same ok full d y r p q s n a pv pf ps se says =
-    let v : Value = getD (o .particles .rows) k d .value in
-    let l = output-short o ok full k d (a .held) (a .is d) in
-    let fits : fitsSide (putParticles o q) ≡ true =
-    side-fits (putParticles o q) (ps .fits (both _ _ (side-particles o (ok .arrays)) (pf ∙ value-fits v l))) (side-boxes o (ok .arrays)) (side-lobby o (ok .arrays)) (side-shelf o (ok .arrays)) in
-    let e = core.descend-done (viewCore o) (ok .short-outputs) (ok .few) k j _ _ _ _ _ (output-at o ok full k d (a .held) (a .is d)) (box-at o ok full j y (a .box)) (a .inner) (a .parent d y) (a .tag d y) (words-short v l) in
-    subst (λ (x : ℕ). StepIs (settled (descend (viewCore o) x j)) o r) same
-    (quiet-is _ (core.putCore (viewCore o) k (output j (getD (o .particles .rows) k d .channel) fromParent (viewValue v))) o s (putParticles o q) r e says se (rw (ps .view, pv)) refl fits)
+pub descend-did : (l : List ℕ) (o : Rest) (i k j : ℕ) → k ≡ i → (ok : Sane l o) (r : RestStep) (m : List ℕ) → DescendAt l o j k → m ≡ movedTo l (144 * k) j FromParent → Says said.Silent o r →
+    StepIs (settled (descend (coreOf l o) i j)) l o m r
+descend-did l o i k j same ok r m a me says =
+    let d = core.descend-done (coreOf l o) (ok .short-outputs) (ok .few) k j _ _ _ _ _ (output-at l o ok k (a .held) (a .is)) (box-at l o ok j (a .box)) (a .inner) (a .parent) (a .tag)
+    (value-length l o ok k (a .held) (a .is)) in
+    subst (λ (x : ℕ). StepIs (settled (descend (coreOf l o) x j)) l o m r) same (moved-is l o k ok (a .held) (a .is) r _ j FromParent m d me says)

@@ -1,15 +1,18 @@
-// The steps of a side but meet: each takes a side by value and gives its label, its value and the side after it, or a refusal beside the old side.
+// The steps of a side but meet. A side's words are lent, the rest of it goes by value: a step gives its label, its value and the
+// rest after it, or a refusal beside the old rest, and then the very words stay.
 ghost use mathlib.Core.Path.{_≡_};
 ghost use Rattle.steps.specs.Asked.{Says, numberOf};
-use sides::Side;
+use sides::Rest;
 use values::Value;
 
 mod enter_step;
+mod left_marks;
 mod lobby_steps;
 mod particle_steps;
 mod take_step;
 
 pub use enter_step::enter;
+pub use left_marks::mark_all;
 pub use lobby_steps::down;
 pub use lobby_steps::leave;
 pub use lobby_steps::pass;
@@ -25,10 +28,10 @@ pub enum Said {
     Refused(u32),
 }
 
-pub struct SideStep {
+pub struct RestStep {
     pub said: Said,
     pub value: Value,
-    pub side: Side,
+    pub rest: Rest,
 }
 
 // What a check of a step answers: the position that it may act on, or the number of a refusal.
@@ -49,12 +52,12 @@ impl Offer {
     }
 }
 
-impl SideStep {
-    // What is said, with no value, beside a side.
-    pub fn plain(said: Said, side: Side) -> Self
-        ensures { λ r. ⌜ Says said side r ⌝ }
+impl RestStep {
+    // What is said, with no value, beside a rest.
+    pub fn plain(said: Said, rest: Rest) -> Self
+        ensures { λ r. ⌜ Says said rest r ⌝ }
     {
         let value = Value::none();
-        SideStep { said, value, side }
+        RestStep { said, value, rest }
     }
 }

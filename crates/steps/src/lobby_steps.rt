@@ -1,18 +1,21 @@
 // Down, pass and leave: the steps that act on a lobby message.
 ghost use mathlib.Core.Path.{_≡_};
 ghost use Rattle.model.specs.Step.{isDown, isArrived, isLeaving, goDown, pass, leave, settled};
-ghost use Rattle.sides.specs.Views.{viewStatus, viewCore};
-ghost use Rattle.steps.specs.Asked.{OfferIs, DownAt, PassAt, LeaveAt};
+ghost use Rattle.sides.specs.Views.{viewStatus};
+ghost use Rattle.sides.specs.Sides.{coreOf};
+ghost use Rattle.steps.specs.Asked.{OfferIs};
+ghost use Rattle.steps.specs.Asked.{DownAt, PassAt, LeaveAt};
 ghost use Rattle.steps.specs.StepIs.{Sane, StepIs};
 use crate::Offer;
+use crate::RestStep;
 use crate::Said;
-use crate::SideStep;
 use sides::Message;
-use sides::Particle;
+use sides::Output;
+use sides::Rest;
 use sides::Side;
 use sides::Status;
 use sides::Tag;
-use sides::marked_all;
+use sides::add_output;
 
 fn is_down(s: Status) -> bool
     ensures { λ r. ⌜ r ≡ isDown (viewStatus s) ⌝ }
@@ -45,9 +48,9 @@ fn is_leaving(s: Status) -> bool
 }
 
 // Whether lobby i is down, with room for a particle more.
-fn down_offer(o: Side, i: usize) -> Offer
-    requires { ⌜ Sane o ⌝ }
-    ensures { λ r. ⌜ OfferIs (settled (goDown (viewCore o) i)) i (DownAt o) r ⌝ }
+fn down_offer(rows: &[u32], o: Rest, i: usize) -> Offer
+    requires { ⌜ Sane (now rows) o ⌝ }
+    ensures { λ r. ⌜ OfferIs (settled (goDown (coreOf (now (rows .entry)) o) i)) i (DownAt o) r ⌝ }
 {
     let l = o.lobby;
     if l.len <= i {
@@ -58,37 +61,38 @@ fn down_offer(o: Side, i: usize) -> Offer
     if !is_down(s) {
         return Offer::Refused(13);
     }
-    let ps = o.particles;
-    if !Side::particles_within(ps.len + 1) {
+    if !Side::particles_within(o.particles + 1) {
         return Offer::Refused(17);
     }
     Offer::At(i)
 }
 
 // Down: lobby i, being down, becomes a particle of box 0, received from the parent.
-pub fn down(o: Side, i: usize) -> SideStep
-    requires { ⌜ Sane o ⌝ }
-    ensures { λ r. ⌜ StepIs (settled (goDown (viewCore o) i)) o r ⌝ }
+pub fn down(rows: &mut [u32], o: Rest, i: usize) -> RestStep
+    requires { ⌜ Sane (now rows) o ⌝ }
+    ensures { λ r. ⌜ StepIs (settled (goDown (coreOf (now (rows .entry)) o) i)) (now (rows .entry)) o (now (rows .exit)) r ⌝ }
 {
-    let a = down_offer(o, i);
+    let a = down_offer(rows, o, i);
     let Offer::At(k) = a else {
-        return SideStep::plain(Said::Refused(a.number()), o);
+        return RestStep::plain(Said::Refused(a.number()), o);
     };
     let l = o.lobby;
-    let ps = o.particles;
     let m = l.msgs[k];
     let v = m.value;
-    let p = Particle::output(0, m.channel, Tag::FromParent, v);
-    SideStep::plain(
-        Said::Silent,
-        o.with_particles(ps.with(p)).with_lobby(l.without(k)),
-    )
+    let p = Output {
+        at: 0,
+        channel: m.channel,
+        tag: Tag::FromParent,
+        value: v,
+    };
+    let n = add_output(rows, o.particles, p);
+    RestStep::plain(Said::Silent, o.with_particles(n).with_lobby(l.without(k)))
 }
 
 // Whether lobby i has arrived on `out`.
-fn pass_offer(o: Side, i: usize) -> Offer
-    requires { ⌜ Sane o ⌝ }
-    ensures { λ r. ⌜ OfferIs (settled (pass (viewCore o) i)) i (PassAt o) r ⌝ }
+fn pass_offer(rows: &[u32], o: Rest, i: usize) -> Offer
+    requires { ⌜ Sane (now rows) o ⌝ }
+    ensures { λ r. ⌜ OfferIs (settled (pass (coreOf (now (rows .entry)) o) i)) i (PassAt o) r ⌝ }
 {
     let l = o.lobby;
     if l.len <= i {
@@ -105,26 +109,26 @@ fn pass_offer(o: Side, i: usize) -> Offer
     Offer::At(i)
 }
 
-// Pass: lobby i, arrived on `out`, becomes leaving.
-pub fn pass(o: Side, i: usize) -> SideStep
-    requires { ⌜ Sane o ⌝ }
-    ensures { λ r. ⌜ StepIs (settled (pass (viewCore o) i)) o r ⌝ }
+// Pass: lobby i, arrived on `out`, becomes leaving. No word changes.
+pub fn pass(rows: &[u32], o: Rest, i: usize) -> RestStep
+    requires { ⌜ Sane (now rows) o ⌝ }
+    ensures { λ r. ⌜ StepIs (settled (pass (coreOf (now (rows .entry)) o) i)) (now (rows .entry)) o (now (rows .entry)) r ⌝ }
 {
-    let a = pass_offer(o, i);
+    let a = pass_offer(rows, o, i);
     let Offer::At(k) = a else {
-        return SideStep::plain(Said::Refused(a.number()), o);
+        return RestStep::plain(Said::Refused(a.number()), o);
     };
     let l = o.lobby;
     let m = l.msgs[k];
     let v = m.value;
     let n = Message::new(Status::Leaving, 1, v);
-    SideStep::plain(Said::Silent, o.with_lobby(l.replaced(k, n)))
+    RestStep::plain(Said::Silent, o.with_lobby(l.replaced(k, n)))
 }
 
 // Whether lobby i is leaving.
-fn leave_offer(o: Side, i: usize) -> Offer
-    requires { ⌜ Sane o ⌝ }
-    ensures { λ r. ⌜ OfferIs (settled (leave (viewCore o) i)) i (LeaveAt o) r ⌝ }
+fn leave_offer(rows: &[u32], o: Rest, i: usize) -> Offer
+    requires { ⌜ Sane (now rows) o ⌝ }
+    ensures { λ r. ⌜ OfferIs (settled (leave (coreOf (now (rows .entry)) o) i)) i (LeaveAt o) r ⌝ }
 {
     let l = o.lobby;
     if l.len <= i {
@@ -138,25 +142,22 @@ fn leave_offer(o: Side, i: usize) -> Offer
     Offer::At(i)
 }
 
-// Leave: lobby i, leaving, is removed and said with its value, whose minted names are marked as left.
-pub fn leave(o: Side, i: usize) -> SideStep
-    requires { ⌜ Sane o ⌝ }
-    ensures { λ r. ⌜ StepIs (settled (leave (viewCore o) i)) o r ⌝ }
+// Leave: lobby i, leaving, is removed and said with its value. No word changes; the marks of left names follow from the label.
+pub fn leave(rows: &[u32], o: Rest, i: usize) -> RestStep
+    requires { ⌜ Sane (now rows) o ⌝ }
+    ensures { λ r. ⌜ StepIs (settled (leave (coreOf (now (rows .entry)) o) i)) (now (rows .entry)) o (now (rows .entry)) r ⌝ }
 {
-    let a = leave_offer(o, i);
+    let a = leave_offer(rows, o, i);
     let Offer::At(k) = a else {
-        return SideStep::plain(Said::Refused(a.number()), o);
+        return RestStep::plain(Said::Refused(a.number()), o);
     };
     let l = o.lobby;
     let m = l.msgs[k];
     let value = m.value;
-    let left = o.left;
-    let marks = marked_all(left, value);
-    let x = marks.left;
-    let side = o.with_lobby(l.without(k)).with_left(x);
-    SideStep {
+    let rest = o.with_lobby(l.without(k));
+    RestStep {
         said: Said::Out,
         value,
-        side,
+        rest,
     }
 }

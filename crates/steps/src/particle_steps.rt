@@ -1,160 +1,160 @@
 // Up and descend: the steps that act on an output.
 ghost use mathlib.Core.Path.{_≡_};
 ghost use mathlib.Core.Bool.{true, false};
-ghost use Prim.Native.Nat.{_<_, _≤_};
+ghost use Prim.Native.Nat.{_<_};
 ghost use lib.Dec.{eqb};
+ghost use lib.ListN.{getD};
 ghost use Rattle.model.specs.Basics.{_&_};
 ghost use Rattle.model.specs.Load.{Setting};
 ghost use Rattle.model.specs.Wrapper.{shelves};
 ghost use Rattle.model.specs.Step.{up, upFrom, descend, settled};
-ghost use Rattle.values.specs.Env.{viewValue};
-ghost use Rattle.sides.specs.Views.{viewCore};
-ghost use Rattle.steps.specs.Asked.{OfferIs, UpAt, DescendAt};
+ghost use Rattle.sides.specs.Layout.{rowAt};
+ghost use Rattle.sides.specs.Sides.{coreOf};
+ghost use Rattle.steps.specs.Asked.{OfferIs};
+ghost use Rattle.steps.specs.Asked.{channelIn, valueIn, UpAt, DescendAt};
 ghost use Rattle.steps.specs.StepIs.{Sane, StepIs};
 use crate::Offer;
+use crate::RestStep;
 use crate::Said;
-use crate::SideStep;
 use sides::Message;
-use sides::Particle;
+use sides::Rest;
+use sides::Row;
 use sides::Side;
 use sides::Status;
 use sides::Tag;
+use sides::box_name;
+use sides::box_parent;
 use sides::is_to_child;
 use sides::is_to_parent;
-use values::Value;
+use sides::move_output;
+use sides::put_shelf;
+use sides::remove_row;
+use sides::tag_at;
+use sides::value_at;
+use sides::word_at;
 
 // Whether particle i is an output with tag parent.
-fn up_offer(o: Side, i: usize) -> Offer
-    requires { ⌜ Sane o ⌝ }
-    ensures { λ r. ⌜ ((c : Setting) → OfferIs (settled (up c (viewCore o) i)) i (UpAt o) r) ⌝ }
+fn up_offer(rows: &[u32], o: Rest, i: usize) -> Offer
+    requires { ⌜ Sane (now rows) o ⌝ }
+    ensures { λ r. ⌜ ((c : Setting) → OfferIs (settled (up c (coreOf (now (rows .entry)) o) i)) i (UpAt (now (rows .entry)) o) r) ⌝ }
 {
-    let ps = o.particles;
-    if ps.len <= i {
+    if o.particles <= i {
         return Offer::Refused(10);
     }
-    let p = ps.rows[i];
-    let g = p.tag;
-    if !p.is_output {
+    if word_at(rows, i, Row::OUTPUT) != 1 {
         return Offer::Refused(13);
     }
+    let g = tag_at(rows, i);
     if !is_to_parent(g) {
         return Offer::Refused(13);
     }
     Offer::At(i)
 }
 
-// Output i goes out of box 0 on `mid` to the shelf, with its value v.
-fn to_shelf(o: Side, i: usize, v: Value) -> SideStep
-    requires { ⌜ (Sane o) × (i < o .particles .len) × (v .len ≤ 16) ⌝ }
-    ensures { λ r. ⌜ ((c : Setting) → shelves (c .wrapper) (c .side) ≡ true → StepIs (settled (upFrom c (viewCore o) i 0 2 (viewValue v))) o r) ⌝ }
+// Output i goes out of box 0, where it is on `mid`, to the shelf.
+fn to_shelf(rows: &mut [u32], o: Rest, i: usize) -> RestStep
+    requires { ⌜ (Sane (now rows) o) × (i < o .particles) × (getD (rowAt (now rows) i) 0 0 ≡ 1) ⌝ }
+    ensures { λ r. ⌜ ((c : Setting) → shelves (c .wrapper) (c .side) ≡ true → StepIs (settled (upFrom c (coreOf (now (rows .entry)) o) i 0 2 (valueIn (now (rows .entry)) i))) (now (rows .entry)) o (now (rows .exit)) r) ⌝ }
 {
-    let h = o.shelf;
-    if !Side::shelf_within(h.len + 1) {
-        return SideStep::plain(Said::Refused(17), o);
+    let h = o.shelved;
+    if !Side::shelf_within(h + 1) {
+        return RestStep::plain(Said::Refused(17), o);
     }
-    let ps = o.particles;
-    SideStep::plain(
-        Said::Silent,
-        o.with_particles(ps.without(i)).with_shelf(h.with(v)),
-    )
+    put_shelf(rows, h, value_at(rows, i, 0));
+    let n = remove_row(rows, i, o.particles);
+    RestStep::plain(Said::Silent, o.with_particles(n).with_shelved(h + 1))
 }
 
-// Output i goes out of box 0 on channel ch to the lobby, with its value v.
-fn to_lobby(o: Side, i: usize, ch: u32, v: Value) -> SideStep
-    requires { ⌜ (Sane o) × (i < o .particles .len) × (v .len ≤ 16) ⌝ }
-    ensures { λ r. ⌜ ((c : Setting) → shelves (c .wrapper) (c .side) & eqb ch 2 ≡ false → StepIs (settled (upFrom c (viewCore o) i 0 ch (viewValue v))) o r) ⌝ }
+// Output i goes out of box 0 to the lobby.
+fn to_lobby(rows: &mut [u32], o: Rest, i: usize) -> RestStep
+    requires { ⌜ (Sane (now rows) o) × (i < o .particles) × (getD (rowAt (now rows) i) 0 0 ≡ 1) ⌝ }
+    ensures { λ r. ⌜ ((c : Setting) → shelves (c .wrapper) (c .side) & eqb (channelIn (now (rows .entry)) i) 2 ≡ false → StepIs (settled (upFrom c (coreOf (now (rows .entry)) o) i 0 (channelIn (now (rows .entry)) i) (valueIn (now (rows .entry)) i))) (now (rows .entry)) o (now (rows .exit)) r) ⌝ }
 {
     let l = o.lobby;
     if !Side::lobby_within(l.len + 1) {
-        return SideStep::plain(Said::Refused(17), o);
+        return RestStep::plain(Said::Refused(17), o);
     }
-    let ps = o.particles;
-    let m = Message::new(Status::Arrived, ch, v);
-    SideStep::plain(
-        Said::Silent,
-        o.with_particles(ps.without(i)).with_lobby(l.with(m)),
-    )
+    let ch = word_at(rows, i, Row::CHANNEL);
+    let m = Message::new(Status::Arrived, ch, value_at(rows, i, 0));
+    let n = remove_row(rows, i, o.particles);
+    RestStep::plain(Said::Silent, o.with_particles(n).with_lobby(l.with(m)))
 }
 
 // Output i goes out of box b, another than box 0, to that box's parent.
-fn to_box(o: Side, i: usize, b: usize, ch: u32, v: Value) -> SideStep
-    requires { ⌜ (Sane o) × (i < o .particles .len) × (v .len ≤ 16) × (0 < b) × (b < o .boxes .len) ⌝ }
-    ensures { λ r. ⌜ ((c : Setting) → StepIs (settled (upFrom c (viewCore o) i b ch (viewValue v))) o r) ⌝ }
+fn to_box(rows: &mut [u32], o: Rest, i: usize, b: usize) -> RestStep
+    requires { ⌜ (Sane (now rows) o) × (i < o .particles) × (getD (rowAt (now rows) i) 0 0 ≡ 1) × (0 < b) × (b < o .boxes) ⌝ }
+    ensures { λ r. ⌜ ((c : Setting) → StepIs (settled (upFrom c (coreOf (now (rows .entry)) o) i b (channelIn (now (rows .entry)) i) (valueIn (now (rows .entry)) i))) (now (rows .entry)) o (now (rows .exit)) r) ⌝ }
 {
-    let bs = o.boxes;
-    let ps = o.particles;
-    let x = bs.rows[b];
-    let p = Particle::output(x.parent, ch, Tag::FromChild(x.name), v);
-    SideStep::plain(Said::Silent, o.with_particles(ps.replaced(i, p)))
+    let n = box_name(rows, b);
+    move_output(rows, i, box_parent(rows, b), Tag::FromChild(n));
+    RestStep::plain(Said::Silent, o)
 }
 
 // Up: output i with tag parent. `shelving` says whether what goes up on `mid` goes to the shelf.
-pub fn up(shelving: bool, o: Side, i: usize) -> SideStep
-    requires { ⌜ Sane o ⌝ }
-    ensures { λ r. ⌜ ((c : Setting) → shelves (c .wrapper) (c .side) ≡ shelving → StepIs (settled (up c (viewCore o) i)) o r) ⌝ }
+pub fn up(shelving: bool, rows: &mut [u32], o: Rest, i: usize) -> RestStep
+    requires { ⌜ Sane (now rows) o ⌝ }
+    ensures { λ r. ⌜ ((c : Setting) → shelves (c .wrapper) (c .side) ≡ shelving → StepIs (settled (up c (coreOf (now (rows .entry)) o) i)) (now (rows .entry)) o (now (rows .exit)) r) ⌝ }
 {
-    let a = up_offer(o, i);
+    let a = up_offer(rows, o, i);
     let Offer::At(k) = a else {
-        return SideStep::plain(Said::Refused(a.number()), o);
+        return RestStep::plain(Said::Refused(a.number()), o);
     };
-    let ps = o.particles;
-    let p = ps.rows[k];
-    let v = p.value;
-    if 0 < p.at {
-        return to_box(o, k, p.at, p.channel, v);
+    let b = wide(word_at(rows, k, Row::BOX));
+    if 0 < b {
+        return to_box(rows, o, k, b);
     }
     if shelving {
-        if p.channel == 2 {
-            return to_shelf(o, k, v);
+        if word_at(rows, k, Row::CHANNEL) == 2 {
+            return to_shelf(rows, o, k);
         }
-        return to_lobby(o, k, p.channel, v);
+        return to_lobby(rows, o, k);
     }
-    to_lobby(o, k, p.channel, v)
+    to_lobby(rows, o, k)
+}
+
+// A word as a box.
+fn wide(x: u32) -> usize
+    ensures { λ r. ⌜ r ≡ x ⌝ }
+{
+    x as usize
 }
 
 // Whether particle i is an output whose tag names box j, a child of its box.
-fn descend_offer(o: Side, i: usize, j: usize) -> Offer
-    requires { ⌜ Sane o ⌝ }
-    ensures { λ r. ⌜ OfferIs (settled (descend (viewCore o) i j)) i (DescendAt o j) r ⌝ }
+fn descend_offer(rows: &[u32], o: Rest, i: usize, j: usize) -> Offer
+    requires { ⌜ Sane (now rows) o ⌝ }
+    ensures { λ r. ⌜ OfferIs (settled (descend (coreOf (now (rows .entry)) o) i j)) i (DescendAt (now (rows .entry)) o j) r ⌝ }
 {
-    let ps = o.particles;
-    let bs = o.boxes;
-    if ps.len <= i {
+    if o.particles <= i {
         return Offer::Refused(10);
     }
-    if bs.len <= j {
+    if o.boxes <= j {
         return Offer::Refused(10);
     }
-    let p = ps.rows[i];
-    let g = p.tag;
-    let x = bs.rows[j];
-    if !p.is_output {
+    if word_at(rows, i, Row::OUTPUT) != 1 {
         return Offer::Refused(13);
     }
     if j == 0 {
         return Offer::Refused(13);
     }
-    if x.parent != p.at {
+    if box_parent(rows, j) != wide(word_at(rows, i, Row::BOX)) {
         return Offer::Refused(13);
     }
-    if !is_to_child(g, x.name) {
+    let g = tag_at(rows, i);
+    if !is_to_child(g, box_name(rows, j)) {
         return Offer::Refused(13);
     }
     Offer::At(i)
 }
 
 // Descend: output i moves into box j, received from the parent.
-pub fn descend(o: Side, i: usize, j: usize) -> SideStep
-    requires { ⌜ Sane o ⌝ }
-    ensures { λ r. ⌜ StepIs (settled (descend (viewCore o) i j)) o r ⌝ }
+pub fn descend(rows: &mut [u32], o: Rest, i: usize, j: usize) -> RestStep
+    requires { ⌜ Sane (now rows) o ⌝ }
+    ensures { λ r. ⌜ StepIs (settled (descend (coreOf (now (rows .entry)) o) i j)) (now (rows .entry)) o (now (rows .exit)) r ⌝ }
 {
-    let a = descend_offer(o, i, j);
+    let a = descend_offer(rows, o, i, j);
     let Offer::At(k) = a else {
-        return SideStep::plain(Said::Refused(a.number()), o);
+        return RestStep::plain(Said::Refused(a.number()), o);
     };
-    let ps = o.particles;
-    let p = ps.rows[k];
-    let v = p.value;
-    let q = Particle::output(j, p.channel, Tag::FromParent, v);
-    SideStep::plain(Said::Silent, o.with_particles(ps.replaced(k, q)))
+    move_output(rows, k, j, Tag::FromParent);
+    RestStep::plain(Said::Silent, o)
 }

@@ -26,10 +26,10 @@ use Rattle.reading.specs.Lists.{Lists, Filled, Holds, ReadAs, ReadIs}
 use Rattle.reading.specs.declared.Places.{Places}
 use Rattle.reading.specs.declared.Reading.{Reading}
 use Rattle.reading.specs.declared.Reading.the-variants as answer
-use Rattle.row_running.specs.declared.Ran.{Ran}
-use Rattle.row_running.specs.declared.Ran.the-variants as ran
+use Rattle.running.specs.declared.Ran.{Ran}
+use Rattle.running.specs.declared.Ran.the-variants as ran
 use Rattle.wrappers.specs.Compositions.{tablesOf, composition}
-use Rattle.row_running.specs.Running.{RunIs}
+use Rattle.running.specs.Running.{RunIs}
 use Rattle.text.specs.Text.{Given, OnPage, writtenOf, bufferAfter, TextIs}
 use Rattle.text.specs.declared.Written.the-variants.{Bytes, TooShort}
 

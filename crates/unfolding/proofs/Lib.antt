@@ -1,10 +1,5 @@
-pub mod PlanLaws
 pub mod LongLaws
 pub mod Standing
-pub mod Sizes
-pub mod LongWalk
-pub mod PlanStructs
-pub mod PlanWalk
-pub mod Settling
-pub mod SettleLoops
-pub mod Unfolds
+pub mod Adding
+pub mod Walking
+pub mod ShortAfter

@@ -1,5 +1,2 @@
 pub mod Scoped
-pub mod Long
-pub mod Plan
-pub mod Views
-pub mod Settling
+pub mod Unfolded

@@ -1,5 +1,6 @@
-pub mod RowLaws
+pub mod TestLaws
 pub mod HeldLaws
 pub mod ListLaws
 pub mod ParticleLaws
-pub mod WholeLaws
+pub mod SideLaws
+pub mod StateLaws

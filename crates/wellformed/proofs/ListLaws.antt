@@ -1,74 +1,49 @@
--- Laws of boxes, marks and messages: one for each way that the code goes.
+-- Laws of boxes, messages, shelves and marks: one for each way that the code goes.
 use mathlib.Core.Path.{_≡_, refl, ap, _∙_}
-use mathlib.Core.Bool.{Bool, true, false, not, cond}
+use mathlib.Core.Bool.{Bool, true, false, not}
 use mathlib.Core.List.{List, [], _∷_}
 use Prim.Native.Nat.{ℕ, suc, _+_, _/_, _%_, _<_, _≤_}
+use native.Mathlib.Numerals.{add-one}
 use native.Mathlib.Omega.{arith}
-use borrow.Author.Tests.{lt-ltb, le-ltb, ne-eqb, ltb-true, ltb-false}
+use borrow.Author.Tests.{lt-ltb, le-ltb, ne-eqb}
 use lib.Dec.{ltb, eqb}
 use lib.ListN.{length}
-use Rattle.model.specs.Basics.{_&_, _or_, implies}
+use Rattle.model.specs.Basics.{_&_, _or_, every}
 use Rattle.model.specs.Side.{Box, Status, down, arrived, leaving}
-use Rattle.model.specs.WellFormed.{Counts, countOf, held, wfValue, wfBoxes, wfMessage, wfLeft}
+use Rattle.model.specs.WellFormed.{Counts, countOf, held, wfValue, wfBoxes, wfMessage, wfLeft, wfTaken}
 use Rattle.sides.specs.Views.{viewStatus}
 use Rattle.sides.specs.declared.Status as dec
 use Rattle.sides.specs.declared.Status.the-variants.{Down, Arrived, Leaving}
-use Rattle.wellformed.specs.Clauses.{boxAt, markAt, channelFits}
-use Rattle.wellformed.proofs.RowLaws.{everyFrom}
+use Rattle.wellformed.specs.Clauses.{everyFrom, boxAt, leftAt, takenAt, channelFits, shelfAllowed}
 
+-- BOXES
 module _ (k : Counts) where
   pub boxes-from : (i : ℕ) (l : List Box) → everyFrom (boxAt k) i l ≡ wfBoxes k i l
   unfolding everyFrom boxAt wfBoxes
   boxes-from i [] = refl
   boxes-from i (x ∷ l) = ap (λ (b : Bool). boxAt k i x & b) (boxes-from (i + 1) l)
 
-  -- the side of a place among the marks
-  side-at : (i : ℕ) → i < 512 → cond (ltb i 256) (countOf k 1) (countOf k 2) ≡ countOf k (suc (i / 256))
-  side-at i h = go (ltb i 256) refl
-    where
-      go : (t : Bool) → ltb i 256 ≡ t → cond t (countOf k 1) (countOf k 2) ≡ countOf k (suc (i / 256))
-      go true e = let l = ltb-true i 256 e in let z : 0 ≡ i / 256 = omega arith in ap (λ (n : ℕ). countOf k (suc n)) z
-      go false e = let l = ltb-false i 256 e in let z : 1 ≡ i / 256 = omega arith in ap (λ (n : ℕ). countOf k (suc n)) z
-
-  pub left-from : (i : ℕ) (l : List Bool) → i + length l ≤ 512 → everyFrom (markAt k) i l ≡ wfLeft k i l
-  unfolding everyFrom markAt wfLeft
-  left-from i [] h = refl
-  left-from i (x ∷ l) h =
-      ap (λ (b : Bool). markAt k i x & b) (left-from (i + 1) l (omega (arith, h))) ∙
-      ap (λ (c : ℕ). implies x (ltb (i % 256) c) & wfLeft k (i + 1) l) (side-at i (omega (arith, h)))
-
   module _ (i : ℕ) (x : Box) where
     pub box-zero : i ≡ 0 → true ≡ boxAt k i x
     unfolding boxAt _or_
     box-zero e = rw e
 
-    pub box-later : (r : Bool) → ((i ≡ 0) → ⊥) → x .parent < i → r ≡ held k (x .name) → r ≡ boxAt k i x
-    unfolding boxAt _or_ _&_
-    box-later r n h p = rw (ne-eqb i 0 n, lt-ltb (x .parent) i h) p
+    module _ (n : i ≡ 0 → ⊥) where
+      pub box-later : (r : Bool) → x .parent < i → r ≡ held k (x .name) → r ≡ boxAt k i x
+      unfolding boxAt _or_ _&_
+      box-later r h p = rw (ne-eqb i 0 n, lt-ltb (x .parent) i h) p
 
-    pub box-orphan : ((i ≡ 0) → ⊥) → i ≤ x .parent → false ≡ boxAt k i x
-    unfolding boxAt _or_ _&_
-    box-orphan n h = rw (ne-eqb i 0 n, le-ltb (x .parent) i h)
+      pub box-orphan : i ≤ x .parent → false ≡ boxAt k i x
+      unfolding boxAt _or_ _&_
+      box-orphan h = rw (ne-eqb i 0 n, le-ltb (x .parent) i h)
 
-  module _ (i : ℕ) (x : Bool) where
-    pub mark-one : x ≡ true → i < 256 → ltb (i % 256) (countOf k 1) ≡ markAt k i x
-    unfolding markAt
-    mark-one e h = rw (e, lt-ltb i 256 h)
-
-    pub mark-two : x ≡ true → 256 ≤ i → ltb (i % 256) (countOf k 2) ≡ markAt k i x
-    unfolding markAt
-    mark-two e h = rw (e, le-ltb i 256 h)
-
-    pub mark-none : x ≡ false → true ≡ markAt k i x
-    unfolding markAt
-    mark-none e = rw e
-
+-- MESSAGES
 module _ (shelved : Bool) (s : dec.Status) (c : ℕ) where
   pub down-in : s ≡ Down → c ≡ 0 → eqb c 0 ≡ channelFits shelved (viewStatus s) c
   unfolding channelFits _or_
   down-in e h = rw (e, h)
 
-  pub down-mid : s ≡ Down → ((c ≡ 0) → ⊥) → eqb c 2 ≡ channelFits shelved (viewStatus s) c
+  pub down-mid : s ≡ Down → (c ≡ 0 → ⊥) → eqb c 2 ≡ channelFits shelved (viewStatus s) c
   unfolding channelFits _or_
   down-mid e h = rw (e, ne-eqb c 0 h)
 
@@ -90,3 +65,62 @@ unfolding wfMessage channelFits
 message-is shelved k down c v = refl
 message-is shelved k arrived c v = refl
 message-is shelved k leaving c v = refl
+
+-- A SHELF where there is one, and where there is none
+module _ (k : Counts) (vs : List (List ℕ)) where
+  pub shelf-held : (b r : Bool) → b ≡ true → r ≡ every (wfValue k) vs → r ≡ shelfAllowed b k vs
+  unfolding shelfAllowed _&_ _or_
+  shelf-held b r e p = rw e (p ∙ go (every (wfValue k) vs) (eqb (length vs) 0))
+    where
+      go : (a z : Bool) → a ≡ a & (z or true)
+      go true true = refl
+      go true false = refl
+      go false z = refl
+
+  pub shelf-empty : (b : Bool) → b ≡ false → eqb (length vs) 0 ≡ shelfAllowed b k vs
+  unfolding shelfAllowed _&_ _or_
+  shelf-empty b e = rw e (none vs)
+    where
+      go : (a : Bool) → false ≡ a & (false or false)
+      go true = refl
+      go false = refl
+
+      none : (l : List (List ℕ)) → eqb (length l) 0 ≡ every (wfValue k) l & (eqb (length l) 0 or false)
+      none [] = refl
+      none (v ∷ l) = let z : eqb (length (v ∷ l)) 0 ≡ false = ne-eqb (length (v ∷ l)) 0 (λ q. omega arith) in rw z (go (every (wfValue k) (v ∷ l)))
+
+-- MARKS of names that have left
+module _ (k : Counts) where
+  pub left-from : (i : ℕ) (l : List Bool) → everyFrom (leftAt k) i l ≡ wfLeft k i l
+  unfolding everyFrom leftAt wfLeft
+  left-from i [] = refl
+  left-from i (x ∷ l) = ap (λ (b : Bool). leftAt k i x & b) (left-from (i + 1) l)
+
+  module _ (i : ℕ) (x : Bool) where
+    pub left-marked : (r : Bool) → x ≡ true → r ≡ ltb (i % 256) (countOf k (i / 256 + 1)) → r ≡ leftAt k i x
+    unfolding leftAt
+    left-marked r e p = rw e (p ∙ ap (λ (j : ℕ). ltb (i % 256) (countOf k j)) (add-one (i / 256)))
+
+    pub left-none : x ≡ false → true ≡ leftAt k i x
+    unfolding leftAt
+    left-none e = rw e
+
+-- MARKS of shelf places that are taken, by how many values each side has on its shelf
+module _ (t : Bool) (h : Counts) where
+  pub taken-from : (sh : ℕ → List (List ℕ)) → ((n : ℕ) → length (sh n) ≡ countOf h n) → (i : ℕ) (l : List Bool) → everyFrom (takenAt t h) i l ≡ wfTaken t sh i l
+  unfolding everyFrom takenAt wfTaken
+  taken-from sh e i [] = refl
+  taken-from sh e i (x ∷ l) = rw (e (suc (i / 32))) (ap (λ (b : Bool). takenAt t h i x & b) (taken-from sh e (i + 1) l))
+
+  module _ (i : ℕ) (x : Bool) where
+    pub taken-marked : (r : Bool) → x ≡ true → t ≡ true → r ≡ ltb (i % 32) (countOf h (i / 32 + 1)) → r ≡ takenAt t h i x
+    unfolding takenAt _&_
+    taken-marked r e q p = rw (e, q) (p ∙ ap (λ (j : ℕ). ltb (i % 32) (countOf h j)) (add-one (i / 32)))
+
+    pub taken-other : x ≡ true → t ≡ false → false ≡ takenAt t h i x
+    unfolding takenAt _&_
+    taken-other e q = rw (e, q)
+
+    pub taken-none : x ≡ false → true ≡ takenAt t h i x
+    unfolding takenAt
+    taken-none e = rw e

@@ -1,53 +1,26 @@
--- Laws of outputs and waiting inputs.
+-- Laws of outputs and waiting inputs, by their rows.
 use mathlib.Core.Path.{_≡_, refl, sym, ap, _∙_}
-use mathlib.Core.Bool.{Bool, true, false, cond}
-use mathlib.Core.List.{List, [], _∷_, _++_, map, map-append}
-use Prim.Native.Nat.{ℕ, _+_, _-_, _<_, _≤_}
-use native.Mathlib.Numerals.{add-one}
+use mathlib.Core.Logic.{_≢_}
+use mathlib.Core.Bool.{Bool, true, false}
+use mathlib.Core.List.{List, []}
+use Prim.Native.Nat.{ℕ, _-_, _<_, _≤_}
 use native.Mathlib.Omega.{arith}
-use borrow.Author.Tests.{lt-ltb, le-ltb, le-leb, lt-leb, eq-eqb, ne-eqb}
-use lib.Dec.{leb, ltb}
-use lib.ListN.{length, take, drop, getD, length-take, length-drop, length-map}
-use lib.Seq.{take-suc, take-all}
+use borrow.Author.Tests.{lt-ltb, le-ltb, le-leb, lt-leb, eq-eqb, ne-eqb, eqb-true, eqb-false}
+use lib.Dec.{leb, ltb, eqb}
+use lib.ListN.{length, drop, getD, length-drop}
 use Rattle.model.specs.Basics.{_&_, every}
-use Rattle.model.specs.Values.{Env, extend}
-use Rattle.model.specs.Table.{Table, term, scope, kind, count}
-use Rattle.model.specs.Side.{Tag, output, input}
-use Rattle.model.specs.Unfolding.{defined}
+use Rattle.model.specs.Table.{Table, scope, kind, count}
 use Rattle.model.specs.WellFormed.{Counts, wfValue, wfParticle}
-use Rattle.values.specs.declared.Value.{Value}
-use Rattle.values.specs.Env.{viewValue, firstEight}
-use Rattle.values.proofs.Lists.{push-fits}
 use Rattle.tables.specs.Checks.{Passes}
 use Rattle.scopes.specs.Names.{lastEight}
-use Rattle.scopes.proofs.NameLaws.{last-few}
-use Rattle.scopes.proofs.ScopeBound.{no-fault, scope-few}
-use Rattle.sides.specs.Views.{viewTag, viewParticle}
-use Rattle.sides.specs.declared.Particle.{Particle}
-use Rattle.sides.proofs.Lists.{stops, goes-on}
-use Rattle.wellformed.specs.Clauses.{outputHeld, valuesFit, inputWaits}
-use Rattle.wellformed.proofs.RowLaws.{swap}
-
--- names and values up to place i
-abbrev pub envTo : List ℕ → List Value → ℕ → Env
-envTo ns vs i = record { names = take i ns; vals = map viewValue (take i vs) }
-
-pub env-more : (ns : List ℕ) (vs : List Value) (i w : ℕ) (d : Value) (x r : Env) → i < length ns → i < length vs → i < 8 → w ≡ getD ns i 0 → x ≡ envTo ns vs i →
-    r ≡ firstEight (extend x (w ∷ []) (viewValue (getD vs i d) ∷ [])) → r ≡ envTo ns vs (i + 1)
-env-more ns vs i w d x r h m l e p q =
-    let a : take (i + 1) ns ≡ take 8 (take i ns ++ (w ∷ [])) =
-    rw (add-one, take-suc ns i 0, e) (push-fits 8 (take i ns) (getD ns i 0) (omega (arith, length-take i ns))) in
-    let b : map viewValue (take (i + 1) vs) ≡ take 8 (map viewValue (take i vs) ++ (viewValue (getD vs i d) ∷ [])) =
-    rw (add-one, take-suc vs i d, map-append) (push-fits 8 (map viewValue (take i vs)) (viewValue (getD vs i d)) (omega (arith, length-take i vs, length-map (take i vs) viewValue))) in
-    q ∙ rw (p, a, b)
-
-pub env-all : (ns : List ℕ) (vs : List Value) (i n : ℕ) (r : Env) → i ≡ n → n ≡ length ns → r ≡ envTo ns vs i → r ≡ record { names = ns; vals = map viewValue (take n vs) }
-env-all ns vs i n r e f p =
-    let s : take i ns ≡ ns = take-all i ns (omega arith) in
-    p ∙ rw (s, e)
-
-pub env-cut : (ns : List ℕ) (a b : List Value) (x : Env) → a ≡ b → x ≡ record { names = ns; vals = map viewValue a } → x ≡ record { names = ns; vals = map viewValue b }
-env-cut ns a b x e p = p ∙ rw e
+use Rattle.scopes.proofs.ScopeBound.{scope-whole}
+use Rattle.sides.proofs.Lists.{stops, goes-on, view-length}
+use Rattle.sides.specs.Layout.{rowAt, placesOf, viewPlace, fitsPlace, viewRow, fitsRow}
+use Rattle.sides.proofs.Reading.{places-count, first-place, first-fits}
+use Rattle.sides.proofs.Viewing.{output-view, input-view, held-count}
+use Rattle.environments.specs.Inputs.{nodeOf, valuesOf, Waits}
+use Rattle.wellformed.specs.Clauses.{RowFits, outputHeld, inputDefined, valuesFit, inputWaits}
+use Rattle.wellformed.proofs.TestLaws.{swap}
 
 -- how many names there are
 pub names-some : (l : List ℕ) (n : ℕ) → length l ≡ 8 → n < 8 → 8 - n ≡ length (drop n l)
@@ -56,59 +29,94 @@ names-some l n full h = omega (arith, length-drop n l)
 pub names-none : (l : List ℕ) (n : ℕ) → length l ≡ 8 → 8 ≤ n → 0 ≡ length (drop n l)
 names-none l n full h = omega (arith, length-drop n l)
 
-module _ (t : Table) (n : ℕ) (vs : List (List ℕ)) (ns : List ℕ) (few : ns ≡ lastEight (scope t n)) (p : Passes t) (h : n < count t) where
-  -- at most eight names are in force, so that those found are all
-  all-names : ns ≡ scope t n
-  all-names = let f = no-fault t p in few ∙ last-few (scope t n) (scope-few t (f .0) (f .1) n h)
+-- an output's value is in its first place
+pub output-fits : (r : List ℕ) → fitsRow r ≡ true → getD r 0 0 ≡ 1 → fitsPlace (getD (placesOf r) 0 []) ≡ true
+output-fits r f e = ap fitsPlace (first-place r) ∙ first-fits r f e
 
-  pub fit-names : (x : Env) (r : Bool) → length vs ≡ length ns → x ≡ record { names = ns; vals = vs } → r ≡ defined (term t n) x → r ≡ valuesFit t n vs
-  unfolding valuesFit
-  fit-names x r e q g =
-      goes-on _ _ _ (eq-eqb (length vs) (length (scope t n)) (e ∙ ap length all-names))
-      (g ∙ ap (defined (term t n)) (q ∙ ap (λ (l : List ℕ). record { names = l; vals = vs }) all-names))
+-- A WAITING INPUT AT A NODE: as many values as names in force
+module _ (r : List ℕ) (m : getD r 0 0 ≢ 1) (f : fitsRow r ≡ true) where
+  pub value-few : getD r 6 0 ≤ length (placesOf r)
+  value-few = rw (places-count r) (held-count r m f)
 
-  pub fit-not : ((length vs ≡ length ns) → ⊥) → false ≡ valuesFit t n vs
-  unfolding valuesFit
-  fit-not e = stops _ _ (ne-eqb (length vs) (length (scope t n)) (λ q. e (q ∙ sym (ap length all-names))))
+  value-count : length (valuesOf r) ≡ getD r 6 0
+  value-count = view-length viewPlace (placesOf r) (getD r 6 0) value-few
 
-module _ (t : Table) (k : Counts) (n : ℕ) (vs : List (List ℕ)) where
-  pub input-past : count t ≤ n → false ≡ inputWaits t k n vs
+  module _ (t : Table) (p : Passes t) (h : nodeOf r < count t) where
+    -- n values, and c names that the search finds at node k
+    module _ (n c k : ℕ) (v : List ℕ) (a : n ≡ getD r 6 0) (b : k ≡ nodeOf r) (d : v ≡ lastEight (scope t k)) (e : c ≡ length v) where
+      found : c ≡ length (scope t (nodeOf r))
+      found = e ∙ ap length (d ∙ ap (λ (i : ℕ). lastEight (scope t i)) b ∙ scope-whole t p (nodeOf r) h)
+
+      pub value-each : n ≡ c → length (valuesOf r) ≡ length (scope t (nodeOf r))
+      value-each q = value-count ∙ sym a ∙ q ∙ found
+
+      pub value-lacks : (n ≡ c → ⊥) → false ≡ valuesFit t r
+      unfolding valuesFit
+      value-lacks q = stops _ _ (ne-eqb (length (valuesOf r)) (length (scope t (nodeOf r))) (λ z. q (a ∙ sym value-count ∙ z ∙ sym found)))
+
+      pub value-fits : n ≡ c → (x : Bool) → x ≡ inputDefined t r → x ≡ valuesFit t r
+      unfolding valuesFit
+      value-fits q x g = goes-on _ _ _ (eq-eqb (length (valuesOf r)) (length (scope t (nodeOf r))) (value-each q)) g
+
+pub waits : (t : Table) (words : List ℕ) (i : ℕ) → Passes t → RowFits words i → getD (rowAt words i) 0 0 ≢ 1 → nodeOf (rowAt words i) < count t →
+    length (valuesOf (rowAt words i)) ≡ length (scope t (nodeOf (rowAt words i))) → Waits t words i
+waits t words i p f m h e = record { passes = p; long = f .long; row = f .row; input = m; fits = f .fits; inside = h; each = e }
+
+-- AN INPUT, test by test: n is its node
+module _ (t : Table) (k : Counts) (r : List ℕ) (n : ℕ) (e : n ≡ nodeOf r) where
+  pub input-past : count t ≤ n → false ≡ inputWaits t k r
   unfolding inputWaits
-  input-past h = stops _ _ (le-ltb n (count t) h)
+  input-past h = stops _ _ (le-ltb (nodeOf r) (count t) (rw e at h))
 
   module _ (h : n < count t) where
-    pub input-other : kind t n < 5 → false ≡ inputWaits t k n vs
+    inside : ltb (nodeOf r) (count t) ≡ true
+    inside = lt-ltb (nodeOf r) (count t) (rw e at h)
+
+    pub input-other : kind t n < 5 → false ≡ inputWaits t k r
     unfolding inputWaits
-    input-other l = goes-on _ _ _ (lt-ltb n (count t) h) (stops _ _ (lt-leb 5 (kind t n) l))
+    input-other l = goes-on _ _ _ inside (stops _ _ (lt-leb 5 (kind t (nodeOf r)) (rw e at l)))
 
     module _ (l : 5 ≤ kind t n) where
-      pub input-bare : every (wfValue k) vs ≡ false → false ≡ inputWaits t k n vs
-      unfolding inputWaits
-      input-bare e = goes-on _ _ _ (lt-ltb n (count t) h) (goes-on _ _ _ (le-leb 5 (kind t n) l) (stops _ _ e))
+      is-input : leb 5 (kind t (nodeOf r)) ≡ true
+      is-input = le-leb 5 (kind t (nodeOf r)) (rw e at l)
 
-      pub input-waits : (r : Bool) → every (wfValue k) vs ≡ true → r ≡ valuesFit t n vs → r ≡ inputWaits t k n vs
+      pub input-bare : every (wfValue k) (valuesOf r) ≡ false → false ≡ inputWaits t k r
       unfolding inputWaits
-      input-waits r e p = goes-on _ _ _ (lt-ltb n (count t) h) (goes-on _ _ _ (le-leb 5 (kind t n) l) (goes-on _ _ _ e p))
+      input-bare q = goes-on _ _ _ inside (goes-on _ _ _ is-input (stops _ _ q))
 
-module _ (t : Table) (k : Counts) (nb : ℕ) where
-  output-is : (b c : ℕ) (g : Tag) (v : List ℕ) → ltb b nb & outputHeld k c g v ≡ wfParticle t k nb (output b c g v)
+      pub input-waits : (x : Bool) → every (wfValue k) (valuesOf r) ≡ true → x ≡ valuesFit t r → x ≡ inputWaits t k r
+      unfolding inputWaits
+      input-waits x q z = goes-on _ _ _ inside (goes-on _ _ _ is-input (goes-on _ _ _ q z))
+
+-- A ROW: its box, then by its kind
+module _ (t : Table) (k : Counts) (nb : ℕ) (r : List ℕ) where
+  output-is : getD r 0 0 ≡ 1 → ltb (getD r 1 0) nb & outputHeld k r ≡ wfParticle t k nb (viewRow r)
   unfolding outputHeld wfParticle
-  output-is b c g v = refl
+  output-is e = ap (wfParticle t k nb) (sym (output-view r e))
 
-  input-is : (b n : ℕ) (vs : List (List ℕ)) → ltb b nb & inputWaits t k n vs ≡ wfParticle t k nb (input b n vs)
+  input-is : getD r 0 0 ≢ 1 → ltb (getD r 1 0) nb & inputWaits t k r ≡ wfParticle t k nb (viewRow r)
   unfolding inputWaits valuesFit wfParticle
-  input-is b n vs = ap (λ (x : Bool). ltb b nb & (ltb n (count t) & (leb 5 (kind t n) & x))) (swap (every (wfValue k) vs) _ _)
+  input-is m =
+      ap (λ (x : Bool). ltb (getD r 1 0) nb & (ltb (nodeOf r) (count t) & (leb 5 (kind t (nodeOf r)) & x))) (swap (every (wfValue k) (valuesOf r)) _ _) ∙
+      ap (wfParticle t k nb) (sym (input-view r m))
 
-  module _ (p : Particle) where
-    pub particle-far : nb ≤ p .at → false ≡ wfParticle t k nb (viewParticle p)
-    particle-far h = go (p .«is_output»)
+  module _ (b : ℕ) (e : b ≡ getD r 1 0) where
+    pub row-far : nb ≤ b → false ≡ wfParticle t k nb (viewRow r)
+    row-far h = go (eqb (getD r 0 0) 1) refl
       where
-        go : (b : Bool) → false ≡ wfParticle t k nb (cond b (output (p .at) (p .channel) (viewTag (p .tag)) (viewValue (p .value))) (input (p .at) (p .node) (map viewValue (take (p .n) (p .vals)))))
-        go true = stops _ _ (le-ltb (p .at) nb h) ∙ output-is _ _ _ _
-        go false = stops _ _ (le-ltb (p .at) nb h) ∙ input-is _ _ _
+        far : ltb (getD r 1 0) nb ≡ false
+        far = le-ltb (getD r 1 0) nb (rw e at h)
 
-    pub particle-output : (r : Bool) → p .at < nb → p .«is_output» ≡ true → r ≡ outputHeld k (p .channel) (viewTag (p .tag)) (viewValue (p .value)) → r ≡ wfParticle t k nb (viewParticle p)
-    particle-output r h e q = rw e (goes-on _ _ _ (lt-ltb (p .at) nb h) q ∙ output-is _ _ _ _)
+        go : (x : Bool) → eqb (getD r 0 0) 1 ≡ x → false ≡ wfParticle t k nb (viewRow r)
+        go true q = stops _ _ far ∙ output-is (eqb-true _ _ q)
+        go false q = stops _ _ far ∙ input-is (eqb-false _ _ q)
 
-    pub particle-input : (r : Bool) → p .at < nb → p .«is_output» ≡ false → r ≡ inputWaits t k (p .node) (map viewValue (take (p .n) (p .vals))) → r ≡ wfParticle t k nb (viewParticle p)
-    particle-input r h e q = rw e (goes-on _ _ _ (lt-ltb (p .at) nb h) q ∙ input-is _ _ _)
+    module _ (h : b < nb) (x : Bool) where
+      near : ltb (getD r 1 0) nb ≡ true
+      near = lt-ltb (getD r 1 0) nb (rw e at h)
+
+      pub row-output : getD r 0 0 ≡ 1 → x ≡ outputHeld k r → x ≡ wfParticle t k nb (viewRow r)
+      row-output m q = goes-on _ _ _ near q ∙ output-is m
+
+      pub row-input : getD r 0 0 ≢ 1 → x ≡ inputWaits t k r → x ≡ wfParticle t k nb (viewRow r)
+      row-input m q = goes-on _ _ _ near q ∙ input-is m

@@ -1,28 +1,38 @@
--- Single clauses of well-formedness, as the functions test them: one box, one mark, one message's channel, one particle, one side's shelf.
-use mathlib.Core.Bool.{Bool, not, cond}
-use mathlib.Core.List.{List, [], _∷_}
-use Prim.Native.Nat.{ℕ, _%_}
+-- Single clauses of well-formedness, as the functions test them: a box, a mark, a message's channel, a row, a shelf, a side.
+use mathlib.Core.Path.{_≡_}
+use mathlib.Core.Bool.{Bool, true, not, cond}
+use mathlib.Core.List.{List, [], _∷_, map}
+use Prim.Native.Nat.{ℕ, suc, _+_, _*_, _/_, _%_, _<_}
 use lib.Dec.{leb, ltb, eqb}
-use lib.ListN.{length, drop}
+use lib.ListN.{length, getD}
 use Rattle.model.specs.Basics.{_&_, _or_, implies, every}
 use Rattle.model.specs.Table.{Table, term, scope, kind, count}
-use Rattle.model.specs.Side.{Tag, Box, Status, down, arrived, leaving, Side}
+use Rattle.model.specs.Side.{Box, Status, down, arrived, leaving, Side}
 use Rattle.model.specs.Unfolding.{defined}
-use Rattle.model.specs.Wrapper.{filter, pipeline}
-use Rattle.model.specs.Load.{Setting}
-use Rattle.model.specs.WellFormed.{Counts, countOf, held, wfValue, wfTag, envAt, wfCore, wfLeft, clear, isNoSide}
+use Rattle.model.specs.Wrapper.{allSides, described, hasSide, takesAny}
+use Rattle.model.specs.Load.{Composition, wrapperOf, table, Setting}
+use Rattle.model.specs.WellFormed.{Counts, countOf, held, wfValue, wfTag, envAt, wfCore, wfLeft, isNoSide}
+use Rattle.tables.specs.Checks.{Passes}
+use Rattle.sides.specs.Layout.{rowAt, placesOf, tagIn, viewPlace, fitsRow}
+use Rattle.sides.specs.declared.State.{State}
+use Rattle.environments.specs.Inputs.{nodeOf, valuesOf}
 
--- how many names each side has minted
-abbrev pub countsOf : ℕ → ℕ → Counts
-countsOf a b = a ∷ b ∷ []
+-- every element passes, by a test of its place and itself, from place i on
+unfoldable pub everyFrom : {A : Type 0} → (ℕ → A → Bool) → ℕ → List A → Bool
+everyFrom f i [] = true
+everyFrom f i (x ∷ xs) = f i x & everyFrom f (i + 1) xs
 
 -- box i is box 0, or has an earlier box as parent and a name that is held
 unfoldable pub boxAt : Counts → ℕ → Box → Bool
 boxAt k i x = eqb i 0 or (ltb (x .parent) i & held k (x .name))
 
 -- place i of the marks of names that have left is not marked, or the name is below its side's count
-unfoldable pub markAt : Counts → ℕ → Bool → Bool
-markAt k i x = implies x (ltb (i % 256) (cond (ltb i 256) (countOf k 1) (countOf k 2)))
+unfoldable pub leftAt : Counts → ℕ → Bool → Bool
+leftAt k i x = implies x (ltb (i % 256) (countOf k (suc (i / 256))))
+
+-- place i of the taken marks is not marked, or is a taker's and filled; h has how many values each side has on its shelf
+unfoldable pub takenAt : (taker : Bool) (h : Counts) → ℕ → Bool → Bool
+takenAt t h i x = implies x (t & ltb (i % 32) (countOf h (suc (i / 32))))
 
 -- where a message of a status may stand
 unfoldable pub channelFits : Bool → Status → ℕ → Bool
@@ -30,42 +40,58 @@ channelFits shelved down c = eqb c 0 or eqb c 2
 channelFits shelved arrived c = not (shelved & eqb c 2)
 channelFits shelved leaving c = eqb c 1
 
--- an output's channel, tag and value are held
-unfoldable pub outputHeld : Counts → ℕ → Tag → List ℕ → Bool
-outputHeld k c g v = held k c & (wfTag k g & wfValue k v)
+-- row i of a side's words is within its places
+pub record RowFits (words : List ℕ) (i : ℕ) : Type 0 where
+  pub long : length words ≡ 5184
+  pub row : i < 32
+  pub fits : fitsRow (rowAt words i) ≡ true
 
--- one value for every bound name in force at node n, and no tuple where 15 forbids one
-unfoldable pub valuesFit : Table → ℕ → List (List ℕ) → Bool
-valuesFit t n vs = eqb (length vs) (length (scope t n)) & defined (term t n) (envAt t n vs)
+-- the channel, tag and value of an output's row are held
+unfoldable pub outputHeld : Counts → List ℕ → Bool
+outputHeld k r = held k (getD r 2 0) & (wfTag k (tagIn r) & wfValue k (viewPlace (getD (placesOf r) 0 [])))
 
--- an input waits at node n, with held values that fit it
-unfoldable pub inputWaits : Table → Counts → ℕ → List (List ℕ) → Bool
-inputWaits t k n vs = ltb n (count t) & (leb 5 (kind t n) & (every (wfValue k) vs & valuesFit t n vs))
+-- a waiting input's row has no tuple where 15 forbids one
+abbrev pub inputDefined : Table → List ℕ → Bool
+inputDefined t r = defined (term t (nodeOf r)) (envAt t (nodeOf r) (valuesOf r))
 
--- the values of a shelf are held, and there are none but where it is side 1's under the pipeline
+-- and one value for every bound name in force at its node
+unfoldable pub valuesFit : Table → List ℕ → Bool
+valuesFit t r = eqb (length (valuesOf r)) (length (scope t (nodeOf r))) & inputDefined t r
+
+-- it waits at an input's node, with held values that fit it
+unfoldable pub inputWaits : Table → Counts → List ℕ → Bool
+inputWaits t k r = ltb (nodeOf r) (count t) & (leb 5 (kind t (nodeOf r)) & (every (wfValue k) (valuesOf r) & valuesFit t r))
+
+-- the values of a shelf are held, and there are none but where somebody takes from it
 unfoldable pub shelfAllowed : Bool → Counts → List (List ℕ) → Bool
 shelfAllowed shelved k vs = every (wfValue k) vs & (eqb (length vs) 0 or shelved)
-
--- no place is marked as taken on side 1, and only filled places of the shelf are on side 2
-unfoldable pub takenFits : (shelf : List (List ℕ)) (one two : List Bool) → Bool
-takenFits shelf one two = clear one & clear (drop (length shelf) two)
 
 -- five numbers are 0
 unfoldable pub allZero : ℕ → ℕ → ℕ → ℕ → ℕ → Bool
 allZero a b c d e = eqb a 0 & (eqb b 0 & (eqb c 0 & (eqb d 0 & eqb e 0)))
 
--- the wrapper that a state is tested for: the pipeline, and the filter for every other number
-abbrev pub testedFor : ℕ → ℕ
-testedFor w = cond (eqb w 2) 2 1
+-- what a side is tested with, by the wrapper's number and its own
+abbrev pub settingOf : (wrapper side : ℕ) → Table → Setting
+settingOf w n t = record { wrapper = described w; side = n; table = t }
 
--- what a side is tested with, by its number and by whether the wrapper is the pipeline
-abbrev pub settingOf : ℕ → Bool → Table → Setting
-settingOf i p t = record { wrapper = cond p pipeline filter; side = i; table = t }
+-- a side, its taken marks by how many values each side has on its shelf
+unfoldable pub sideFits : Setting → (k h : Counts) → Side → Bool
+sideFits c k h s =
+    wfCore c k (s .core) &
+    ((eqb (length (s .left)) (256 * length allSides) & wfLeft k 0 (s .left)) &
+    (eqb (length (s .core .taken)) (32 * length allSides) & everyFrom (takenAt (takesAny (c .wrapper) (c .side)) h) 0 (s .core .taken)))
 
--- a side but for its taken marks
-unfoldable pub sideFits : Setting → Counts → Side → Bool
-sideFits c k s = wfCore c k (s .core) & (eqb (length (s .left)) 512 & wfLeft k 0 (s .left))
+-- a side that the wrapper has is well formed, and one that it lacks is nothing
+unfoldable pub sideStands : Setting → (k h : Counts) → Side → Bool
+sideStands c k h s = cond (hasSide (c .wrapper) (c .side)) (sideFits c k h s) (isNoSide s)
 
--- side 2 but for its taken marks is well formed under the pipeline, and nothing under the filter
-unfoldable pub sideTwo : Bool → Table → Counts → Side → Bool
-sideTwo p t k s = cond p (sideFits (settingOf 2 p t) k s) (isNoSide s)
+-- the table of each side that the wrapper has passes checks 1 to 6
+abbrev pub TablesPass : Composition → Type 0
+TablesPass b = (n : ℕ) → hasSide (wrapperOf b) n ≡ true → Passes (table b n)
+
+-- how many names each side has minted, and how many values are on its shelf
+abbrev pub mintedIn : State → Counts
+mintedIn s = map (λ o. o .rest .minted) (s .sides)
+
+abbrev pub shelvedIn : State → Counts
+shelvedIn s = map (λ o. o .rest .shelved) (s .sides)

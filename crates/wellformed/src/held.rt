@@ -1,55 +1,60 @@
-// Names, values and tags that pass 11, where minted names are below their side's count.
+// Names, values and tags that pass 11, where minted names are below their side's count. `counts` has the counts from side 1 on.
 ghost use mathlib.Core.Path.{_≡_};
+ghost use Prim.Native.Nat.{_≤_};
+ghost use lib.Dec.{ltb};
 ghost use Rattle.model.specs.Basics.{every};
-ghost use Rattle.model.specs.WellFormed.{held as heldName, heldWord, wfValue, wfTag};
+ghost use Rattle.model.specs.WellFormed.{countOf, held as heldName, heldWord, wfValue, wfTag};
 ghost use Rattle.values.specs.Env.{viewValue};
 ghost use Rattle.sides.specs.Views.{viewTag};
-ghost use Rattle.wellformed.specs.Clauses.{countsOf};
-use super::rows::capped;
+use crate::wide;
 use sides::Tag;
 use values::Value;
+use values::is_minted;
 use values::is_value;
 
-// Whether w is a name: public, or minted and below its side's count, c1 or c2.
-pub fn held(c1: usize, c2: usize, w: u32) -> bool
-    ensures { λ r. ⌜ r ≡ heldName (countsOf c1 c2) w ⌝ }
+// Whether n is below the count of a side; no side without a count has one.
+pub(crate) fn below(counts: &[usize], side: usize, n: usize) -> bool
+    ensures { λ r. ⌜ r ≡ ltb n (countOf (now (counts .entry)) side) ⌝ }
 {
-    if w <= 63 {
-        true
-    } else if w < 65536 {
-        false
-    } else if w <= 65791 {
-        wide(w - 65536) < c1
-    } else if w < 131072 {
-        false
-    } else if w <= 131327 {
-        wide(w - 131072) < c2
-    } else {
-        false
+    if side == 0 {
+        return false;
     }
+    if counts.len() < side {
+        return false;
+    }
+    n < counts[side - 1]
 }
 
-fn wide(x: u32) -> usize
-    ensures { λ r. ⌜ r ≡ x ⌝ }
+// Whether w is a name: public, or minted and below its side's count.
+pub(crate) fn held(counts: &[usize], w: u32) -> bool
+    ensures { λ r. ⌜ r ≡ heldName (now (counts .entry)) w ⌝ }
 {
-    x as usize
+    if w <= 63 {
+        return true;
+    }
+    if is_minted(w) {
+        return below(counts, wide(w / 65536), wide(w % 65536));
+    }
+    false
 }
 
 // Whether a word of a value is a tuple word or such a name.
-fn held_word(c1: usize, c2: usize, w: u32) -> bool
-    ensures { λ r. ⌜ r ≡ heldWord (countsOf c1 c2) w ⌝ }
+fn held_word(counts: &[usize], w: u32) -> bool
+    ensures { λ r. ⌜ r ≡ heldWord (now (counts .entry)) w ⌝ }
 {
-    if 4000000 <= w { true } else { held(c1, c2, w) }
+    if 4000000 <= w {
+        return true;
+    }
+    held(counts, w)
 }
 
-// Whether every word of a value is.
-fn held_words(c1: usize, c2: usize, v: Value) -> bool
-    ensures { λ r. ⌜ r ≡ every (heldWord (countsOf c1 c2)) (viewValue v) ⌝ }
+// Whether every word is.
+fn held_words(counts: &[usize], s: &[u32]) -> bool
+    ensures { λ r. ⌜ r ≡ every (heldWord (now (counts .entry))) (now (s .entry)) ⌝ }
 {
-    let n = capped(v.len, 16);
     let mut k: usize = 0;
-    while k < n {
-        if held_word(c1, c2, v.words[k]) {
+    while k < s.len() {
+        if held_word(counts, s[k]) {
             k += 1;
         } else {
             return false;
@@ -58,27 +63,35 @@ fn held_words(c1: usize, c2: usize, v: Value) -> bool
     true
 }
 
-// Whether v is a value that passes 11, its minted names below their side's count.
-pub fn held_value(c1: usize, c2: usize, v: Value) -> bool
-    ensures { λ r. ⌜ r ≡ wfValue (countsOf c1 c2) (viewValue v) ⌝ }
+// Whether the words are a value that passes 11, its minted names below their side's count.
+fn value_held(counts: &[usize], s: &[u32]) -> bool
+    ensures { λ r. ⌜ r ≡ wfValue (now (counts .entry)) (now (s .entry)) ⌝ }
 {
-    let n = capped(v.len, 16);
-    let ws = v.words;
-    if is_value(&ws[..n]) {
-        return held_words(c1, c2, v);
+    if is_value(s) {
+        return held_words(counts, s);
     }
     false
 }
 
+// The same of a value by itself.
+pub(crate) fn held_value(counts: &[usize], v: Value) -> bool
+    requires { ⌜ v .len ≤ 16 ⌝ }
+    ensures { λ r. ⌜ r ≡ wfValue (now (counts .entry)) (viewValue v) ⌝ }
+{
+    let n = v.len;
+    let ws = v.words;
+    value_held(counts, &ws[..n])
+}
+
 // Whether a tag's name is held, where it has one.
-pub fn held_tag(c1: usize, c2: usize, t: Tag) -> bool
-    ensures { λ r. ⌜ r ≡ wfTag (countsOf c1 c2) (viewTag t) ⌝ }
+pub(crate) fn held_tag(counts: &[usize], t: Tag) -> bool
+    ensures { λ r. ⌜ r ≡ wfTag (now (counts .entry)) (viewTag t) ⌝ }
 {
     match t {
         Tag::Within => true,
         Tag::ToParent => true,
         Tag::FromParent => true,
-        Tag::ToChild(n) => held(c1, c2, n),
-        Tag::FromChild(n) => held(c1, c2, n),
+        Tag::ToChild(n) => held(counts, n),
+        Tag::FromChild(n) => held(counts, n),
     }
 }

@@ -1,9 +1,22 @@
-// Whether a state is well formed for its tables: the test that every step and every question makes first.
+// Whether a state by value is well formed for its tables: the test that every step and every question makes first.
 //
-// Nothing is asked of a state. Where a count passes its array, the array test fails; the tests below it read the array up to its
-// length. Where a contract speaks of a table, it does so for one that passes checks 1 to 6.
-pub mod held; // names, values and tags that pass 11, minted names below their side's count
-pub mod lists; // boxes, lobby, shelf, marks
-pub mod particles; // outputs and waiting inputs
-mod rows; // how much of an array is read
-pub mod whole; // a side and a state
+// The array test comes first, for all sides: below it, every count is within its array. Sides go by their numbers, from 1 on.
+ghost use mathlib.Core.Path.{_≡_};
+
+mod boxes; // boxes
+mod held; // names, values and tags that pass 11, minted names below their side's count
+mod lobby; // lobby messages
+mod marks; // names that have left, shelf places taken
+mod particles; // outputs and waiting inputs
+mod shelf; // values on the shelf
+mod side; // a side
+mod whole; // a state
+
+pub use whole::well_formed;
+
+// A word as a number of places.
+pub(crate) fn wide(x: u32) -> usize
+    ensures { λ r. ⌜ r ≡ x ⌝ }
+{
+    x as usize
+}

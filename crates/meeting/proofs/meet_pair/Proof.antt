@@ -1,69 +1,136 @@
-use mathlib.Core.Path.{ap}
-use Prim.Native.Nat.{ℕ}
-use lib.Dec.{eqb}
-use Rattle.tables.specs.Nodes.{table}
-use Rattle.meeting.proofs.Meetings.{joined-at, refused-pair, pair-counts, pair-can, pair-full, pair-did}
+use mathlib.Core.Path.{_∙_}
+use borrow.Author.Tests.{not-true, not-false}
+use Rattle.meeting.proofs.Meetings.{two-rows, rows-apart, pair-counts, joined-at, replicated-is, pair-refused, pair-full, body-can, pair-did}
 use borrow.Author.Needs.{needs}
 use Rattle.meeting.proofs.meet_pair.Statement.{statement}
 use Rattle.meeting.proofs.meet_pair.Tie as tie
 
-join-requires : tie.Need-join-requires
-join-requires c κs = c .before .before .pre .joinable
-
-enum-known-a : tie.Need-enum-known-a
-enum-known-a c = search needs
-
-enum-told : tie.Need-enum-told
-enum-told c = search needs
-
-number-requires : tie.Need-number-requires
-number-requires c κs = search needs
-
-plain-requires : tie.Need-plain-requires
-plain-requires c κs = search needs
-
 returns : tie.Need-returns
-returns c = let x = c .before .before .before .before .before .before .before in let o = x .args .o in let i = x .args .i in let j = x .args .j in let t = table (x .args .nodes .now) (x .args .pool .now) in let M = x .pre in λ s sd tb. refused-pair t (x .args .side) o i j (x .args .p) (x .args .q) M (c .before .before .before .before .join .result) (c .before .before .before .before .join .ensures) _ (c .before .number .result) s _ (c .before .before .enum-told .given .1) tb (c .before .number .ensures) (c .plain .ensures)
+returns c =
+    let at-number = c .before in
+    let at-enum-told = at-number .before in
+    let at-join = at-enum-told .before .before .before in
+    let start = at-join .before .before .before .before .before .before in
+    λ s sd tb. pair-refused (start .pre) (at-join .join .ensures) (at-enum-told .enum-told .given .1) (at-number .number .ensures) (c .plain .ensures) s tb
 
-node-at-requires : tie.Need-node-at-requires
-node-at-requires c κs = search needs
-
-remaining-requires : tie.Need-remaining-requires
-remaining-requires c κs = c .before .before .before .before .before .before .before .before .before .before .before .pre .apart
+rows-left-requires : tie.Need-rows-left-requires
+rows-left-requires c κs =
+    let start = c .before .before .before .before .before .before .before .before .before .before .before .before .before .before .before in
+    two-rows (start .pre)
 
 has-room-requires : tie.Need-has-room-requires
-has-room-requires c κs = let x = c .before .before .before .before .before .before .before .before .before .before .before .before in let o = x .args .o in let i = x .args .i in let j = x .args .j in let t = table (x .args .nodes .now) (x .args .pool .now) in let M = x .pre in pair-counts o (M .sane) (M .full) (c .remaining .result) _ (c .remaining .ensures .len)
-
-with-body-requires : tie.Need-with-body-requires
-with-body-requires c κs = let x = c .before .before .before .before .before .before .before .before .before .before .before .before .before .before in let o = x .args .o in let i = x .args .i in let j = x .args .j in let t = table (x .args .nodes .now) (x .args .pool .now) in let M = x .pre in let p = x .args .p in let q = x .args .q in let J = joined-at t (x .args .side) o i j p q M (c .before .before .before .before .before .before .before .before .before .before .before .join .result) (c .before .before .before .before .before .before .before .before .before .before .before .join .ensures) _ (c .before .before .before .before .before .before .before .before .before .a .given .1) in let ag = ap (λ (k : ℕ). eqb k 6) (c .before .before .before .before .before .before .node-at .ensures .k) in pair-can t (x .args .side) o i j p q M _ _ J _ ag (c .before .before .remaining .result) (c .before .before .remaining .ensures) (c .before .has-room .result) (c .before .has-room .ensures (x .args .pool .now)) (c .if1 .taken)
-
-plain-requires-2 : tie.Need-plain-requires-2
-plain-requires-2 c κs = search needs
+has-room-requires c κs =
+    let start = c .before .before .before .before .before .before .before .before .before .before .before .before .before .before .before .before in
+    pair-counts (start .pre) (c .rows-left .result) _ (c .rows-left .ensures)
 
 returns-2 : tie.Need-returns-2
-returns-2 c = let x = c .before .before .before .before .before .before .before .before .before .before .before .before .before .before .before .before in let o = x .args .o in let i = x .args .i in let j = x .args .j in let t = table (x .args .nodes .now) (x .args .pool .now) in let M = x .pre in let p = x .args .p in let q = x .args .q in let J = joined-at t (x .args .side) o i j p q M (c .before .before .before .before .before .before .before .before .before .before .before .before .before .join .result) (c .before .before .before .before .before .before .before .before .before .before .before .before .before .join .ensures) _ (c .before .before .before .before .before .before .before .before .before .before .before .a .given .1) in let ag = ap (λ (k : ℕ). eqb k 6) (c .before .before .before .before .before .before .before .before .node-at .ensures .k) in λ s sd tb. pair-did t (x .args .side) o i j p q M _ _ J _ ag (c .before .before .before .before .remaining .result) (c .before .before .before .before .remaining .ensures) (c .before .before .before .has-room .result) (c .before .before .before .has-room .ensures (x .args .pool .now)) s sd tb _ (c .before .before .if1 .taken) (c .before .with-body .result) (c .before .with-body .ensures) (c .plain2 .ensures)
+returns-2 c =
+    let at-if1 = c .before in
+    let at-has-room = at-if1 .before in
+    let at-rows-left = at-has-room .before in
+    let at-node-at = at-rows-left .before .before in
+    let at-wide = at-node-at .before in
+    let at-word-at = at-wide .before in
+    let at-a = at-word-at .before .before .before in
+    let at-join = at-a .before .before .before in
+    let start = at-join .before .before .before .before .before .before in
+    let M = start .pre in
+    let jn = joined-at (at-join .join .ensures) (at-a .a .given .1) in
+    let node = at-wide .wide .ensures ∙ at-word-at .word-at .ensures in
+    let ag = replicated-is (start .args .nodes .now) (start .args .pool .now) node (at-node-at .node-at .ensures) in
+    let le = at-rows-left .rows-left .ensures in
+    let rm = at-has-room .has-room .ensures (start .args .pool .now) in
+    λ s sd tb. pair-full M jn ag le rm (not-true _ (at-if1 .if1 .taken)) (c .plain2 .ensures) s tb
 
-plain-requires-3 : tie.Need-plain-requires-3
-plain-requires-3 c κs = search needs
+word-at-requires-2 : tie.Need-word-at-requires-2
+word-at-requires-2 c κs =
+    let start = c .before .before .before .before .before .before .before .before .before .before .before .before .before .before .before .before .before .before .before in
+    let J = start .pre .joinable in
+    (J .waits .long, J .row, search needs)
+
+remove-pair-requires : tie.Need-remove-pair-requires
+remove-pair-requires c κs =
+    let start = c .before .before .before .before .before .before .before .before .before .before .before .before .before .before .before .before .before .before .before .before .before .before in
+    rows-apart (start .pre)
+
+unfold-at-requires : tie.Need-unfold-at-requires
+unfold-at-requires c κs =
+    let at-remove-pair = c .before .before .before .before in
+    let at-wide2 = at-remove-pair .before .before in
+    let at-word-at2 = at-wide2 .before in
+    let at-if1 = at-word-at2 .before .before in
+    let at-has-room = at-if1 .before in
+    let at-rows-left = at-has-room .before in
+    let at-node-at = at-rows-left .before .before in
+    let at-wide = at-node-at .before in
+    let at-word-at = at-wide .before in
+    let at-a = at-word-at .before .before .before in
+    let at-join = at-a .before .before .before in
+    let start = at-join .before .before .before .before .before .before in
+    let M = start .pre in
+    let jn = joined-at (at-join .join .ensures) (at-a .a .given .1) in
+    let node = at-wide .wide .ensures ∙ at-word-at .word-at .ensures in
+    let ag = replicated-is (start .args .nodes .now) (start .args .pool .now) node (at-node-at .node-at .ensures) in
+    let le = at-rows-left .rows-left .ensures in
+    let rm = at-has-room .has-room .ensures (start .args .pool .now) in
+    let y = not-false _ (at-if1 .if1 .left) in
+    let be = at-wide2 .wide2 .ensures ∙ at-word-at2 .word-at2 .ensures in
+    let gone = at-remove-pair .remove-pair .ensures in
+    body-can M jn ag le rm y gone be
 
 returns-3 : tie.Need-returns-3
-returns-3 c = let x = c .before .before .before .before .before .before .before .before .before .before .before .before .before .before .before in let o = x .args .o in let i = x .args .i in let j = x .args .j in let t = table (x .args .nodes .now) (x .args .pool .now) in let M = x .pre in let p = x .args .p in let q = x .args .q in let J = joined-at t (x .args .side) o i j p q M (c .before .before .before .before .before .before .before .before .before .before .before .before .join .result) (c .before .before .before .before .before .before .before .before .before .before .before .before .join .ensures) _ (c .before .before .before .before .before .before .before .before .before .before .a .given .1) in let ag = ap (λ (k : ℕ). eqb k 6) (c .before .before .before .before .before .before .before .node-at .ensures .k) in λ s sd tb. pair-full t (x .args .side) o i j p q M _ _ J _ ag (c .before .before .before .remaining .result) (c .before .before .before .remaining .ensures) (c .before .before .has-room .result) (c .before .before .has-room .ensures (x .args .pool .now)) s sd tb _ (c .before .if1 .left) (c .plain3 .ensures)
+returns-3 c =
+    let at-put-into = c .before in
+    let at-unfold-at = at-put-into .before .before .before .before in
+    let at-remove-pair = at-unfold-at .before .before .before .before .before in
+    let at-wide2 = at-remove-pair .before .before in
+    let at-word-at2 = at-wide2 .before in
+    let at-if1 = at-word-at2 .before .before in
+    let at-has-room = at-if1 .before in
+    let at-rows-left = at-has-room .before in
+    let at-node-at = at-rows-left .before .before in
+    let at-wide = at-node-at .before in
+    let at-word-at = at-wide .before in
+    let at-a = at-word-at .before .before .before in
+    let at-join = at-a .before .before .before in
+    let start = at-join .before .before .before .before .before .before in
+    let M = start .pre in
+    let jn = joined-at (at-join .join .ensures) (at-a .a .given .1) in
+    let node = at-wide .wide .ensures ∙ at-word-at .word-at .ensures in
+    let ag = replicated-is (start .args .nodes .now) (start .args .pool .now) node (at-node-at .node-at .ensures) in
+    let le = at-rows-left .rows-left .ensures in
+    let rm = at-has-room .has-room .ensures (start .args .pool .now) in
+    let y = not-false _ (at-if1 .if1 .left) in
+    let be = at-wide2 .wide2 .ensures ∙ at-word-at2 .word-at2 .ensures in
+    let gone = at-remove-pair .remove-pair .ensures in
+    λ s sd tb. pair-did M jn ag le rm y gone be (at-unfold-at .unfold-at .ensures) s sd tb (at-put-into .put-into .ensures) (c .plain3 .ensures)
 
 pub meet-pair-spec : {M : Type 1} → statement M
 meet-pair-spec =
     tie.close
     (tie.spec
-    join-requires
-    enum-known-a
-    enum-told
-    number-requires
-    plain-requires
+    (λ c. search needs)
+    (λ c κs. search needs)
+    (λ c. search needs)
+    (λ c. search needs)
+    (λ c κs. search needs)
+    (λ c κs. search needs)
+    (λ c. search needs)
     returns
-    node-at-requires
-    remaining-requires
+    (λ c κs. search needs)
+    (λ c κs. search needs)
+    (λ c κs. search needs)
+    rows-left-requires
     has-room-requires
-    with-body-requires
-    plain-requires-2
+    (λ c κs. search needs)
+    (λ c. search needs)
     returns-2
-    plain-requires-3
+    word-at-requires-2
+    (λ c κs. search needs)
+    remove-pair-requires
+    (λ c. search needs)
+    unfold-at-requires
+    (λ c κs. search needs)
+    (λ c κs. search needs)
+    (λ c. search needs)
     returns-3)

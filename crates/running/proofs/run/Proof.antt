@@ -1,62 +1,76 @@
 use mathlib.Core.Path.{_≡_, sym, ap, _∙_}
+use mathlib.Core.List.{map}
 use mathlib.Core.Option.{some}
+use denote.Ref.{now}
+use Rattle.model.specs.Load.{Composition, load}
 use Rattle.format.specs.Words.{stepsOf}
-use Rattle.interpreter.specs.Loading.{composition}
+use Rattle.wrappers.specs.Compositions.{composition}
+use Rattle.loading.specs.declared.Outcome.the-variants.{Ok}
+use Rattle.loading.specs.Loading.{outcomeOf}
+use Rattle.loading.proofs.Faults.{taken}
 use Rattle.running.specs.Running.{countOf, countedOf}
-use Rattle.running.proofs.RunLaws.{has-steps, has-room, run-broken, run-short, run-refused, run-done, begun}
+use Rattle.running.proofs.RunLaws.{has-steps, has-room, run-broken, run-short, run-refused, run-done}
 use borrow.Author.Needs.{needs}
 use Rattle.running.proofs.run.Statement.{statement}
 use Rattle.running.proofs.run.Tie as tie
 
-count-steps-requires : tie.Need-count-steps-requires
-count-steps-requires c κs = search needs
+-- the composition that is run
+abbrev loads : tie.Start → Composition
+loads x = composition (x .args .wrapper) (map now (x .args .nodes)) (map now (x .args .pools))
 
-enum-known-counted : tie.Need-enum-known-counted
-enum-known-counted c = search needs
+-- how many steps there are
+steps-counted : (a : tie.After-counted) → countOf (stepsOf (a .before .before .before .before .before .args .steps .now)) ≡ some (a .counted .given .0 .0)
+steps-counted a = sym (a .before .before .count-steps .ensures) ∙ ap countedOf (a .counted .given .1)
 
-enum-told : tie.Need-enum-told
-enum-told c = search needs
+-- load refuses nothing
+load-ok : (a : tie.After-enum-told2) → outcomeOf (load (loads (a .before .before .before .before .before .before .before .before .before .before))) ≡ Ok
+load-ok a = sym (a .before .before .load-verdict .ensures) ∙ a .enum-told2 .given .1
 
 returns : tie.Need-returns
-returns c = let x = c .before .before .before .before .before .before .before .before .before .args in let b = composition (x .wrapper) (x .nodes1 .now) (x .pool1 .now) (x .nodes2 .now) (x .pool2 .now) in let l = x .steps .now in let lent = x .out .now in run-broken b l lent (sym (c .before .before .count-steps .ensures) ∙ ap countedOf (c .enum-told .given .1))
+returns c =
+    let x = c .before .before .before .before .before in
+    run-broken (loads x) (x .args .steps .now) (x .args .out .now) (sym (c .before .before .count-steps .ensures) ∙ ap countedOf (c .enum-told .given .1))
 
 returns-2 : tie.Need-returns-2
-returns-2 c = let x = c .before .before .before .before .before .before .before .before .before .before .before .args in let b = composition (x .wrapper) (x .nodes1 .now) (x .pool1 .now) (x .nodes2 .now) (x .pool2 .now) in let l = x .steps .now in let lent = x .out .now in let n = c .before .before .counted .given .0 .0 in let q : countOf (stepsOf l) ≡ some n = sym (c .before .before .before .before .count-steps .ensures) ∙ ap countedOf (c .before .before .counted .given .1) in let h = has-steps (stepsOf l) n q in run-short b l lent n h (c .if1 .taken)
-
-load-requires : tie.Need-load-requires
-load-requires c κs = search needs
-
-enum-known-o : tie.Need-enum-known-o
-enum-known-o c = search needs
-
-enum-told-2 : tie.Need-enum-told-2
-enum-told-2 c = search needs
+returns-2 c =
+    let x = c .before .before .before .before .before .before .before in
+    let l = x .args .steps .now in
+    let h = has-steps (stepsOf l) _ (steps-counted (c .before .before)) in
+    run-short (loads x) l (x .args .out .now) _ h (c .if1 .taken)
 
 run-loaded-requires : tie.Need-run-loaded-requires
-run-loaded-requires c κs = let x = c .before .before .before .before .before .before .before .before .before .before .before .before .before .before .before .before .args in let b = composition (x .wrapper) (x .nodes1 .now) (x .pool1 .now) (x .nodes2 .now) (x .pool2 .now) in let l = x .steps .now in let lent = x .out .now in let n = c .before .before .before .before .before .before .before .counted .given .0 .0 in let q : countOf (stepsOf l) ≡ some n = sym (c .before .before .before .before .before .before .before .before .before .count-steps .ensures) ∙ ap countedOf (c .before .before .before .before .before .before .before .counted .given .1) in let h = has-steps (stepsOf l) n q in let g = begun b (c .before .before .before .before .load .result) (c .before .before .before .before .load .ensures) (c .before .enum-told2 .given .1) in (g .arrays, g .ready, q, has-room _ n (c .before .before .before .before .before .if1 .left))
+run-loaded-requires c κs = (load-ok (c .before), steps-counted (c .before .before .before .before .before .before), has-room _ _ (c .before .before .before .before .if1 .left))
 
 returns-3 : tie.Need-returns-3
-returns-3 c = let x = c .before .before .before .before .before .before .before .before .before .before .before .before .before .before .before .before .args in let b = composition (x .wrapper) (x .nodes1 .now) (x .pool1 .now) (x .nodes2 .now) (x .pool2 .now) in let l = x .steps .now in let lent = x .out .now in let n = c .before .before .before .before .before .before .before .counted .given .0 .0 in let q : countOf (stepsOf l) ≡ some n = sym (c .before .before .before .before .before .before .before .before .before .count-steps .ensures) ∙ ap countedOf (c .before .before .before .before .before .before .before .counted .given .1) in let h = has-steps (stepsOf l) n q in run-refused b l lent n h (c .before .before .before .before .before .if1 .left) _ _ _ (sym (c .before .before .before .before .load .ensures .outcome) ∙ c .before .o .given .1)
-
-same-length : tie.Need-same-length
-same-length c = search needs
+returns-3 c =
+    let x = c .before .before .before .before .before .before .before .before .before .before .before in
+    let l = x .args .steps .now in
+    let h = has-steps (stepsOf l) _ (steps-counted (c .before .before .before .before .before .before)) in
+    let room = c .before .before .before .before .if1 .left in
+    run-refused (loads x) l (x .args .out .now) _ h room _ _ _ (sym (c .before .before .before .load-verdict .ensures) ∙ c .before .o .given .1)
 
 returns-4 : tie.Need-returns-4
-returns-4 c = let x = c .before .before .before .before .before .before .before .before .before .before .before .before .before .before .before .before .before .before .before .args in let b = composition (x .wrapper) (x .nodes1 .now) (x .pool1 .now) (x .nodes2 .now) (x .pool2 .now) in let l = x .steps .now in let lent = x .out .now in let n = c .before .before .before .before .before .before .before .before .before .before .counted .given .0 .0 in let q : countOf (stepsOf l) ≡ some n = sym (c .before .before .before .before .before .before .before .before .before .before .before .before .count-steps .ensures) ∙ ap countedOf (c .before .before .before .before .before .before .before .before .before .before .counted .given .1) in let h = has-steps (stepsOf l) n q in let g = begun b (c .before .before .before .before .before .before .before .load .result) (c .before .before .before .before .before .before .before .load .ensures) (c .before .before .before .before .enum-told2 .given .1) in run-done b l lent n h (c .before .before .before .before .before .before .before .before .if1 .left) _ (g .loads) _ (c .before .before .run-loaded .ensures (h .steps) (h .is))
+returns-4 c =
+    let x = c .before .before .before .before .before .before .before .before .before .before .before .before .before .before in
+    let l = x .args .steps .now in
+    let h = has-steps (stepsOf l) _ (steps-counted (c .before .before .before .before .before .before .before .before .before)) in
+    let room = c .before .before .before .before .before .before .before .if1 .left in
+    let t = taken (loads x) (load-ok (c .before .before .before .before)) in
+    run-done (loads x) l (x .args .out .now) _ h room _ (t .loaded) _ (c .before .before .run-loaded .ensures _ (h .steps) (t .loaded) (h .is))
 
 pub run-spec : {M : Type 1} → statement M
 run-spec =
     tie.close
     (tie.spec
-    count-steps-requires
-    enum-known-counted
-    enum-told
+    (λ c κs. search needs)
+    (λ c. search needs)
+    (λ c. search needs)
     returns
     returns-2
-    load-requires
-    enum-known-o
-    enum-told-2
+    (λ c κs. search needs)
+    (λ c. search needs)
+    (λ c. search needs)
     run-loaded-requires
     returns-3
-    same-length
+    (λ c. search needs)
     returns-4)

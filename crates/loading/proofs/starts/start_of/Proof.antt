@@ -3,7 +3,7 @@ use mathlib.Core.List.{List}
 use Prim.Native.Nat.{ℕ}
 use lib.ListN.{replicate}
 use Rattle.tables.specs.Nodes.{table}
-use Rattle.row_unfolding.specs.Unfolded.{CanUnfold}
+use Rattle.unfolding.specs.Unfolded.{CanUnfold}
 use Rattle.loading.proofs.Starting.{first, can-start, start-is}
 use borrow.Author.Needs.{needs}
 use Rattle.loading.proofs.starts.start_of.Statement.{statement}

@@ -1,25 +1,45 @@
-use Rattle.meeting.proofs.Closures.{body-15, body-16, body-at}
+use borrow.Author.Tests.{not-true, not-false}
+use Rattle.model.specs.Table.{term}
 use Rattle.tables.specs.Nodes.{table}
-use Rattle.values.specs.Env.{viewEnv}
+use Rattle.sides.specs.Environments.{envOf}
+use Rattle.meeting.proofs.PairLaws.{body-15, body-16, body-at}
 use borrow.Author.Needs.{needs}
 use Rattle.meeting.proofs.pairs.body_offer.Statement.{statement}
 use Rattle.meeting.proofs.pairs.body_offer.Tie as tie
 
-defined-at-requires : tie.Need-defined-at-requires
-defined-at-requires c κs = search needs
-
-too-long-requires : tie.Need-too-long-requires
-too-long-requires c κs = search needs
-
 returns : tie.Need-returns
-returns c = let a = c .before .before .before .before .before .before .args in body-16 (table (a .nodes .now) (a .pool .now)) (a .n) (viewEnv (a .e)) (c .before .before .before .defined-at .result) (c .before .before .before .defined-at .ensures) (c .before .too-long .result) (c .before .too-long .ensures) (c .before .before .if1 .taken) (c .if2 .taken)
+returns c =
+    let at-defined-at = c .before in
+    let start = at-defined-at .before .before .before .before in
+    let a = start .args in
+    body-15 (a .n) (term (table (a .nodes .now) (a .pool .now)) (a .n)) (envOf (a .e .now) (a .d)) (at-defined-at .defined-at .ensures) (not-true _ (c .if1 .taken))
 
 returns-2 : tie.Need-returns-2
-returns-2 c = let a = c .before .before .before .before .before .before .args in body-at (table (a .nodes .now) (a .pool .now)) (a .n) (viewEnv (a .e)) (c .before .before .before .defined-at .result) (c .before .before .before .defined-at .ensures) (c .before .too-long .result) (c .before .too-long .ensures) (c .before .before .if1 .taken) (c .if2 .left)
+returns-2 c =
+    let at-too-long = c .before in
+    let at-if1 = at-too-long .before in
+    let at-defined-at = at-if1 .before in
+    let start = at-defined-at .before .before .before .before in
+    let a = start .args in
+    let yes = not-false _ (at-if1 .if1 .left) in
+    body-16 (a .n) (term (table (a .nodes .now) (a .pool .now)) (a .n)) (envOf (a .e .now) (a .d)) (at-defined-at .defined-at .ensures) yes (at-too-long .too-long .ensures) (c .if2 .taken)
 
 returns-3 : tie.Need-returns-3
-returns-3 c = let a = c .before .before .before .before .args in body-15 (table (a .nodes .now) (a .pool .now)) (a .n) (viewEnv (a .e)) (c .before .defined-at .result) (c .before .defined-at .ensures) (c .if1 .left)
+returns-3 c =
+    let at-too-long = c .before in
+    let at-if1 = at-too-long .before in
+    let at-defined-at = at-if1 .before in
+    let start = at-defined-at .before .before .before .before in
+    let a = start .args in
+    let yes = not-false _ (at-if1 .if1 .left) in
+    body-at (a .n) (term (table (a .nodes .now) (a .pool .now)) (a .n)) (envOf (a .e .now) (a .d)) (at-defined-at .defined-at .ensures) yes (at-too-long .too-long .ensures) (c .if2 .left)
 
 pub body-offer-spec : {M : Type 1} → statement M
 body-offer-spec =
-    tie.close (tie.spec defined-at-requires too-long-requires returns returns-2 returns-3)
+    tie.close
+    (tie.spec
+    (λ c κs. search needs)
+    returns
+    (λ c κs. search needs)
+    returns-2
+    returns-3)

@@ -10,27 +10,22 @@ use borrow.Author.Needs.{needs}
 use Rattle.running.proofs.answer_words.put_answer.Statement.{statement}
 use Rattle.running.proofs.answer_words.put_answer.Tie as tie
 
-padded-requires : tie.Need-padded-requires
-padded-requires c κs = search needs
-
-words-of-requires : tie.Need-words-of-requires
-words-of-requires c κs = search needs
-
-put-requires : tie.Need-put-requires
-put-requires c κs = search needs
-
-same-length : tie.Need-same-length
-same-length c = search needs
-
 returns : tie.Need-returns
 returns c =
     let a = c .before .before .before .before .before .before .before .args in
     let v = c .before .before .before .before .padded in
     let w = c .before .before .before .words-of in
     let few = value-short (viewValue (a .v)) (v .result .words) (v .ensures .words) (w .ensures .0) in
-    let e = answer-words (a .said) (a .side) (viewValue (a .v)) (v .result .words) (w .result .of) (v .result .len) (v .ensures .len) (v .ensures .words) (w .ensures .2 (omega (arith, v .ensures .len, few))) in
+    let made = w .ensures .2 (omega (arith, v .ensures .len, few)) in
+    let e = answer-words (a .said) (a .side) (viewValue (a .v)) (v .result .words) (w .result .of) (v .result .len) (v .ensures .len) (v .ensures .words) made in
     (ap length (sym e) ∙ w .ensures .1, c .before .before .put .ensures ∙ ap (λ (ws : List ℕ). paste (a .out .now) (20 * a .k) ws 20) e)
 
 pub put-answer-spec : {M : Type 1} → statement M
 put-answer-spec =
-    tie.close (tie.spec padded-requires words-of-requires put-requires same-length returns)
+    tie.close
+    (tie.spec
+    (λ c κs. search needs)
+    (λ c κs. search needs)
+    (λ c κs. search needs)
+    (λ c. search needs)
+    returns)

@@ -1,8 +1,8 @@
 use mathlib.Core.Path.{_≡_, refl}
 use Prim.Native.Nat.{_-_, _≤_}
-use lib.ListN.{length, set, replicate}
+use lib.ListN.{length}
 use lib.Seq.{paste, paste-zero}
-use Rattle.running.proofs.RunLaws.{copy-next, copy-all, words-made}
+use Rattle.running.proofs.RunLaws.{headOf, copy-next, copy-all, words-made}
 use borrow.Author.Needs.{needs}
 use native.Mathlib.Omega.{arith}
 use Rattle.running.proofs.answer_words.words_of.Statement.{statement}
@@ -14,56 +14,32 @@ Inv-loop side v of₀ k₀ of k = (k ≤ 16) × (length of₀ ≡ 20) × (of ≡
 abbrev μ-loop : tie.MeasureT-loop
 μ-loop side v of₀ k₀ of k = 16 - k
 
-label-word-requires : tie.Need-label-word-requires Inv-loop μ-loop
-label-word-requires c κs = search needs
-
-array-write-of : tie.Need-array-write-of Inv-loop μ-loop
-array-write-of c = search needs
-
-number-word-requires : tie.Need-number-word-requires Inv-loop μ-loop
-number-word-requires c κs = search needs
-
-array-write-of-2 : tie.Need-array-write-of-2 Inv-loop μ-loop
-array-write-of-2 c = search needs
-
-array-write-of-3 : tie.Need-array-write-of-3 Inv-loop μ-loop
-array-write-of-3 c = search needs
-
-narrow-requires : tie.Need-narrow-requires Inv-loop μ-loop
-narrow-requires c κs = search needs
-
-array-write-of-4 : tie.Need-array-write-of-4 Inv-loop μ-loop
-array-write-of-4 c = search needs
-
 loop-holds : tie.Need-loop-holds Inv-loop μ-loop
 loop-holds c = let v = c .before .before .before .args .t3 in (omega arith, refl, paste-zero _ 4 (v .words), refl)
 
-mul-of : tie.Need-mul-of Inv-loop μ-loop
-mul-of c = search needs
-
-element-copy-out-of : tie.Need-element-copy-out-of Inv-loop μ-loop
-element-copy-out-of c = search needs
-
-add-of : tie.Need-add-of Inv-loop μ-loop
-add-of c = search needs
-
-mul-of-2 : tie.Need-mul-of-2 Inv-loop μ-loop
-mul-of-2 c = search needs
-
-array-write-of-5 : tie.Need-array-write-of-5 Inv-loop μ-loop
-array-write-of-5 c = search needs
-
-add-k : tie.Need-add-k Inv-loop μ-loop
-add-k c = search needs
-
-loop-less : tie.Need-loop-less Inv-loop μ-loop
-loop-less c = search needs
-
 loop-again : tie.Need-loop-again Inv-loop μ-loop
-loop-again c = let l = c .before .before .loop in let v = c .before .before .before .before .before .before .args .t3 in let full : length (v .words) ≡ 16 = search needs in (omega arith, l .inv .1, copy-next (l .of) (set (set (set (set (replicate 20 0) 0 (c .before .before .before .before .before .label-word .result)) 1 (c .before .before .before .before .number-word .result)) 2 (c .before .before .before .before .before .before .args .side)) 3 (c .before .before .before .narrow .result)) 4 20 (v .words) (l .k) (l .inv .1) (l .inv .2) (omega arith) (omega (arith, full)), search needs)
+loop-again c =
+    let l = c .before .before .loop in
+    let a = c .before .before .before .before .before .before .args in
+    let said = c .before .before .before .before .before .label-word .result in
+    let number = c .before .before .before .before .number-word .result in
+    let head = headOf said number (a .side) (c .before .before .before .narrow .result) in
+    let full : length (a .t3 .words) ≡ 16 = search needs in
+    let more = copy-next (l .of) head 4 20 (a .t3 .words) (l .k) (l .inv .1) (l .inv .2) (omega arith) (omega (arith, full)) in
+    (omega arith, l .inv .1, more, search needs)
 
 returns : tie.Need-returns Inv-loop μ-loop
-returns c = let l = c .before .loop in let v = c .before .before .before .before .before .args .t3 in let full : length (v .words) ≡ 16 = search needs in (full, l .inv .3, λ short. words-made (c .before .before .before .before .before .args .said) (c .before .before .before .before .label-word .result) (c .before .before .before .number-word .result) (c .before .before .before .before .before .args .side) (c .before .before .narrow .result) (v .len) (v .words) (l .of) (c .before .before .narrow .ensures short) (c .before .before .before .before .label-word .ensures) (c .before .before .before .number-word .ensures) full (copy-all (l .of) (set (set (set (set (replicate 20 0) 0 (c .before .before .before .before .label-word .result)) 1 (c .before .before .before .number-word .result)) 2 (c .before .before .before .before .before .args .side)) 3 (c .before .before .narrow .result)) 4 (v .words) (l .k) 16 (omega arith) (l .inv .2)))
+returns c =
+    let l = c .before .loop in
+    let a = c .before .before .before .before .before .args in
+    let said = c .before .before .before .before .label-word in
+    let number = c .before .before .before .number-word in
+    let len = c .before .before .narrow in
+    let head = headOf (said .result) (number .result) (a .side) (len .result) in
+    let full : length (a .t3 .words) ≡ 16 = search needs in
+    let all = copy-all (l .of) head 4 (a .t3 .words) (l .k) 16 (omega arith) (l .inv .2) in
+    let made = words-made (a .said) (said .result) (number .result) (a .side) (len .result) (a .t3 .len) (a .t3 .words) (l .of) in
+    (full, l .inv .3, λ short. made (len .ensures short) (said .ensures) (number .ensures) full all)
 
 pub words-of-spec : {M : Type 1} → statement M
 words-of-spec =
@@ -71,20 +47,20 @@ words-of-spec =
     (tie.spec
     Inv-loop
     μ-loop
-    label-word-requires
-    array-write-of
-    number-word-requires
-    array-write-of-2
-    array-write-of-3
-    narrow-requires
-    array-write-of-4
+    (λ c κs. search needs)
+    (λ c. search needs)
+    (λ c κs. search needs)
+    (λ c. search needs)
+    (λ c. search needs)
+    (λ c κs. search needs)
+    (λ c. search needs)
     loop-holds
-    mul-of
-    element-copy-out-of
-    add-of
-    mul-of-2
-    array-write-of-5
-    add-k
-    loop-less
+    (λ c. search needs)
+    (λ c. search needs)
+    (λ c. search needs)
+    (λ c. search needs)
+    (λ c. search needs)
+    (λ c. search needs)
+    (λ c. search needs)
     loop-again
     returns)

@@ -1,53 +1,87 @@
-use Rattle.steps.proofs.Held.{Full, particles-cap, shelf-cap, none-more, one-more}
-use Rattle.steps.proofs.ParticleSteps.{shelf-full, shelf-did}
+use mathlib.Core.Path.{_∙_}
+use Rattle.steps.proofs.Held.{none-more, one-more}
+use Rattle.sides.proofs.Storing.{shelf-length}
+use Rattle.steps.specs.Asked.{valueIn}
+use Rattle.steps.proofs.Held.{rows-cap, shelf-cap, value-in-place}
+use Rattle.steps.proofs.ParticleSteps.{shelf-did, shelf-full}
 use native.Mathlib.Omega.{arith}
 use borrow.Author.Needs.{needs}
 use Rattle.steps.proofs.particle_steps.to_shelf.Statement.{statement}
 use Rattle.steps.proofs.particle_steps.to_shelf.Tie as tie
-use Rattle.values.proofs.Lists.{unmap}
-
-full : (x : tie.Start) → Full (x .args .o)
-full x = record { msgs = search unmap; particles = search unmap; boxes = search unmap; shelf = search unmap }
 
 add-shelf-within : tie.Need-add-shelf-within
-add-shelf-within c = let x = c .before .before in let o = x .args .o in omega (arith, shelf-cap o (x .pre .0) (full x))
-
-shelf-within-requires : tie.Need-shelf-within-requires
-shelf-within-requires c κs = search needs
-
-plain-requires : tie.Need-plain-requires
-plain-requires c κs = search needs
+add-shelf-within c =
+    let x = c .before in
+    let l = x .args .rows .now in
+    let o = x .args .o in
+    let i = x .args .i in
+    omega (arith, shelf-cap l o (x .pre .0))
 
 returns : tie.Need-returns
-returns c = λ s e. let x = c .before .before .before .before .before in let o = x .args .o in let i = x .args .i in let v = x .args .v in shelf-full o i (x .pre .0) (full x) s _ v e (none-more _ 32 _ (c .before .before .shelf-within .ensures) (c .before .if1 .taken)) (c .plain .ensures)
+returns c =
+    λ s e.
+    let x = c .before .before .before .before in
+    let l = x .args .rows .now in
+    let o = x .args .o in
+    let i = x .args .i in
+    shelf-full l o i (x .pre .0) s _ (valueIn l i) (c .plain .ensures) e (none-more _ 32 _ (c .before .before .shelf-within .ensures) (c .before .if1 .taken))
 
-without-requires : tie.Need-without-requires
-without-requires c κs = let x = c .before .before .before .before .before in let o = x .args .o in (x .pre .1, particles-cap o (x .pre .0) (full x))
+value-at-requires : tie.Need-value-at-requires
+value-at-requires c κs =
+    let x = c .before .before .before .before .before in
+    let l = x .args .rows .now in
+    let o = x .args .o in
+    let i = x .args .i in
+    (x .pre .0 .long, omega (arith, x .pre .1, rows-cap l o (x .pre .0)), search needs, value-in-place l o (x .pre .0) i (x .pre .1) (x .pre .2))
 
-with-particles-requires : tie.Need-with-particles-requires
-with-particles-requires c κs = search needs
+put-shelf-requires : tie.Need-put-shelf-requires
+put-shelf-requires c κs =
+    let x = c .before .before .before .before .before .before in
+    let l = x .args .rows .now in
+    let o = x .args .o in
+    let i = x .args .i in
+    (x .pre .0 .long, one-more _ 32 _ (c .before .before .before .before .shelf-within .ensures) (c .before .before .before .if1 .left), c .value-at .ensures .short)
 
-with-requires : tie.Need-with-requires
-with-requires c κs = one-more _ 32 _ (c .before .before .before .before .shelf-within .ensures) (c .before .before .before .if1 .left)
+remove-row-requires : tie.Need-remove-row-requires
+remove-row-requires c κs =
+    let x = c .before .before .before .before .before .before .before .before .before .before in
+    let l = x .args .rows .now in
+    let o = x .args .o in
+    let i = x .args .i in
+    (search needs, x .pre .1, rows-cap l o (x .pre .0))
 
-with-shelf-requires : tie.Need-with-shelf-requires
-with-shelf-requires c κs = search needs
-
-plain-requires-2 : tie.Need-plain-requires-2
-plain-requires-2 c κs = search needs
+add-with-shelved : tie.Need-add-with-shelved
+add-with-shelved c =
+    let x = c .before .before .before .before .before .before .before .before .before .before .before .before .before .before in
+    let l = x .args .rows .now in
+    let o = x .args .o in
+    let i = x .args .i in
+    omega (arith, shelf-cap l o (x .pre .0))
 
 returns-2 : tie.Need-returns-2
-returns-2 c = λ s e. let x = c .before .before .before .before .before .before .before .before .before .before in let o = x .args .o in let i = x .args .i in let v = x .args .v in shelf-did o i (x .pre .0) (full x) s _ v e (c .before .before .before .before .without .result) (c .before .before .with .result) (c .before .before .before .with-particles .result) (c .before .with-shelf .result) _ _ (one-more _ 32 _ (c .before .before .before .before .before .before .before .shelf-within .ensures) (c .before .before .before .before .before .before .if1 .left)) (x .pre .2) (c .before .before .before .before .without .ensures) (c .before .before .before .with-particles .ensures) (c .before .before .with .ensures) (c .before .with-shelf .ensures) (c .plain2 .ensures)
+returns-2 c =
+    λ s e.
+    let x = c .before .before .before .before .before .before .before .before .before .before .before .before .before .before .before .before in
+    let l = x .args .rows .now in
+    let o = x .args .o in
+    let i = x .args .i in
+    let room = one-more _ 32 _ (c .before .before .before .before .before .before .before .before .before .before .before .before .before .before .shelf-within .ensures) (c .before .before .before .before .before .before .before .before .before .before .before .before .before .if1 .left) in
+    shelf-did l o i (x .pre .0) (x .pre .1) (x .pre .2) _ s (c .before .before .before .before .before .before .before .before .before .before .value-at .result) (c .before .before .before .before .before .before .before .before .before .before .value-at .ensures) _ (c .before .before .before .before .before .remove-row .result) _ (c .before .before .with-particles .result) (c .before .with-shelved .result) e room (c .before .before .before .before .before .before .before .before .before .put-shelf .ensures) (c .before .before .before .before .before .remove-row .ensures) (c .before .before .with-particles .ensures) (c .before .with-shelved .ensures) (c .plain2 .ensures)
 
 pub to-shelf-spec : {M : Type 1} → statement M
 to-shelf-spec =
     tie.close
     (tie.spec
-    add-shelf-within shelf-within-requires plain-requires
+    add-shelf-within
+    (λ c κs. search needs)
+    (λ c κs. search needs)
     returns
-    without-requires
-    with-particles-requires
-    with-requires
-    with-shelf-requires
-    plain-requires-2
+    value-at-requires
+    put-shelf-requires
+    remove-row-requires
+    (λ c κs. search needs)
+    add-with-shelved
+    (λ c κs. search needs)
+    (λ c κs. search needs)
+    (λ c. search needs)
     returns-2)

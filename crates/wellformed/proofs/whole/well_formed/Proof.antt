@@ -1,58 +1,110 @@
--- `well_formed`: Test by test.
-use mathlib.Core.Path.{_≡_, _∙_, ap, sym}
-use mathlib.Core.Bool.{Bool}
-use mathlib.Core.List.{[], _∷_}
+-- The array test, then the sides: those before k stand.
+use mathlib.Core.Path.{refl, sym, _∙_}
+use mathlib.Core.List.{map}
+use Prim.Native.Nat.{_-_}
 use borrow.Author.Needs.{needs}
-use borrow.Author.Tests.{eqb-true}
-use lib.Dec.{eqb}
-use Rattle.model.specs.Basics.{_&_}
-use Rattle.model.specs.WellFormed.{wfState}
-use Rattle.tables.specs.Nodes.{table}
-use Rattle.sides.specs.declared.State.{State}
-use Rattle.sides.specs.Views.{viewShelf, viewSide, viewState, fitsArrays}
-use Rattle.sides.proofs.Lists.{goes-on, stops}
+use denote.Ref.{now}
+use lib.ListN.{length}
+use Rattle.model.specs.Wrapper.{allSides}
+use Rattle.model.specs.Load.{Composition}
 use Rattle.values.proofs.Lists.{unmap}
-use Rattle.wellformed.specs.Clauses.{countsOf, testedFor, settingOf, sideFits, sideTwo, takenFits}
-use Rattle.wellformed.proofs.WholeLaws.{Full, within-arrays, state-is}
+use Rattle.sides.proofs.Lists.{stops, goes-on}
+use Rattle.wrappers.specs.Compositions.{composition}
+use Rattle.wellformed.proofs.TestLaws.{Passed, passed-more, passed-not, passed-all}
+use Rattle.wellformed.proofs.StateLaws.{standsAt, state-is, table-passes, side-within, side-answer, Places}
 use Rattle.wellformed.proofs.whole.well_formed.Statement.{statement}
 use Rattle.wellformed.proofs.whole.well_formed.Tie as tie
 
--- what the tests come to, side by side
-tested : (x : tie.Start) →
-    fitsArrays (x .args .s) &
-    (sideFits (settingOf 1 (eqb (x .args .wrapper) 2) (table (x .args .nodes1 .now) (x .args .pool1 .now))) (countsOf (x .args .s .one .minted) (x .args .s .two .minted)) (viewSide (x .args .s .one)) &
-    (takenFits (viewShelf (x .args .s .one .shelf)) (x .args .s .one .taken) (x .args .s .two .taken) &
-    sideTwo (eqb (x .args .wrapper) 2) (table (x .args .nodes2 .now) (x .args .pool2 .now)) (countsOf (x .args .s .one .minted) (x .args .s .two .minted)) (viewSide (x .args .s .two)))) ≡
-    fitsArrays (x .args .s) & wfState (record { wrapper = testedFor (x .args .wrapper); tables = table (x .args .nodes1 .now) (x .args .pool1 .now) ∷ table (x .args .nodes2 .now) (x .args .pool2 .now) ∷ [] }) (viewState (x .args .s))
-tested x =
-    let s : State = x .args .s in
-    let one : Full (s .one) = record { particles = search (unmap, x .good .1 .1 .1 .1 .1 .0 .1 .1 .0); boxes = search (unmap, x .good .1 .1 .1 .1 .1 .0 .1 .1 .0); lobby = search (unmap, x .good .1 .1 .1 .1 .1 .0 .1 .1 .0); shelf = search (unmap, x .good .1 .1 .1 .1 .1 .0 .1 .1 .0); taken = search (needs, x .good .1 .1 .1 .1 .1 .0 .1 .1 .0); left = search (needs, x .good .1 .1 .1 .1 .1 .0 .1 .1 .0) } in
-    let two : Full (s .two) = record { particles = search (unmap, x .good .1 .1 .1 .1 .1 .0 .1 .1 .1 .0); boxes = search (unmap, x .good .1 .1 .1 .1 .1 .0 .1 .1 .1 .0); lobby = search (unmap, x .good .1 .1 .1 .1 .1 .0 .1 .1 .1 .0); shelf = search (unmap, x .good .1 .1 .1 .1 .1 .0 .1 .1 .1 .0); taken = search (needs, x .good .1 .1 .1 .1 .1 .0 .1 .1 .1 .0); left = search (needs, x .good .1 .1 .1 .1 .1 .0 .1 .1 .1 .0) } in
-    ap (λ (b : Bool). fitsArrays s & b) (state-is (table (x .args .nodes1 .now) (x .args .pool1 .now)) (table (x .args .nodes2 .now) (x .args .pool2 .now)) (viewSide (s .one)) (viewSide (s .two)) (within-arrays (s .one) one) (within-arrays (s .two) two) (x .args .wrapper))
+abbrev Inv-loop : tie.InvT-loop
+Inv-loop wrapper t2 t3 nodes pools s minted shelved k₀ k = Passed (standsAt (composition wrapper (map now t2) (map now t3)) s) allSides k
 
-fits-requires : tie.Need-fits-requires
-fits-requires c κs = search needs
+abbrev μ-loop : tie.MeasureT-loop
+μ-loop wrapper t2 t3 nodes pools s minted shelved k₀ k = length allSides - k
 
-side-ok-requires : tie.Need-side-ok-requires
-side-ok-requires c κs = search needs
+places : (x : tie.Start Inv-loop μ-loop) → Places (x .args .t2) (x .args .t3) (x .args .t4)
+places x = record { nodes = search unmap; pools = search unmap; sides = search unmap }
 
-taken-ok-requires : tie.Need-taken-ok-requires
-taken-ok-requires c κs = search needs
+-- what is lent
+abbrev lent : tie.Start Inv-loop μ-loop → Composition
+lent x = composition (x .args .wrapper) (map now (x .args .t2)) (map now (x .args .t3))
 
-side-two-ok-requires : tie.Need-side-two-ok-requires
-side-two-ok-requires c κs = search needs
+loop-holds : tie.Need-loop-holds Inv-loop μ-loop
+loop-holds c = refl
 
-returns : tie.Need-returns
-returns c = λ p q. goes-on _ _ _ (sym (c .before .before .before .before .before .before .fits2 .ensures) ∙ c .before .before .before .before .before .if1 .taken) (goes-on _ _ _ (sym (c .before .before .before .before .side-ok .ensures p) ∙ c .before .before .before .if2 .taken) (goes-on _ _ _ (sym (c .before .before .taken-ok .ensures) ∙ c .before .if3 .taken) (c .side-two-ok .ensures (λ e. q (eqb-true _ _ e))))) ∙ tested (c .before .before .before .before .before .before .before .before .before .before .before .before .before .before .before .before)
+side-stands-requires : tie.Need-side-stands-requires Inv-loop μ-loop
+side-stands-requires c κs =
+    let g = c .before .before .before .before .before .before .before .before .before in
+    let x = g .before .before .before in
+    let a = x .args in
+    let l = c .before .before .before .before .before .before .loop in
+    let h = c .before .before .before .before .before .loop-test .taken in
+    let fits = sym (g .before .before .arrays-fit .ensures) ∙ g .before .if1 .taken in (
+      table-passes now (a .wrapper) (a .t2) (a .t3) (a .t4) (places x) (l .k) h (x .pre) _ _ _ refl,
+      side-within now (a .wrapper) (a .t2) (a .t3) (a .t4) (places x) (l .k) h fits _,
+    )
 
-returns-2 : tie.Need-returns-2
-returns-2 c = λ p q. goes-on _ _ _ (sym (c .before .before .before .before .before .fits2 .ensures) ∙ c .before .before .before .before .if1 .taken) (goes-on _ _ _ (sym (c .before .before .before .side-ok .ensures p) ∙ c .before .before .if2 .taken) (stops _ _ (sym (c .before .taken-ok .ensures) ∙ c .if3 .left))) ∙ tested (c .before .before .before .before .before .before .before .before .before .before .before .before .before .before .before)
+loop-again : tie.Need-loop-again Inv-loop μ-loop
+loop-again c =
+    let g = c .before .before .before .before .before .before .before .before .before .before .before in
+    let x = g .before .before .before in
+    let a = x .args in
+    let l = c .before .before .before .before .before .before .before .before .loop in
+    let h = c .before .before .before .before .before .before .before .loop-test .taken in
+    let fits = sym (g .before .before .arrays-fit .ensures) ∙ g .before .if1 .taken in
+    let counts = g .counts-of .ensures in
+    let stands = c .before .side-stands .ensures in
+    let answer = side-answer now (a .wrapper) (a .t2) (a .t3) (a .t4) (places x) (l .k) h fits _ _ _ _ refl _ _ (counts .0) (counts .1) _ stands in
+    passed-more (standsAt (lent x) (a .t4)) allSides (l .k) 0 h (sym answer ∙ c .if2 .taken) (l .inv)
 
-returns-3 : tie.Need-returns-3
-returns-3 c = λ p q. goes-on _ _ _ (sym (c .before .before .before .fits2 .ensures) ∙ c .before .before .if1 .taken) (stops _ _ (sym (c .before .side-ok .ensures p) ∙ c .if2 .left)) ∙ tested (c .before .before .before .before .before .before .before .before .before .before .before .before .before)
+returns : tie.Need-returns Inv-loop μ-loop
+returns c =
+    let g = c .before .before .before .before .before .before .before .before .before .before .before in
+    let x = g .before .before .before in
+    let a = x .args in
+    let l = c .before .before .before .before .before .before .before .before .loop in
+    let h = c .before .before .before .before .before .before .before .loop-test .taken in
+    let fits = sym (g .before .before .arrays-fit .ensures) ∙ g .before .if1 .taken in
+    let counts = g .counts-of .ensures in
+    let stands = c .before .side-stands .ensures in
+    let answer = side-answer now (a .wrapper) (a .t2) (a .t3) (a .t4) (places x) (l .k) h fits _ _ _ _ refl _ _ (counts .0) (counts .1) _ stands in
+    let fails = passed-not (standsAt (lent x) (a .t4)) allSides (l .k) 0 h (sym answer ∙ c .if2 .left) (l .inv) in
+    goes-on _ _ _ fits (fails ∙ state-is (lent x) (a .t4) (places x .sides))
 
-returns-4 : tie.Need-returns-4
-returns-4 c = λ p q. stops _ _ (sym (c .before .fits2 .ensures) ∙ c .if1 .left) ∙ tested (c .before .before .before .before .before .before .before .before .before .before .before)
+returns-2 : tie.Need-returns-2 Inv-loop μ-loop
+returns-2 c =
+    let x = c .before .before .before .before .before .before .before in
+    let s = x .args .t4 in
+    let l = c .before .loop in
+    let fits = sym (c .before .before .before .before .before .before .arrays-fit .ensures) ∙ c .before .before .before .before .before .if1 .taken in
+    let passes = passed-all (standsAt (lent x) s) allSides (l .k) (c .loop-test .left) (l .inv) in
+    goes-on _ _ _ fits (passes ∙ state-is (lent x) s (places x .sides))
+
+returns-3 : tie.Need-returns-3 Inv-loop μ-loop
+returns-3 c = stops _ _ (sym (c .before .arrays-fit .ensures) ∙ c .if1 .left)
 
 pub well-formed-spec : {M : Type 1} → statement M
-well-formed-spec = tie.close (tie.spec fits-requires side-ok-requires taken-ok-requires side-two-ok-requires returns returns-2 returns-3 returns-4)
+well-formed-spec =
+    tie.close
+    (tie.spec
+    Inv-loop
+    μ-loop
+    (λ c κs. search needs)
+    (λ c κs. search needs)
+    loop-holds
+    (λ c. search needs)
+    (λ c. search needs)
+    (λ c. search needs)
+    (λ c. search needs)
+    (λ c. search needs)
+    (λ c. search needs)
+    (λ c. search needs)
+    (λ c. search needs)
+    (λ c. search needs)
+    (λ c. search needs)
+    side-stands-requires
+    (λ c. search needs)
+    (λ c. search needs)
+    loop-again
+    returns
+    returns-2
+    returns-3)

@@ -1,0 +1,134 @@
+-- A side's step by its kind: a law for each way that the code goes.
+use mathlib.Core.Path.{_≡_, refl, sym, ap, subst, _∙_}
+use mathlib.Core.Bool.{Bool, true, false}
+use mathlib.Core.List.{List, [], _∷_}
+use Prim.Native.Nat.{ℕ, zero, suc, _<_, _≤_}
+use native.Mathlib.Omega.{arith}
+use borrow.Author.Tests.{eq-eqb, ne-eqb}
+use lib.Dec.{eqb}
+use lib.ListN.{length}
+use Rattle.model.specs.Basics.{_&_, choose, Res, refuse, done, bind, need}
+use Rattle.model.specs.Side.{Core}
+use Rattle.model.specs.Wrapper.{Route, Wrapper}
+use Rattle.model.specs.Load.{Setting}
+use Rattle.model.specs.Step.{Moved, settled, goDown, up, pass, leave, descend, meet, enter, takes, inner, routeTo, local}
+use Rattle.wrappers.specs.declared.Source.{Source}
+use Rattle.wrappers.specs.declared.Source.the-variants.{Side, Nowhere}
+use Rattle.wrappers.specs.Routes.{sourceBy, sourceFor}
+use Rattle.sides.specs.declared.Rest.{Rest}
+use Rattle.steps.specs.declared.RestStep.{RestStep}
+use Rattle.steps.specs.StepIs.{Sane, StepIs}
+use Rattle.steps.proofs.Held.{sane}
+use Rattle.dispatch.specs.Stepping.{asked, onePlace, twoPlaces, OwnReady}
+
+-- a side that a step may act on
+pub own-sane : (c : Setting) (l : List ℕ) (o : Rest) → OwnReady c l o → Sane l o
+own-sane c l o h = sane c (h .counts) l o (h .long) (h .arrays) (h .formed)
+
+-- a step by what it equals
+pub step-by : (x y : Res Moved) (l : List ℕ) (o : Rest) (m : List ℕ) (r : RestStep) → x ≡ y → StepIs y l o m r → StepIs x l o m r
+step-by x y l o m r e h = subst (λ (z : Res Moved). StepIs z l o m r) (sym e) h
+
+-- KINDS 2, 3, 6, 7
+module _ (c : Setting) (s : Core) (k i : ℕ) where
+  pub one-down : k ≡ 2 → settled (onePlace c s k i) ≡ settled (goDown s i)
+  unfolding onePlace choose
+  one-down e = ap (λ (x : ℕ). settled (onePlace c s x i)) e
+
+  pub one-up : k ≡ 3 → settled (onePlace c s k i) ≡ settled (up c s i)
+  unfolding onePlace choose
+  one-up e = ap (λ (x : ℕ). settled (onePlace c s x i)) e
+
+  pub one-pass : k ≡ 6 → settled (onePlace c s k i) ≡ settled (pass s i)
+  unfolding onePlace choose
+  one-pass e = ap (λ (x : ℕ). settled (onePlace c s x i)) e
+
+  pub one-leave : k ≡ 7 → settled (onePlace c s k i) ≡ settled (leave s i)
+  unfolding onePlace choose
+  one-leave e = ap (λ (x : ℕ). settled (onePlace c s x i)) e
+
+  pub one-none : (k ≡ 2 → ⊥) → (k ≡ 3 → ⊥) → (k ≡ 6 → ⊥) → (k ≡ 7 → ⊥) → settled (onePlace c s k i) ≡ refuse 10
+  unfolding onePlace choose settled bind
+  one-none a b d e = rw (ne-eqb k 2 a, ne-eqb k 3 b, ne-eqb k 6 d, ne-eqb k 7 e)
+
+-- KINDS 2 TO 7
+module _ (c : Setting) (s : Core) (k i j : ℕ) where
+  pub two-descend : k ≡ 4 → settled (twoPlaces c s k i j) ≡ settled (descend s i j)
+  unfolding twoPlaces choose
+  two-descend e = ap (λ (x : ℕ). settled (twoPlaces c s x i j)) e
+
+  pub two-meet : k ≡ 5 → settled (twoPlaces c s k i j) ≡ settled (meet c s i j)
+  unfolding twoPlaces choose
+  two-meet e = ap (λ (x : ℕ). settled (twoPlaces c s x i j)) e
+
+  pub two-one : (k ≡ 4 → ⊥) → (k ≡ 5 → ⊥) → j ≡ 0 → settled (twoPlaces c s k i j) ≡ settled (onePlace c s k i)
+  unfolding twoPlaces choose need
+  two-one a b e = rw (ne-eqb k 4 a, ne-eqb k 5 b, eq-eqb j 0 e)
+
+  pub two-bad : (k ≡ 4 → ⊥) → (k ≡ 5 → ⊥) → (j ≡ 0 → ⊥) → settled (twoPlaces c s k i j) ≡ refuse 10
+  unfolding twoPlaces choose need settled bind
+  two-bad a b e = rw (ne-eqb k 4 a, ne-eqb k 5 b, ne-eqb j 0 e)
+
+-- where there is no route, 10
+route-ten : (rs : List Route) (n j x : ℕ) → routeTo rs n j ≡ refuse x → x ≡ 10
+unfolding routeTo choose
+route-ten [] n j x e = let y : 10 ≡ x = cc in sym y
+route-ten (r ∷ rs) n j x e = go (eqb (r .receiver) n & eqb (r .j) j) (route-ten rs n j x) e
+  where
+    go : (b : Bool) → (routeTo rs n j ≡ refuse x → x ≡ 10) → choose b (done r) (routeTo rs n j) ≡ refuse x → x ≡ 10
+    go true f e = let z : _≡_ {A = ℕ} 0 1 = cc in absurd (omega arith)
+    go false f e = f e
+
+-- KINDS 1 TO 8
+module _ (c : Setting) (known : ℕ → Bool) (sh : ℕ → List (List ℕ)) (s : Core) (n i j : ℕ) (ws : List ℕ) where
+  -- by the kind that it is
+  pub kind-is : (k x : ℕ) → k ≡ x → settled (local c known sh s (asked k n i j ws)) ≡ settled (local c known sh s (asked x n i j ws))
+  kind-is k x e = ap (λ (y : ℕ). settled (local c known sh s (asked y n i j ws))) e
+
+  pub enter-on : i ≡ 0 → j ≡ 0 → settled (local c known sh s (asked 1 n i j ws)) ≡ settled (enter known s ws)
+  unfolding local choose need _&_
+  enter-on e f = rw (eq-eqb i 0 e, eq-eqb j 0 f)
+
+  pub enter-i : (i ≡ 0 → ⊥) → settled (local c known sh s (asked 1 n i j ws)) ≡ refuse 10
+  unfolding local choose need _&_ settled bind
+  enter-i e = rw (ne-eqb i 0 e)
+
+  pub enter-j : i ≡ 0 → (j ≡ 0 → ⊥) → settled (local c known sh s (asked 1 n i j ws)) ≡ refuse 10
+  unfolding local choose need _&_ settled bind
+  enter-j e f = rw (eq-eqb i 0 e, ne-eqb j 0 f)
+
+  module _ (k : ℕ) (a : k ≡ 1 → ⊥) (b : k ≡ 8 → ⊥) where
+    pub own-two : length ws ≡ 0 → settled (local c known sh s (asked k n i j ws)) ≡ settled (twoPlaces c s k i j)
+    unfolding local inner twoPlaces onePlace choose need
+    own-two e = rw (ne-eqb k 1 a, ne-eqb k 8 b, eq-eqb (length ws) 0 e)
+
+    pub own-words : (length ws ≡ 0 → ⊥) → settled (local c known sh s (asked k n i j ws)) ≡ refuse 10
+    unfolding local inner choose need settled bind
+    own-words e = rw (ne-eqb k 1 a, ne-eqb k 8 b, ne-eqb (length ws) 0 e)
+
+  -- kind 8, by its route
+  pub take-words : (length ws ≡ 0 → ⊥) → settled (local c known sh s (asked 8 n i j ws)) ≡ refuse 10
+  unfolding local choose need settled bind
+  take-words e = rw (ne-eqb (length ws) 0 e)
+
+  take-by : length ws ≡ 0 → (q : Res Route) → routeTo (c .wrapper .routes) (c .side) j ≡ q →
+      settled (local c known sh s (asked 8 n i j ws)) ≡ settled (bind q (λ r. takes (r .source) (sh (r .source)) s i))
+  unfolding local choose need
+  take-by e q p = rw (eq-eqb (length ws) 0 e, p)
+
+  module _ (e : length ws ≡ 0) where
+    pub take-none : Nowhere ≡ sourceFor (c .wrapper) (c .side) j → settled (local c known sh s (asked 8 n i j ws)) ≡ refuse 10
+    unfolding settled bind
+    take-none p = go (routeTo (c .wrapper .routes) (c .side) j) refl p
+      where
+        go : (q : Res Route) → routeTo (c .wrapper .routes) (c .side) j ≡ q → Nowhere ≡ sourceBy q → settled (local c known sh s (asked 8 n i j ws)) ≡ refuse 10
+        go (refuse x) z w = take-by e (refuse x) z ∙ ap refuse (route-ten (c .wrapper .routes) (c .side) j x z)
+        go (done r) z w = let y : _≡_ {A = ℕ} 0 1 = cc in absurd (omega arith)
+
+    pub take-from : (m : ℕ) → Side m ≡ sourceFor (c .wrapper) (c .side) j → settled (local c known sh s (asked 8 n i j ws)) ≡ settled (takes m (sh m) s i)
+    unfolding bind
+    take-from m p = go (routeTo (c .wrapper .routes) (c .side) j) refl p
+      where
+        go : (q : Res Route) → routeTo (c .wrapper .routes) (c .side) j ≡ q → Side m ≡ sourceBy q → settled (local c known sh s (asked 8 n i j ws)) ≡ settled (takes m (sh m) s i)
+        go (refuse x) z w = let y : _≡_ {A = ℕ} 0 1 = cc in absurd (omega arith)
+        go (done r) z w = let y : r .source ≡ m = cc in take-by e (done r) z ∙ ap (λ (t : ℕ). settled (takes t (sh t) s i)) y

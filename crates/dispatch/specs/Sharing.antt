@@ -1,0 +1,74 @@
+-- A step at one place of the words of all sides, and the marks of all sides after it.
+use mathlib.Core.Path.{_≡_}
+use mathlib.Core.Bool.{Bool, true, false}
+use mathlib.Core.List.{List, [], _∷_, map}
+use Prim.Native.Nat.{ℕ, zero, suc, _<_}
+use lib.ListN.{length, getD, set}
+use Rattle.model.specs.Basics.{Res}
+use Rattle.model.specs.Side.{Side, State}
+use Rattle.model.specs.Wrapper.{allSides}
+use Rattle.model.specs.Step.{Moved, markAll}
+use Rattle.sides.specs.declared.Rest.{Rest}
+use Rattle.sides.specs.Layout.{viewShelf, fitsShelf}
+use Rattle.sides.specs.Sides.{fitsSide, sideOf}
+use Rattle.steps.specs.declared.Said.{Said}
+use Rattle.steps.specs.declared.Said.the-variants as said
+use Rattle.steps.specs.declared.RestStep.{RestStep}
+use Rattle.steps.specs.StepIs.{StepIs}
+
+-- side n's shelf, by the words of all sides and how many values each has on its shelf; there is no side 0
+abbrev pub shelvesIn : List (List ℕ) → List ℕ → ℕ → List (List ℕ)
+shelvesIn ls ns zero = []
+shelvesIn ls ns (suc k) = viewShelf (getD ls k []) (getD ns k 0)
+
+-- how many values each side has on its shelf
+abbrev pub shelvedOf : List Rest → List ℕ
+shelvedOf os = map (λ (o : Rest). o .shelved) os
+
+-- each side has its words, and a shelf within its array
+pub record Shelves (ls : List (List ℕ)) (ns : List ℕ) : Type 0 where
+  pub long : (k : ℕ) → k < length allSides → length (getD ls k []) ≡ 5184
+  pub fits : (k : ℕ) → k < length allSides → fitsShelf (getD ls k []) (getD ns k 0) ≡ true
+
+-- the sides that are lent: their words, the rests, the marks
+unfoldable pub sidesIn : List (List ℕ) → List Rest → List (List Bool) → List Side
+sidesIn [] os ms = []
+sidesIn (l ∷ ls) [] ms = []
+sidesIn (l ∷ ls) (o ∷ os) [] = []
+sidesIn (l ∷ ls) (o ∷ os) (m ∷ ms) = sideOf l o m ∷ sidesIn ls os ms
+
+-- the state that they are
+abbrev pub stateIn : List (List ℕ) → List Rest → List (List Bool) → State
+stateIn ls os ms = record { sides = sidesIn ls os ms }
+
+-- each of the sides is there, with its words, and every count is within its array
+pub record Lent (ls : List (List ℕ)) (os : List Rest) (ms : List (List Bool)) : Type 0 where
+  pub words : length ls ≡ length allSides
+  pub rests : length os ≡ length allSides
+  pub marks : length ms ≡ length allSides
+  pub long : (k : ℕ) → k < length allSides → length (getD ls k []) ≡ 5184
+  pub fits : (k : ℕ) (d : Rest) → k < length allSides → fitsSide (getD ls k []) (getD os k d) ≡ true
+
+-- the step x of the side at place k with the rest o: the words of the others stay
+pub record AtSide (x : Res Moved) (ls : List (List ℕ)) (k : ℕ) (o : Rest) (ms : List (List ℕ)) (r : RestStep) : Type 0 where
+  pub words : List ℕ
+  pub others : ms ≡ set ls k words
+  pub step : StepIs x (getD ls k []) o words r
+
+-- what is said is that a value left
+abbrev pub isOut : Said → Bool
+isOut said.In = false
+isOut said.Out = true
+isOut said.Silent = false
+isOut (said.Refused n) = false
+
+-- a side's marks after what is said with the words v
+abbrev pub markedBy : Said → List ℕ → List Bool → List Bool
+markedBy said.In v l = l
+markedBy said.Out v l = markAll l v
+markedBy said.Silent v l = l
+markedBy (said.Refused n) v l = l
+
+-- the marks of all sides after what the side at place k says
+pub record MarkedAt (s : Said) (v : List ℕ) (ls : List (List Bool)) (k : ℕ) (ms : List (List Bool)) : Type 0 where
+  pub is : ms ≡ set ls k (markedBy s v (getD ls k []))

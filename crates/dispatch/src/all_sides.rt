@@ -1,0 +1,119 @@
+// A step where the words and the marks of all sides are lent: the words of the side that makes it change, and no others.
+ghost use mathlib.Core.Path.{_≡_};
+ghost use mathlib.Core.Bool.{Bool};
+ghost use mathlib.Core.List.{List, []};
+ghost use Prim.Native.Nat.{ℕ, _-_, _<_, _≤_};
+ghost use lib.ListN.{length, getD};
+ghost use Rattle.model.specs.Wrapper.{allSides};
+ghost use Rattle.model.specs.Step.{local, settled};
+ghost use Rattle.values.specs.Env.{viewValue};
+ghost use Rattle.sides.specs.Sides.{coreOf};
+ghost use Rattle.steps.specs.Asked.{knownBy};
+ghost use Rattle.steps.specs.StepIs.{Sane, StepIs};
+ghost use Rattle.dispatch.specs.Stepping.{settingOf, asked, OwnReady};
+ghost use Rattle.dispatch.specs.Sharing.{shelvesIn, Shelves, AtSide, isOut, MarkedAt};
+use crate::own_side::own_step;
+use loading::place_of;
+use sides::Rest;
+use sides::Rows;
+use sides::Sides;
+use steps::RestStep;
+use steps::Said;
+use steps::mark_all;
+use steps::take;
+use values::Value;
+use wrappers::Source;
+use wrappers::source_of;
+
+// A side's number as a number of places.
+fn wide(n: u32) -> usize
+    ensures { λ r. ⌜ r ≡ n ⌝ }
+{
+    n as usize
+}
+
+// Kind 8 of the side at place k: there are no value words, and j names a route. No word changes.
+fn taking(
+    wrapper: u32,
+    side: u32,
+    rows: &[[u32; Rows::WORDS]; Sides::COUNT],
+    k: usize,
+    shelved: [usize; Sides::COUNT],
+    o: Rest,
+    i: usize,
+    j: usize,
+    words: &[u32],
+) -> RestStep
+    requires { ⌜ (length (now rows) ≡ length allSides) × (k < length allSides) × (Sane (getD (now rows) k []) o) × Shelves (now rows) shelved ⌝ }
+    ensures { λ r. ⌜ ((nodes pool : List ℕ) (ms : List (List Bool)) (n : ℕ) → StepIs (settled (local (settingOf wrapper side nodes pool) (knownBy ms) (shelvesIn (now (rows .entry)) shelved) (coreOf (getD (now (rows .entry)) k []) o) (asked 8 n i j (now (words .entry))))) (getD (now (rows .entry)) k []) o (getD (now (rows .entry)) k []) r) ⌝ }
+{
+    if words.len() != 0 {
+        return RestStep::plain(Said::Refused(10), o);
+    }
+    let s = source_of(wrapper, side, j);
+    let Source::Side(m) = s else {
+        return RestStep::plain(Said::Refused(10), o);
+    };
+    let p = place_of(m);
+    take(&rows[k], o, &rows[p], shelved[p], wide(m), i)
+}
+
+// Kinds 1 to 8 of a side. `shelved` says how many values each side has on its shelf.
+pub fn side_step(
+    wrapper: u32,
+    nodes: &[u32],
+    pool: &[u32],
+    side: u32,
+    rows: &mut [[u32; Rows::WORDS]; Sides::COUNT],
+    shelved: [usize; Sides::COUNT],
+    marks: &[[bool; Sides::MARKS]; Sides::COUNT],
+    o: Rest,
+    kind: u32,
+    i: usize,
+    j: usize,
+    words: &[u32],
+) -> RestStep
+    requires { ⌜ (length (now rows) ≡ length allSides) × (length (now marks) ≡ length allSides) × (0 < side) × (side - 1 < length allSides) × (OwnReady (settingOf wrapper side (now nodes) (now pool)) (getD (now rows) (side - 1) []) o) × Shelves (now rows) shelved ⌝ }
+    ensures { λ r. ⌜ ((n : ℕ) → AtSide (settled (local (settingOf wrapper side (now (nodes .entry)) (now (pool .entry))) (knownBy (now (marks .entry))) (shelvesIn (now (rows .entry)) shelved) (coreOf (getD (now (rows .entry)) (side - 1) []) o) (asked kind n i j (now (words .entry))))) (now (rows .entry)) (side - 1) o (now (rows .exit)) r) ⌝ }
+{
+    let k = place_of(side);
+    if kind == 8 {
+        return taking(wrapper, side, rows, k, shelved, o, i, j, words);
+    }
+    own_step(
+        wrapper,
+        nodes,
+        pool,
+        side,
+        &mut rows[k],
+        marks,
+        o,
+        kind,
+        i,
+        j,
+        words,
+    )
+}
+
+// Whether what is said is that a value left.
+fn is_out(said: Said) -> bool
+    ensures { λ r. ⌜ r ≡ isOut said ⌝ }
+{
+    match said {
+        Said::In => false,
+        Said::Out => true,
+        Said::Silent => false,
+        Said::Refused(_) => false,
+    }
+}
+
+// The marks of a side after what it said: the minted names of a value that left are marked. The caller has seen that v fits its array.
+pub fn mark_left(marks: &mut [[bool; Sides::MARKS]; Sides::COUNT], side: u32, said: Said, v: Value)
+    requires { ⌜ (length (now marks) ≡ length allSides) × (0 < side) × (side - 1 < length allSides) × (v .len ≤ 16) ⌝ }
+    ensures { λ _. ⌜ MarkedAt said (viewValue v) (now (marks .entry)) (side - 1) (now (marks .exit)) ⌝ }
+{
+    let k = place_of(side);
+    if is_out(said) {
+        mark_all(&mut marks[k], v);
+    }
+}

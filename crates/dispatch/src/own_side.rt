@@ -1,0 +1,118 @@
+// Kinds 1 to 7: the side's own words are lent.
+ghost use mathlib.Core.Path.{_≡_};
+ghost use mathlib.Core.List.{List};
+ghost use Prim.Native.Nat.{ℕ};
+ghost use lib.ListN.{length};
+ghost use Rattle.model.specs.Wrapper.{allSides, shelves};
+ghost use Rattle.model.specs.Load.{Setting};
+ghost use Rattle.model.specs.Step.{local, settled};
+ghost use Rattle.sides.specs.Sides.{coreOf};
+ghost use Rattle.steps.specs.Asked.{knownBy};
+ghost use Rattle.steps.specs.StepIs.{Sane, StepIs};
+ghost use Rattle.dispatch.specs.Stepping.{settingOf, asked, onePlace, twoPlaces, OwnReady};
+use meeting::meet;
+use sides::Rest;
+use sides::Sides;
+use steps::RestStep;
+use steps::Said;
+use steps::descend;
+use steps::down;
+use steps::enter;
+use steps::leave;
+use steps::pass;
+use steps::up;
+use wrappers::has_shelf;
+
+// Kinds 2, 3, 6 and 7: the steps that name one place. `shelving` says whether what goes up on `mid` goes to the shelf.
+fn one_place(shelving: bool, rows: &mut [u32], o: Rest, kind: u32, i: usize) -> RestStep
+    requires { ⌜ Sane (now rows) o ⌝ }
+    ensures { λ r. ⌜ ((c : Setting) → shelves (c .wrapper) (c .side) ≡ shelving → StepIs (settled (onePlace c (coreOf (now (rows .entry)) o) kind i)) (now (rows .entry)) o (now (rows .exit)) r) ⌝ }
+{
+    if kind == 2 {
+        return down(rows, o, i);
+    }
+    if kind == 3 {
+        return up(shelving, rows, o, i);
+    }
+    if kind == 6 {
+        return pass(rows, o, i);
+    }
+    if kind == 7 {
+        return leave(rows, o, i);
+    }
+    RestStep::plain(Said::Refused(10), o)
+}
+
+// Kinds 2 to 7.
+fn two_places(
+    wrapper: u32,
+    nodes: &[u32],
+    pool: &[u32],
+    side: u32,
+    rows: &mut [u32],
+    o: Rest,
+    kind: u32,
+    i: usize,
+    j: usize,
+) -> RestStep
+    requires { ⌜ OwnReady (settingOf wrapper side (now nodes) (now pool)) (now rows) o ⌝ }
+    ensures { λ r. ⌜ StepIs (settled (twoPlaces (settingOf wrapper side (now (nodes .entry)) (now (pool .entry))) (coreOf (now (rows .entry)) o) kind i j)) (now (rows .entry)) o (now (rows .exit)) r ⌝ }
+{
+    if kind == 4 {
+        return descend(rows, o, i, j);
+    }
+    if kind == 5 {
+        return meet(nodes, pool, side, rows, o, i, j);
+    }
+    if j == 0 {
+        return one_place(has_shelf(wrapper, side), rows, o, kind, i);
+    }
+    RestStep::plain(Said::Refused(10), o)
+}
+
+// Kind 1: unused i and j must be 0.
+fn entering(
+    rows: &[u32],
+    o: Rest,
+    marks: &[[bool; Sides::MARKS]; Sides::COUNT],
+    i: usize,
+    j: usize,
+    words: &[u32],
+) -> RestStep
+    requires { ⌜ (Sane (now rows) o) × (length (now marks) ≡ length allSides) ⌝ }
+    ensures { λ r. ⌜ ((c : Setting) (sh : ℕ → List (List ℕ)) (n : ℕ) → StepIs (settled (local c (knownBy (now (marks .entry))) sh (coreOf (now (rows .entry)) o) (asked 1 n i j (now (words .entry))))) (now (rows .entry)) o (now (rows .entry)) r) ⌝ }
+{
+    if i == 0 {
+        if j == 0 {
+            return enter(rows, o, marks, words);
+        }
+        return RestStep::plain(Said::Refused(10), o);
+    }
+    RestStep::plain(Said::Refused(10), o)
+}
+
+// Kinds 1 to 7.
+pub(crate) fn own_step(
+    wrapper: u32,
+    nodes: &[u32],
+    pool: &[u32],
+    side: u32,
+    rows: &mut [u32],
+    marks: &[[bool; Sides::MARKS]; Sides::COUNT],
+    o: Rest,
+    kind: u32,
+    i: usize,
+    j: usize,
+    words: &[u32],
+) -> RestStep
+    requires { ⌜ (OwnReady (settingOf wrapper side (now nodes) (now pool)) (now rows) o) × (length (now marks) ≡ length allSides) × (kind ≡ 8 → ⊥) ⌝ }
+    ensures { λ r. ⌜ ((sh : ℕ → List (List ℕ)) (n : ℕ) → StepIs (settled (local (settingOf wrapper side (now (nodes .entry)) (now (pool .entry))) (knownBy (now (marks .entry))) sh (coreOf (now (rows .entry)) o) (asked kind n i j (now (words .entry))))) (now (rows .entry)) o (now (rows .exit)) r) ⌝ }
+{
+    if kind == 1 {
+        return entering(rows, o, marks, i, j, words);
+    }
+    if words.len() == 0 {
+        return two_places(wrapper, nodes, pool, side, rows, o, kind, i, j);
+    }
+    RestStep::plain(Said::Refused(10), o)
+}

@@ -1,0 +1,42 @@
+-- What load answers, as the structs hold it.
+use mathlib.Core.Path.{_≡_}
+use mathlib.Core.Bool.{true}
+use mathlib.Core.List.{map}
+use mathlib.Core.Option.{some}
+use Prim.Native.Nat.{ℕ}
+use Rattle.model.specs.Basics.{has}
+use Rattle.model.specs.Side.{noSide}
+use Rattle.model.specs.Side.{Side as MSide, State as MState}
+use Rattle.model.specs.Wrapper.{allSides, hasSide}
+use Rattle.model.specs.Load.{Composition, wrapperOf, Loaded, refused, ok}
+use Rattle.model.specs.Load.{table as tableOf}
+use Rattle.sides.specs.declared.Side.{Side}
+use Rattle.sides.specs.declared.State.{State}
+use Rattle.sides.specs.Sides.{viewSide, viewState, fitsSide, fitsArrays, stateOf}
+use Rattle.loading.specs.Loading.{outcomeOf}
+use Rattle.loading.specs.Starting.{Startable}
+use Rattle.interpreter.specs.declared.LoadAnswer.{LoadAnswer}
+
+-- r is the side o, every count within its array
+pub record SideIs (o : MSide) (r : Side) : Type 0 where
+  pub view : viewSide r ≡ o
+  pub fits : fitsSide (r .words) (r .rest) ≡ true
+
+-- r is the state s, every count within its array
+pub record StateIs (s : MState) (r : State) : Type 0 where
+  pub view : viewState r ≡ s
+  pub fits : fitsArrays r ≡ true
+
+-- every side that the wrapper has passes checks 1 to 7
+pub record AllStartable (b : Composition) : Type 0 where
+  pub sides : (n : ℕ) → has n allSides ≡ true → hasSide (wrapperOf b) n ≡ true → Startable n (tableOf b n)
+
+-- the state beside what load says: nothing where it refuses
+abbrev pub stateLoaded : Loaded → MState
+stateLoaded (refused x) = record { sides = map (λ n. noSide) allSides }
+stateLoaded (ok s) = s
+
+-- r is what load answers
+pub record LoadIs (l : Loaded) (r : LoadAnswer) : Type 0 where
+  pub outcome : r .outcome ≡ outcomeOf l
+  pub state : stateOf (r .state) ≡ some (stateLoaded l)

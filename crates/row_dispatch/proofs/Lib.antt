@@ -1,3 +1,0 @@
-pub mod ByKind
-pub mod AllSides
-pub mod InState

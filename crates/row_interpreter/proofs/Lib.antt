@@ -1,3 +1,0 @@
-pub mod LoadLaws
-pub mod StepLaws
-pub mod FindLaws

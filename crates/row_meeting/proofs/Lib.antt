@@ -1,6 +1,0 @@
-pub mod MeetSteps
-pub mod Inputs
-pub mod PairLaws
-pub mod Joining
-pub mod Removing
-pub mod Meetings

@@ -1,3 +1,0 @@
-pub mod BeginLaws
-pub mod RunLaws
-pub mod Turns

@@ -1,2 +1,0 @@
-pub mod StepIs
-pub mod Asked

@@ -1,2 +1,0 @@
-pub mod Scoped
-pub mod Unfolded

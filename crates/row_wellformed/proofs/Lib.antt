@@ -1,6 +1,0 @@
-pub mod TestLaws
-pub mod HeldLaws
-pub mod ListLaws
-pub mod ParticleLaws
-pub mod SideLaws
-pub mod StateLaws

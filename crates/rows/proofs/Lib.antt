@@ -1,9 +1,0 @@
-pub mod Sets
-pub mod Parts
-pub mod Storing
-pub mod Reading
-pub mod Substituting
-pub mod Viewing
-pub mod Putting
-pub mod Binding
-pub mod Behind

@@ -1,5 +1,0 @@
-pub mod Layout
-pub mod Stored
-pub mod Environments
-pub mod Sides
-pub mod Puts
