@@ -36,13 +36,16 @@ fn tuple_names(e: &[u32], n: usize) -> Marks
     requires { ⌜ Fits (now e) n ⌝ }
     ensures { λ r. ⌜ ((m : ℕ) → m < 64 → getD (r .on) m false ≡ tupleOf (value (envOf (now (e .entry)) n) m)) ⌝ }
 {
-    let mut r = Marks::none();
+    let mut on = [false; 64];
     let mut k: usize = 0;
     while k < n {
-        r = r.put(wide(e[k]), tuple_in(e, k));
+        let x = wide(e[k]);
+        if x < 64 {
+            on[x] = tuple_in(e, k);
+        }
         k += 1;
     }
-    r
+    Marks { on }
 }
 
 // Whether no name that the environment binds to a tuple is free as a channel, tag or box name in the term at a node.

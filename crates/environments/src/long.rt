@@ -58,15 +58,17 @@ fn sizes_of(e: &[u32], n: usize) -> Sizes
     requires { ⌜ Fits (now e) n ⌝ }
     ensures { λ r. ⌜ ((m : ℕ) → m < 64 → getD (r .of) m 0 ≡ length (value (envOf (now (e .entry)) n) m)) ⌝ }
 {
-    let mut r = Sizes { of: [1; 64] };
+    let mut of = [1u8; 64];
     let mut k: usize = 0;
     while k < n {
+        let x = wide(e[k]);
         let a = Rows::HEAD + Rows::PLACE * k;
-        let m = e[a] as u8;
-        r = r.put(wide(e[k]), m);
+        if x < 64 {
+            of[x] = e[a] as u8;
+        }
         k += 1;
     }
-    r
+    Sizes { of }
 }
 
 // Whether a table's value stands for over 16 words.

@@ -1,5 +1,6 @@
 -- A line's numbers, one after the other, and lines of more than 21 numbers.
-use mathlib.Core.Path.{_≡_, refl, sym, ap, _∙_}
+use mathlib.Core.Path.{_≡_, refl, sym, ap, ap₂, _∙_}
+use mathlib.Core.Logic.{_⊎_, inl, inr}
 use mathlib.Core.Bool.{Bool, true, false}
 use mathlib.Core.List.{List, [], _∷_, _++_, append-assoc, append-nil}
 use mathlib.Core.Option.{Option, none, some}
@@ -8,7 +9,7 @@ use native.Mathlib.Omega.{arith}
 use native.Mathlib.Numerals.{add-one}
 use borrow.Author.Tests.{le-leb, lt-leb, leb-true, leb-false, eq-eqb, ne-eqb}
 use lib.Dec.{leb, eqb}
-use lib.ListN.{length, getD, take, set, length-append, length-take}
+use lib.ListN.{length, getD, take, set, length-append, length-set, length-take}
 use lib.Seq.{take-suc-set, slice-cons, length-slice}
 use Rattle.model.specs.Basics.{choose}
 use Rattle.format.specs.Lines.{tab, pieces, number, numbers, Line, lineOf}
@@ -60,6 +61,11 @@ module _ (c n w : ℕ) (ws : List ℕ) (full : length ws ≡ 21) where
       go : (b : Bool) → leb n 21 ≡ b → pushed w (viewLine (struct c ws n)) ≡ none
       go true e = ap (pushed w) (view-line c n ws (leb-true n 21 e)) ∙ is-long c (take n ws ++ (w ∷ [])) (omega (arith, longer (leb-true n 21 e)))
       go false e = ap (pushed w) (view-none c n ws (leb-false n 21 e))
+
+  -- whichever of the two
+  pub push-either : (vs : List ℕ) (m : ℕ) → ((n < 21) × (vs ≡ set ws n w) × (m ≡ n + 1)) ⊎ ((21 ≤ n) × (vs ≡ ws) × (m ≡ 22)) → (length vs ≡ 21) × (viewLine (struct c vs m) ≡ pushed w (viewLine (struct c ws n)))
+  push-either vs m (inl (h, a, b)) = (ap length a ∙ length-set ws n w ∙ full, ap₂ (λ (l : List ℕ) (k : ℕ). viewLine (struct c l k)) a b ∙ push-in h)
+  push-either vs m (inr (h, a, b)) = (ap length a ∙ full, ap₂ (λ (l : List ℕ) (k : ℕ). viewLine (struct c l k)) a b ∙ push-out 22 h (omega arith))
 
 -- a line with some numbers more, none where there are none
 abbrev pub after : Option Line → Option (List ℕ) → Option Line

@@ -6,7 +6,7 @@ ghost use Prim.Native.Nat.{_≤_};
 ghost use lib.ListN.{length};
 ghost use Rattle.bytes.specs.Bytes.{slice};
 ghost use Rattle.format.specs.Lines.{tab, number, pieces, numbers, lineOf};
-ghost use Rattle.reading.specs.Fields.{answerOf, viewLine, short, pushed, lineWith};
+ghost use Rattle.reading.specs.Fields.{answerOf, viewLine, short, lineWith};
 
 // A field as a number.
 pub(crate) enum Number {
@@ -78,41 +78,29 @@ impl Line {
             len: 0,
         }
     }
-
-    // One number more; a line with 21 numbers is at fault then.
-    fn push(mut self, w: u32) -> Line
-        ensures { λ r. ⌜ viewLine r ≡ pushed w (viewLine self) ⌝ }
-    {
-        let n = self.len;
-        if n < 21 {
-            self.words[n] = w;
-            self.len = n + 1;
-        } else {
-            self.len = 22;
-        }
-        self
-    }
 }
 
-// A letter's line with the numbers of the fields from one place up to another.
+// A letter's line with the numbers of the fields from one place up to another. It is at fault with more than 21 of them.
 fn with_numbers(letter: u8, s: &[u8], from: usize, to: usize) -> Line
     requires { ⌜ (from ≤ to) × (to ≤ length (now s)) ⌝ }
     ensures { λ r. ⌜ viewLine r ≡ short (lineWith letter (numbers (pieces tab (slice from to (now (s .entry)))))) ⌝ }
 {
-    let mut r = Line::alone(letter);
+    let mut words = [0u32; 21];
+    let mut len: usize = 0;
     let mut at = from;
     loop {
         let q = bytes::scan::find(s, at, to, 9);
-        match number_at(s, at, q) {
-            Number::Bad => {
-                return Line::bad();
-            }
-            Number::Word(w) => {
-                r = r.push(w);
-            }
+        let Number::Word(w) = number_at(s, at, q) else {
+            return Line::bad();
+        };
+        if len < 21 {
+            words[len] = w;
+            len += 1;
+        } else {
+            len = 22;
         }
         if q == to {
-            return r;
+            return Line { letter, words, len };
         }
         at = q + 1;
     }

@@ -2,10 +2,10 @@
 use mathlib.Core.Path.{_≡_, refl, sym, ap, _∙_, subst}
 use mathlib.Core.Bool.{Bool, true, false, not}
 use mathlib.Core.List.{List, [], _∷_, _++_, append-assoc, append-nil}
-use Prim.Native.Nat.{ℕ, _+_, _-_, _<_, _≤_}
+use Prim.Native.Nat.{ℕ, _+_, _-_, _<_, _≤_, min}
 use native.Mathlib.Omega.{arith}
 use native.Mathlib.Numerals.{add-one}
-use borrow.Author.Tests.{le-leb, lt-leb, ltb-true, ltb-false}
+use borrow.Author.Tests.{le-leb, lt-leb, leb-true, leb-false, ltb-true, ltb-false}
 use lib.Dec.{leb, ltb}
 use lib.ListN.{length, getD, take, drop, set, drop-of-length-le, length-drop, length-append, length-take}
 use lib.Seq.{take-nil, take-suc, take-suc-set, take-all, take-append-le, getD-take}
@@ -42,12 +42,24 @@ module _ (l ws : List ℕ) (n w : ℕ) (full : length ws ≡ 16) (s : Stores l (
 pub stores-short : (l : List ℕ) (r : Value) → Stores l r → length l ≤ 16 → viewValue r ≡ l
 stores-short l r s h = s .words ∙ take-all 16 l h
 
--- the words of a slice, one further
-pub slice-more : (s : List ℕ) (i : ℕ) (b r : Value) → i < length s → Stores (take i s) b → ((l : List ℕ) → Stores l b → Stores (l ++ (getD s i 0 ∷ [])) r) → Stores (take (i + 1) s) r
-slice-more s i b r h p f = subst (λ (x : List ℕ). Stores x r) (sym (rw (add-one, take-suc s i 0 h))) (f _ p)
+-- the words of a slice, one copied further, and all of them
+pub copied-more : (s ws : List ℕ) (i : ℕ) → i < length s → i < length ws → take i ws ≡ take i s → take (i + 1) (set ws i (getD s i 0)) ≡ take (i + 1) s
+copied-more s ws i h k e =
+    ap (λ (n : ℕ). take n (set ws i (getD s i 0))) (add-one i) ∙ take-suc-set ws i (getD s i 0) k
+    ∙ ap (λ (x : List ℕ). x ++ (getD s i 0 ∷ [])) e ∙ sym (rw (add-one, take-suc s i 0 h))
 
-pub slice-all : (s : List ℕ) (i : ℕ) (r : Value) → length s ≤ i → Stores (take i s) r → Stores s r
-slice-all s i r h p = subst (λ (x : List ℕ). Stores x r) (take-all i s h) p
+pub copied-all : (s ws : List ℕ) (i n : ℕ) → length ws ≡ 16 → i ≡ min (length s) 16 → n ≡ min (length s) 17 → take i ws ≡ take i s → Stores s (val ws n)
+copied-all s ws i n full c m e = record { count = omega arith; words = go (leb (length s) 16) refl }
+  where
+    go : (b : Bool) → leb (length s) 16 ≡ b → take n ws ≡ take 16 s
+    go true q =
+        let h = leb-true (length s) 16 q in
+        let a : n ≡ i = omega arith in
+        ap (λ (k : ℕ). take k ws) a ∙ e ∙ take-all i s (omega arith) ∙ sym (take-all 16 s h)
+    go false q =
+        let h = leb-false (length s) 16 q in
+        let a : i ≡ 16 = omega arith in
+        take-all n ws (omega arith) ∙ sym (take-all i ws (omega arith)) ∙ e ∙ ap (λ (k : ℕ). take k s) a
 
 -- the words of a value, one further
 pub join-more : (v : Value) (l : List ℕ) (k : ℕ) (b r : Value) → k < length (viewValue v) → Stores (l ++ take k (viewValue v)) b →

@@ -372,13 +372,16 @@ impl Value {
     pub fn of(s: &[u32]) -> Value
         ensures { λ r. ⌜ Stores (now (s .entry)) r ⌝ }
     {
-        let mut b = Value::none();
+        let n = s.len();
+        let stored = if n < 16 { n } else { 16 };
+        let mut words = [0u32; 16];
         let mut i: usize = 0;
-        while i < s.len() {
-            b = b.push(s[i]);
+        while i < stored {
+            words[i] = s[i];
             i += 1;
         }
-        b
+        let len = if n < 17 { n } else { 17 };
+        Value { words, len }
     }
 
     // The words of v more.

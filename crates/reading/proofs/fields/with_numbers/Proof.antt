@@ -1,58 +1,51 @@
--- The fields up to a place are numbers, which the line holds.
+-- The fields up to a place are numbers, which the words hold; past the 21st the length says that the line is at fault.
 use mathlib.Core.Path.{_≡_, sym, _∙_}
+use mathlib.Core.Logic.{⊎-elim, inl, inr}
 use Prim.Native.Nat.{_≤_, _-_}
+use lib.ListN.{length}
 use Rattle.format.specs.Lines.{tab, pieces, numbers}
 use Rattle.bytes.specs.Bytes.{slice}
 use Rattle.reading.specs.Fields.{viewLine, short, lineWith}
-use Rattle.reading.proofs.LineLaws.{after, start-line, field-bad, field-last, field-next}
+use Rattle.reading.proofs.LineLaws.{struct, after, start-line, view-empty, push-either, field-bad, field-last, field-next}
 use borrow.Author.Needs.{needs}
 use Rattle.reading.proofs.fields.with_numbers.Statement.{statement}
 use Rattle.reading.proofs.fields.with_numbers.Tie as tie
 
 abbrev Inv-loop : tie.InvT-loop
-Inv-loop letter s from to r₀ at₀ r at = (at ≤ to) × (short (lineWith letter (numbers (pieces tab (slice from to s)))) ≡ after (viewLine r) (numbers (pieces tab (slice at to s))))
+Inv-loop letter s from to words₀ len₀ at₀ words len at =
+    (at ≤ to) × (length words ≡ 21) × (short (lineWith letter (numbers (pieces tab (slice from to s)))) ≡ after (viewLine (struct letter words len)) (numbers (pieces tab (slice at to s))))
 
 abbrev μ-loop : tie.MeasureT-loop
-μ-loop letter s from to r₀ at₀ r at = to - at
-
-alone-requires : tie.Need-alone-requires Inv-loop μ-loop
-alone-requires c κs = search needs
+μ-loop letter s from to words₀ len₀ at₀ words len at = to - at
 
 loop-holds : tie.Need-loop-holds Inv-loop μ-loop
-loop-holds c = (search needs, start-line _ _ _ (c .alone .ensures))
-
-find-requires : tie.Need-find-requires Inv-loop μ-loop
-find-requires c κs = search needs
-
-number-at-requires : tie.Need-number-at-requires Inv-loop μ-loop
-number-at-requires c κs = search needs
-
-enum-told : tie.Need-enum-told Inv-loop μ-loop
-enum-told c = search needs
-
-bad-requires : tie.Need-bad-requires Inv-loop μ-loop
-bad-requires c κs = search needs
+loop-holds c = (search needs, search needs, start-line _ _ _ (view-empty _ _))
 
 returns : tie.Need-returns Inv-loop μ-loop
-returns c = let l = c .before .before .before .before .before .loop in c .bad .ensures ∙ sym (l .inv .1 ∙ field-bad (c .before .before .before .before .before .before .before .before .args .s .now) (l .at) (c .before .before .before .before .before .before .before .before .args .to) (c .before .before .before .before .find .result) (search needs) (search needs) (c .before .before .before .before .find .ensures .0) (c .before .before .before .before .find .ensures .1) (viewLine (l .r)) (sym (c .before .before .before .number-at .ensures) ∙ c .before .enum-told .given .1))
-
-enum-known-w : tie.Need-enum-known-w Inv-loop μ-loop
-enum-known-w c = search needs
-
-push-requires : tie.Need-push-requires Inv-loop μ-loop
-push-requires c κs = search needs
+returns c =
+    let a = c .before .before .before .before .before .before .before .args in
+    let l = c .before .before .before .before .before .loop in
+    let f = c .before .before .before .before .find in
+    let bad = sym (c .before .before .before .number-at .ensures) ∙ c .before .enum-told .given .1 in
+    c .bad .ensures ∙ sym (l .inv .2 ∙ field-bad (a .s .now) (l .at) (a .to) (f .result) (search needs) (search needs) (f .ensures .0) (f .ensures .1) (viewLine (struct (a .letter) (l .words) (l .len))) bad)
 
 returns-2 : tie.Need-returns-2 Inv-loop μ-loop
-returns-2 c = let l = c .before .before .before .before .before .before .before .loop in c .before .push .ensures ∙ sym (l .inv .1 ∙ field-last (c .before .before .before .before .before .before .before .before .before .before .args .s .now) (l .at) (c .before .before .before .before .before .before .before .before .before .before .args .to) (c .before .before .before .before .before .before .find .result) (search needs) (search needs) (c .before .before .before .before .before .before .find .ensures .0) (c .if1 .taken) (viewLine (l .r)) _ (sym (c .before .before .before .before .before .number-at .ensures) ∙ c .before .before .before .w .given .1))
-
-add-at : tie.Need-add-at Inv-loop μ-loop
-add-at c = search needs
-
-loop-less : tie.Need-loop-less Inv-loop μ-loop
-loop-less c = search needs
+returns-2 c =
+    let a = c .before .before .before .before .before .before .before .before .before .args in
+    let l = c .before .before .before .before .before .before .before .loop in
+    let f = c .before .before .before .before .before .before .find in
+    let word = sym (c .before .before .before .before .before .number-at .ensures) ∙ c .before .before .before .w .given .1 in
+    let next = push-either (a .letter) (l .len) _ (l .words) (l .inv .1) _ _ (⊎-elim (λ q. inl (q .0 .taken, q .1, q .2)) (λ q. inr (q .0 .left, q .1, q .2)) (c .before .if1 .came)) in
+    next .1 ∙ sym (l .inv .2 ∙ field-last (a .s .now) (l .at) (a .to) (f .result) (search needs) (search needs) (f .ensures .0) (c .if2 .taken) (viewLine (struct (a .letter) (l .words) (l .len))) _ word)
 
 loop-again : tie.Need-loop-again Inv-loop μ-loop
-loop-again c = let l = c .before .before .before .before .before .before .before .loop in (search needs, l .inv .1 ∙ field-next (c .before .before .before .before .before .before .before .before .before .before .args .s .now) (l .at) (c .before .before .before .before .before .before .before .before .before .before .args .to) (c .before .before .before .before .before .before .find .result) (search needs) (search needs) (c .before .before .before .before .before .before .find .ensures .0) (search needs) (viewLine (l .r)) _ _ (sym (c .before .before .before .before .before .number-at .ensures) ∙ c .before .before .before .w .given .1) (c .before .push .ensures))
+loop-again c =
+    let a = c .before .before .before .before .before .before .before .before .before .args in
+    let l = c .before .before .before .before .before .before .before .loop in
+    let f = c .before .before .before .before .before .before .find in
+    let word = sym (c .before .before .before .before .before .number-at .ensures) ∙ c .before .before .before .w .given .1 in
+    let next = push-either (a .letter) (l .len) _ (l .words) (l .inv .1) _ _ (⊎-elim (λ q. inl (q .0 .taken, q .1, q .2)) (λ q. inr (q .0 .left, q .1, q .2)) (c .before .if1 .came)) in
+    (search needs, next .0, l .inv .2 ∙ field-next (a .s .now) (l .at) (a .to) (f .result) (search needs) (search needs) (f .ensures .0) (search needs) (viewLine (struct (a .letter) (l .words) (l .len))) _ _ word (next .1))
 
 pub with-numbers-spec : {M : Type 1} → statement M
 with-numbers-spec =
@@ -60,16 +53,17 @@ with-numbers-spec =
     (tie.spec
     Inv-loop
     μ-loop
-    alone-requires
     loop-holds
-    find-requires
-    number-at-requires
-    enum-told
-    bad-requires
+    (λ c κs. search needs)
+    (λ c κs. search needs)
+    (λ c. search needs)
+    (λ c. search needs)
+    (λ c κs. search needs)
     returns
-    enum-known-w
-    push-requires
+    (λ c. search needs)
+    (λ c. search needs)
+    (λ c. search needs)
     returns-2
-    add-at
-    loop-less
+    (λ c. search needs)
+    (λ c. search needs)
     loop-again)
