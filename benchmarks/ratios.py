@@ -7,16 +7,22 @@ instructions and not seconds, and prints Markdown tables: both counts and their 
 particles, in which functions bench's instructions fall, and the peaks of its stack and of its resident memory. Two outputs
 that differ in a byte are an error; so is an input that is not what its name says.
 
+The first table is CPU time, which a person waits for: that of the process and of the system for it, the middle one of many
+runs, the programs by turns. It holds the start of a process. Beside it stands a floor: what bench takes for the same lines
+where each step's kind is 9, which is refused before any state is looked at.
+
 Large copies are counted in two ways. On many machines the C library copies over 2 KB by one repeated string instruction,
 and callgrind counts that once for each byte. So the first count is made with the library told to copy by vector registers,
 32 bytes at a time, and the second with what the library does by itself, in which a byte copied is about one instruction.
 Growth is given in the first way.
 
     python3 benchmarks/ratios.py               all tables; some minutes
+    python3 benchmarks/ratios.py --times       only the first table
     python3 benchmarks/ratios.py --inputs DIR  only writes the inputs into a folder
 """
 import os
 import re
+import statistics
 import subprocess
 import sys
 import tempfile
@@ -32,6 +38,7 @@ NODES = 256
 POOL = 1024
 WILDCARD = 4999999
 AIM = 50_000_000
+RUNS = 300
 
 # How the C library is to copy and fill: by vector registers whatever the size, or as it chooses.
 VECTORS = "glibc.cpu.x86_rep_movsb_threshold=1000000000:glibc.cpu.x86_rep_stosb_threshold=1000000000"
@@ -420,6 +427,42 @@ def heading(*cells):
     row(*(["---"] * len(cells)))
 
 
+def cpu(program, path):
+    """CPU time in microseconds of a program that reads a file, its output thrown away."""
+    actions = [(os.POSIX_SPAWN_OPEN, 0, path, os.O_RDONLY, 0), (os.POSIX_SPAWN_OPEN, 1, os.devnull, os.O_WRONLY, 0)]
+    child = os.posix_spawn(program, [program], {"PATH": os.environ["PATH"]}, file_actions=actions)
+    _, status, used = os.wait4(child, 0)
+    if status != 0:
+        sys.exit("%s ended with status %d" % (program, status))
+    return 1e6 * (used.ru_utime + used.ru_stime)
+
+
+def by_turns(*what):
+    """The middle CPU time of each program on its input, over runs by turns."""
+    with tempfile.TemporaryDirectory() as folder:
+        paths = []
+        for n, (program, data) in enumerate(what):
+            paths.append(os.path.join(folder, str(n)))
+            with open(paths[n], "wb") as target:
+                target.write(data)
+        taken = [[cpu(program, path) for (program, _), path in zip(what, paths)] for _ in range(RUNS)]
+    return [statistics.median(column) for column in zip(*taken)]
+
+
+def without_a_state(data):
+    """The same lines, with a kind for each step that is refused before any state is looked at."""
+    return re.sub(rb"(?m)^S\t0*\d", lambda found: found.group()[:-1] + b"9", data)
+
+
+def times(inputs):
+    heading("input", "steps", "bench, µs", "reference, µs", "ratio", "floor, µs")
+    for name, data, wanted in inputs:
+        ours, theirs, floor = by_turns((BENCH, data), (REFERENCE, data), (BENCH, without_a_state(data)))
+        row(name, steps_in(data), round(ours), round(theirs), "%.2f" % (ours / theirs), round(floor))
+    empty, theirs = by_turns((BENCH, b""), (REFERENCE, b""))
+    print("\nAn empty input takes bench {:,.0f} and the reference {:,.0f} µs.".format(empty, theirs))
+
+
 def growth(title, unit, sizes, make, wanted):
     heading(title + ": " + unit, "bytes", "steps", "bench", "to the smallest", "reference", "to the smallest", "ratio")
     first = None
@@ -500,6 +543,9 @@ def main():
     subprocess.run(["cargo", "build", "--release", "--quiet"], cwd=os.path.join(TOP, "reference"), check=True)
 
     inputs = largest()
+    times(inputs)
+    if sys.argv[1:2] == ["--times"]:
+        return
     heading("input", "bytes", "steps", "bench", "reference", "ratio", "bench, a byte copied as one", "reference, the same",
             "ratio")
     most = (0, 0), "", b""
