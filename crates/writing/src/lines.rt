@@ -1,9 +1,9 @@
 // The line of an answer that is given in 20 words.
 ghost use mathlib.Core.Path.{_≡_};
 ghost use Prim.Native.Nat.{_+_, _*_, _≤_, _<_, min};
-ghost use lib.ListN.{length, take, drop};
+ghost use lib.ListN.{length};
 ghost use Rattle.writing.specs.Written.{Written};
-ghost use Rattle.writing.specs.Words.{valueIn, sayingIn, lineIn};
+ghost use Rattle.writing.specs.Words.{valueIn, sayingIn, lineIn, answerAt};
 use super::numbers::put;
 use super::numbers::put_field;
 use super::numbers::put_fields;
@@ -57,7 +57,7 @@ pub(crate) fn put_line(out: &mut [u8], at: usize, index: usize, answers: &[u32])
     requires { ⌜ index < 1024 ⌝ }
     requires { ⌜ 20 * index + 20 ≤ length (now answers) ⌝ }
     requires { ⌜ at + 240 ≤ length (now out) ⌝ }
-    ensures { λ r. ⌜ Written (now (out .entry)) at (lineIn index (take 20 (drop (20 * index) (now (answers .entry))))) r (now (out .exit)) ⌝ }
+    ensures { λ r. ⌜ Written (now (out .entry)) at (lineIn index (answerAt index (now (answers .entry)))) r (now (out .exit)) ⌝ }
     ensures { λ r. ⌜ r ≤ at + 201 ⌝ }
 {
     let from = 20 * index;

@@ -1,23 +1,24 @@
--- `writing::answered` meets its contract. The loop's invariant: the lines written, and those of the answers left, are all lines.
-use mathlib.Core.Path.{_≡_, _∙_, ap}
-use mathlib.Core.List.{List, _∷_, _++_}
+-- `writing::answered` meets its contract. The loop's invariant: the lines of the first k answers are written.
+use mathlib.Core.Path.{_≡_, sym, _∙_}
 use Prim.Native.Nat.{_+_, _*_, _-_, _≤_}
-use lib.ListN.{length, take, drop}
-use Rattle.model.specs.Step.{Answer}
-use Rattle.format.specs.Lines.{newline}
-use Rattle.format.specs.Words.{allAnswerWords}
-use Rattle.format.specs.Output.{wordOk, answerLines}
-use Rattle.writing.proofs.AnswerLaws.{line-more, line-none}
+use lib.ListN.{length}
+use Rattle.writing.specs.Written.{Written}
+use Rattle.writing.specs.Words.{linesIn}
+use Rattle.writing.proofs.WrittenLaws.{nothing, joined, spelled, paged}
+use Rattle.writing.proofs.AnswerLaws.{lines-none, lines-more, answered-few, answered-many}
 use borrow.Author.Needs.{needs}
 use native.Mathlib.Omega.{arith}
 use Rattle.writing.proofs.answered.Statement.{statement}
 use Rattle.writing.proofs.answered.Tie as tie
 
 abbrev Inv-loop : tie.InvT-loop
-Inv-loop out₀ answers n at₀ k₀ out at k = (k ≤ n) × (n ≤ 1024) × (at ≤ 3 + 201 * k) × (length out ≡ 206848) × ((xs : List Answer) → length xs ≡ n → take (20 * n) answers ≡ allAnswerWords xs → take at out ++ answerLines k (drop k xs) ≡ wordOk ++ (newline ∷ answerLines 0 xs))
+Inv-loop out₀ answers n at₀ k₀ out at k = (k ≤ n) × (n ≤ 1024) × (at ≤ 3 + 201 * k) × (length out ≡ 206848) × Written out₀ at₀ (linesIn 0 k answers) at out
 
 abbrev μ-loop : tie.MeasureT-loop
 μ-loop out₀ answers n at₀ k₀ out at k = n - k
+
+returns : tie.Need-returns Inv-loop μ-loop
+returns c = paged (spelled (answered-many _ _ (c .if1 .taken)) (nothing _ _)) (omega arith) (omega arith)
 
 slice-aggregate-put : tie.Need-slice-aggregate-put Inv-loop μ-loop
 slice-aggregate-put c = search needs
@@ -25,15 +26,10 @@ slice-aggregate-put c = search needs
 put-requires : tie.Need-put-requires Inv-loop μ-loop
 put-requires c κs = search needs
 
-returns : tie.Need-returns Inv-loop μ-loop
-returns c =
-    let full : length (c .before .before .before .before .args .out .now) ≡ 206848 = search needs in
-    (search needs, (c .before .put .ensures .same ∙ full, λ xs e h w. absurd (omega arith)))
-
 loop-holds : tie.Need-loop-holds Inv-loop μ-loop
 loop-holds c =
-    let first = c .before .put .ensures in
-    (search needs, search needs, omega (arith, first .end), search needs, λ xs e w. ap (λ l. l ++ answerLines 0 xs) (first .text))
+    let a = c .before .before .before .before .args in
+    (search needs, search needs, omega (arith, c .put .ensures .end), search needs, spelled (sym (lines-none 0 (a .answers .now))) (nothing _ _))
 
 put-line-requires : tie.Need-put-line-requires Inv-loop μ-loop
 put-line-requires c κs = search needs
@@ -49,10 +45,16 @@ loop-again c =
     let a = c .before .before .before .before .before .before .before .before .before .args in
     let l = c .before .before .before .before .loop in
     let line = c .put-line .ensures in
-    (search needs, search needs, omega (arith, line .1), line .0 .same ∙ l .inv .3, λ xs e w. line-more (a .answers .now) _ _ _ (a .n) (l .k) (l .at) _ xs (search needs) e w (search needs) (line .0) (l .inv .4 xs e w))
+    (search needs, search needs, omega (arith, line .1), line .0 .same ∙ l .inv .3, spelled (lines-more (l .k) (a .answers .now)) (joined (l .inv .4) (line .0)))
 
 returns-2 : tie.Need-returns-2 Inv-loop μ-loop
-returns-2 c = let l = c .before .loop in (omega arith, (l .inv .3, λ xs e h w. line-none _ _ (l .k) xs (omega arith) (l .inv .4 xs e w)))
+returns-2 c =
+    let a = c .before .before .before .before .before .before .args in
+    let first = c .before .before .put .ensures in
+    let l = c .before .loop in
+    let all : l .k ≡ a .n = omega arith in
+    let lines = joined first (l .inv .4) in
+    paged (spelled (answered-few (a .n) (a .answers .now) (search needs)) (rw all at lines)) (search needs) (omega arith)
 
 pub answered-spec : {M : Type 1} → statement M
 answered-spec =
@@ -60,9 +62,9 @@ answered-spec =
     (tie.spec
     Inv-loop
     μ-loop
+    returns
     slice-aggregate-put
     put-requires
-    returns
     loop-holds
     put-line-requires
     add-k

@@ -1,6 +1,5 @@
 -- `writing::fault` meets its contract.
-use mathlib.Core.Path.{_∙_}
-use Rattle.writing.proofs.WrittenLaws.{joined}
+use Rattle.writing.proofs.WrittenLaws.{joined, paged}
 use borrow.Author.Needs.{needs}
 use Rattle.writing.proofs.fault.Statement.{statement}
 use Rattle.writing.proofs.fault.Tie as tie
@@ -25,8 +24,7 @@ returns c =
     let first = c .before .before .before .before .before .put .ensures in
     let field = c .before .before .before .put-field .ensures in
     let last = c .put2 .ensures in
-    let all = joined (joined first (field .0)) last in
-    (search needs, (all .same ∙ search needs, all .text))
+    paged (joined (joined first (field .0)) last) (search needs) (search needs)
 
 pub fault-spec : {M : Type 1} → statement M
 fault-spec =

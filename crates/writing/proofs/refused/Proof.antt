@@ -1,7 +1,6 @@
 -- `writing::refused` meets its contract.
 use mathlib.Core.List.{[], _∷_}
-use mathlib.Core.Path.{_∙_}
-use Rattle.writing.proofs.WrittenLaws.{joined, spelled}
+use Rattle.writing.proofs.WrittenLaws.{joined, spelled, paged}
 use Rattle.writing.proofs.FieldLaws.{fields-joined}
 use borrow.Author.Needs.{needs}
 use Rattle.writing.proofs.refused.Statement.{statement}
@@ -38,8 +37,7 @@ returns c =
     let last = c .put2 .ensures in
     let two = spelled (fields-joined (a .number ∷ []) (a .side ∷ [])) (joined (field .0) (second .0)) in
     let three = spelled (fields-joined (a .number ∷ a .side ∷ []) (a .node ∷ [])) (joined two (third .0)) in
-    let all = joined (joined first three) last in
-    (search needs, (all .same ∙ search needs, all .text))
+    paged (joined (joined first three) last) (search needs) (search needs)
 
 pub refused-spec : {M : Type 1} → statement M
 refused-spec =

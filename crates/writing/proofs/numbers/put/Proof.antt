@@ -1,6 +1,7 @@
 -- `writing::numbers::put` meets its contract.
-use Prim.Native.Nat.{_-_}
+use Prim.Native.Nat.{_-_, _≤_}
 use lib.ListN.{length}
+use borrow.Rule.Slice.PartMut.{midOf}
 use Rattle.writing.proofs.WrittenLaws.{copied}
 use borrow.Author.Needs.{needs}
 use Rattle.writing.proofs.numbers.put.Statement.{statement}
@@ -28,7 +29,8 @@ returns : tie.Need-returns
 returns c =
     let a = c .before .before .before .before .before .before .args in
     let copy = c .before .before .copy .ensures in
-    record { end = search needs; text = copied (a .out .now) (a .text .now) _ _ (a .at) (length (a .out .now) - a .at) _ (search needs) (copy .0) (copy .1); same = search needs }
+    let part : length (a .text .now) ≤ length (midOf (a .at) (length (a .out .now) - a .at) (a .out .now)) = search needs in
+    record { end = search needs; text = copied (a .out .now) (a .text .now) _ (a .at) (length (a .out .now) - a .at) (search needs) part (copy .1); same = search needs }
 
 pub put-spec : {M : Type 1} → statement M
 put-spec =
