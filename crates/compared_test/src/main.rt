@@ -4,7 +4,7 @@ use changes::put;
 use changes::same_state;
 use changes::word;
 use changes::write;
-use sides::State;
+use rows::State;
 
 // A line: what differs on which side, and whether that is seen. Each of the two states has one thing put anew.
 fn compare(name: &[u8], s: State, side: u32, what: usize, n: usize, other: usize, m: usize) {

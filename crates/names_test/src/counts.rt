@@ -1,6 +1,6 @@
 // Each count of a side.
 ghost use Prim.Native.Nat.{_≤_};
-use sides::State;
+use rows::State;
 use states::case;
 use states::has_shelf;
 

@@ -21,7 +21,7 @@ use counts::counts;
 use names::names;
 use names::value;
 use names::values;
-use sides::State;
+use rows::State;
 
 // What no state may hold, whatever was minted.
 fn any_side(wrapper: u32, side: u32, s: State) {

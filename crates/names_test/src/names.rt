@@ -6,7 +6,7 @@ use changes::put_value;
 use changes::size;
 use changes::word;
 use changes::write;
-use sides::State;
+use rows::State;
 use states::ask;
 use states::case;
 use states::has_shelf;

@@ -5,10 +5,15 @@
 // lines after them have one answer: wrappers, and a state of the other wrapper or of other tables.
 ghost use Prim.Native.Nat.{_≤_};
 use changes::write;
-use interpreter::load;
-use interpreter::step;
-use sides::State;
+use row_interpreter::load;
+use row_interpreter::step;
+use rows::State;
 use states::answer;
+
+// A table that load takes, and its pool: it sends `mid` up.
+const SOUND: [u32; 5] = [4, 2, 1, 0, 0];
+
+const WORDS: [u32; 1] = [20];
 
 // How a line begins.
 fn begin(good: bool, name: &[u8]) {
@@ -22,33 +27,53 @@ fn begin(good: bool, name: &[u8]) {
 }
 
 // The answer of side 1 to `enter` with the name 20.
-fn answered(wrapper: u32, nodes1: &[u32], pool1: &[u32], nodes2: &[u32], pool2: &[u32], s: State) {
+fn answered<'n, 'p>(
+    wrapper: u32,
+    nodes1: &'n [u32],
+    pool1: &'p [u32],
+    nodes2: &'n [u32],
+    pool2: &'p [u32],
+    s: State,
+) {
     let given: [u32; 1] = [20];
-    let r = step(wrapper, nodes1, pool1, nodes2, pool2, s, 1, 1, 0, 0, &given);
+    let r = step(
+        wrapper,
+        [nodes1, nodes2],
+        [pool1, pool2],
+        s,
+        1,
+        1,
+        0,
+        0,
+        &given,
+    );
     answer(s, r);
 }
 
 // Both sides send `mid` up.
 fn sends() -> State {
-    let nodes: [u32; 5] = [4, 2, 1, 0, 0];
-    let pool: [u32; 1] = [20];
+    let nodes = SOUND;
+    let pool = WORDS;
     let n = &nodes[..];
     let p = &pool[..];
-    let a = load(2, n, p, n, p);
+    let a = load(2, [n, n], [p, p]);
     a.state
 }
 
-// A table on side 1 beside a good one on side 2, then on side 2.
-fn table_case(good: bool, name: &[u8], nodes: &[u32], pool: &[u32]) {
-    let sound: [u32; 5] = [4, 2, 1, 0, 0];
-    let words: [u32; 1] = [20];
-    let n = &sound[..];
-    let p = &words[..];
+// A table on side 1 beside a good one, `sound` with the pool `words`, on side 2; then on side 2.
+fn table_case<'n, 'p>(
+    good: bool,
+    name: &[u8],
+    nodes: &'n [u32],
+    pool: &'p [u32],
+    sound: &'n [u32],
+    words: &'p [u32],
+) {
     let s = sends();
     begin(good, name);
-    answered(2, nodes, pool, n, p, s);
+    answered(2, nodes, pool, sound, words, s);
     write(b",");
-    answered(2, n, p, nodes, pool, s);
+    answered(2, sound, words, nodes, pool, s);
     write(b"\n");
 }
 
@@ -56,19 +81,42 @@ fn table_case(good: bool, name: &[u8], nodes: &[u32], pool: &[u32]) {
 fn sizes() {
     let nodes: [u32; 1285] = [0; 1285];
     let pool: [u32; 1025] = [20; 1025];
+    let sound = SOUND;
+    let words = WORDS;
     let n = &nodes[..];
     let p = &pool[..];
-    table_case(true, b"one node, 1024 words", &n[..5], &p[..1024]);
-    table_case(false, b"1025 words", &n[..5], p);
-    table_case(false, b"no node", &n[..0], &p[..1]);
-    table_case(false, b"four words of a node", &n[..4], &p[..1]);
-    table_case(false, b"257 nodes", n, &p[..1]);
+    let t = &sound[..];
+    let w = &words[..];
+    table_case(true, b"one node, 1024 words", &n[..5], &p[..1024], t, w);
+    table_case(false, b"1025 words", &n[..5], p, t, w);
+    table_case(false, b"no node", &n[..0], &p[..1], t, w);
+    table_case(false, b"four words of a node", &n[..4], &p[..1], t, w);
+    table_case(false, b"257 nodes", n, &p[..1], t, w);
 }
 
 // A table of one node and one word.
 fn node_case(good: bool, name: &[u8], node: [u32; 5], value: u32) {
-    let words: [u32; 1] = [value];
-    table_case(good, name, &node, &words);
+    let pool: [u32; 1] = [value];
+    let sound = SOUND;
+    let words = WORDS;
+    table_case(good, name, &node, &pool, &sound, &words);
+}
+
+// Two nodes, of which the second is no child.
+fn no_child() {
+    let nodes: [u32; 10] = [0; 10];
+    let sound = SOUND;
+    let words = WORDS;
+    table_case(false, b"no child", &nodes, &words, &sound, &words);
+}
+
+// A pattern that binds a name twice.
+fn repeated_name() {
+    let nodes: [u32; 10] = [5, 2, 1, 0, 1, 0, 0, 0, 0, 0];
+    let pool: [u32; 3] = [4000002, 20, 20];
+    let sound = SOUND;
+    let words = WORDS;
+    table_case(false, b"repeated name", &nodes, &pool, &sound, &words);
 }
 
 // Refusals 2 to 5.
@@ -78,17 +126,12 @@ fn nodes() {
     node_case(false, b"unused field", [4, 2, 1, 0, 1], 20);
     node_case(false, b"child not above", [2, 5, 0, 0, 0], 20);
     node_case(false, b"child not there", [2, 5, 1, 0, 0], 20);
-    table_case(false, b"no child", &[0, 0, 0, 0, 0, 0, 0, 0, 0, 0], &[20]);
+    no_child();
     node_case(false, b"channel 64", [4, 64, 1, 0, 0], 20);
     node_case(false, b"tag 66", [4, 2, 66, 0, 0], 20);
     node_case(false, b"value past the pool", [4, 2, 1, 1, 0], 20);
     node_case(false, b"value 64", [4, 2, 1, 0, 0], 64);
-    table_case(
-        false,
-        b"repeated name",
-        &[5, 2, 1, 0, 1, 0, 0, 0, 0, 0],
-        &[4000002, 20, 20],
-    );
+    repeated_name();
 }
 
 // The words of at most 18 nodes.
@@ -120,10 +163,12 @@ fn chain_case(good: bool, name: &[u8], kind: u32, n: usize)
 {
     let c = chain(kind, n);
     let nodes = c.nodes;
+    let sound = SOUND;
+    let words = WORDS;
     let t = &nodes[..];
     let e = 5 * n + 5;
     if e <= t.len() {
-        table_case(good, name, &t[0..e], &[20]);
+        table_case(good, name, &t[0..e], &words, &sound, &words);
     }
 }
 
@@ -136,14 +181,14 @@ fn chains() {
 }
 
 // An answer on its own line.
-fn line(
+fn line<'n, 'p>(
     good: bool,
     name: &[u8],
     wrapper: u32,
-    nodes1: &[u32],
-    pool1: &[u32],
-    nodes2: &[u32],
-    pool2: &[u32],
+    nodes1: &'n [u32],
+    pool1: &'p [u32],
+    nodes2: &'n [u32],
+    pool2: &'p [u32],
     s: State,
 ) {
     begin(good, name);
@@ -165,12 +210,12 @@ fn filtered_line(good: bool, name: &[u8], nodes: &[u32], pool: &[u32], s: State)
 
 // Wrappers; a state of the filter and one of the pipeline under the other wrapper; states that suit their tables, under others.
 fn wrappers() {
-    let nodes: [u32; 5] = [4, 2, 1, 0, 0];
-    let pool: [u32; 1] = [20];
+    let nodes = SOUND;
+    let pool = WORDS;
     let n = &nodes[..];
     let p = &pool[..];
     let no = &n[..0];
-    let a = load(1, n, p, no, no);
+    let a = load(1, [n, no], [p, no]);
     let f = a.state;
     let s = sends();
     piped_line(true, b"pipeline", n, p, s);

@@ -1,8 +1,8 @@
 // Trial B, for the question `stranded`: side 2 sends `mid` up, and it can go nowhere.
-use interpreter::Found;
-use interpreter::load;
-use interpreter::step;
-use interpreter::stranded;
+use row_interpreter::Found;
+use row_interpreter::load;
+use row_interpreter::step;
+use row_interpreter::stranded;
 use schedules::shown::number;
 use schedules::shown::write;
 
@@ -18,24 +18,24 @@ fn lost(f: Found) {
 }
 
 // What is stranded on side 2 at the start.
-fn at_start(nodes1: &[u32], nodes2: &[u32], pool: &[u32]) {
-    let a = load(2, nodes1, pool, nodes2, pool);
+fn at_start<'a>(nodes1: &'a [u32], nodes2: &'a [u32], pool: &[u32]) {
+    let a = load(2, [nodes1, nodes2], [pool, pool]);
     let s = a.state;
-    lost(stranded(2, nodes1, pool, nodes2, pool, s, 2));
+    lost(stranded(2, [nodes1, nodes2], [pool, pool], s, 2));
 }
 
 // What is stranded on a side once side 2 has sent its message up.
-fn after_up(nodes1: &[u32], nodes2: &[u32], pool: &[u32], side: u32) {
+fn after_up<'a>(nodes1: &'a [u32], nodes2: &'a [u32], pool: &[u32], side: u32) {
     let none = &nodes1[..0];
-    let a = load(2, nodes1, pool, nodes2, pool);
+    let a = load(2, [nodes1, nodes2], [pool, pool]);
     let s = a.state;
-    let r = step(2, nodes1, pool, nodes2, pool, s, 3, 2, 0, 0, none);
+    let r = step(2, [nodes1, nodes2], [pool, pool], s, 3, 2, 0, 0, none);
     let t = r.state;
-    lost(stranded(2, nodes1, pool, nodes2, pool, t, side));
+    lost(stranded(2, [nodes1, nodes2], [pool, pool], t, side));
 }
 
 // Asks before and after: side 2, and then both.
-fn asked(nodes1: &[u32], nodes2: &[u32], pool: &[u32]) {
+fn asked<'a>(nodes1: &'a [u32], nodes2: &'a [u32], pool: &[u32]) {
     at_start(nodes1, nodes2, pool);
     after_up(nodes1, nodes2, pool, 2);
     after_up(nodes1, nodes2, pool, 1);

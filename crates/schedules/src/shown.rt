@@ -1,5 +1,5 @@
 // Writes what a run comes to, and a line for each answer: name, index, label (with a refusal's number), side and value words.
-use running::Ran;
+use row_running::Ran;
 
 pub fn write(text: &[u8]) {
     io::write_all(1, text);

@@ -3,22 +3,22 @@ use crate::shown::lines;
 use crate::shown::outcome;
 use crate::shown::write;
 use crate::shown::written;
-use running::run;
+use row_running::run;
 
 // A run under a wrapper, with lines for the answers before one index and from another on.
-fn wrapped(
+fn wrapped<'n, 'p>(
     name: &[u8],
     wrapper: u32,
-    nodes1: &[u32],
-    pool1: &[u32],
-    nodes2: &[u32],
-    pool2: &[u32],
+    nodes1: &'n [u32],
+    pool1: &'p [u32],
+    nodes2: &'n [u32],
+    pool2: &'p [u32],
     steps: &[u32],
     first: usize,
     second: usize,
 ) {
     let mut out = [0u32; 15400];
-    let r = run(wrapper, nodes1, pool1, nodes2, pool2, steps, &mut out);
+    let r = run(wrapper, [nodes1, nodes2], [pool1, pool2], steps, &mut out);
     write(name);
     outcome(r);
     write(b"\n");
@@ -28,7 +28,8 @@ fn wrapped(
 // Under the filter.
 fn filtered(name: &[u8], nodes: &[u32], pool: &[u32], steps: &[u32], first: usize, second: usize) {
     let none = &nodes[..0];
-    wrapped(name, 1, nodes, pool, none, none, steps, first, second);
+    let empty = &pool[..0];
+    wrapped(name, 1, nodes, pool, none, empty, steps, first, second);
 }
 
 // The same with the first m words of the nodes and the first n of the steps.
@@ -86,13 +87,13 @@ pub fn filtered_ends(
 }
 
 // Under the pipeline, with the first m words of side 1's nodes and the first n of the steps.
-fn piped_part(
+fn piped_part<'n, 'p>(
     name: &[u8],
-    nodes1: &[u32],
+    nodes1: &'n [u32],
     m: usize,
-    pool1: &[u32],
-    nodes2: &[u32],
-    pool2: &[u32],
+    pool1: &'p [u32],
+    nodes2: &'n [u32],
+    pool2: &'p [u32],
     steps: &[u32],
     n: usize,
 ) {
@@ -114,12 +115,12 @@ fn piped_part(
 }
 
 // Under the pipeline, with the first n words of a list as steps.
-pub fn piped_list(
+pub fn piped_list<'n, 'p>(
     name: &[u8],
-    nodes1: &[u32],
-    pool1: &[u32],
-    nodes2: &[u32],
-    pool2: &[u32],
+    nodes1: &'n [u32],
+    pool1: &'p [u32],
+    nodes2: &'n [u32],
+    pool2: &'p [u32],
     list: &[u32; 4400],
     n: usize,
 ) {
@@ -127,13 +128,13 @@ pub fn piped_list(
 }
 
 // Under the pipeline, with the first m words of a list as side 1's nodes and the first n of another as steps.
-pub fn piped_lists(
+pub fn piped_lists<'n, 'p>(
     name: &[u8],
-    nodes1: &[u32; 4400],
+    nodes1: &'n [u32; 4400],
     m: usize,
-    pool1: &[u32],
-    nodes2: &[u32],
-    pool2: &[u32],
+    pool1: &'p [u32],
+    nodes2: &'n [u32],
+    pool2: &'p [u32],
     list: &[u32; 4400],
     n: usize,
 ) {

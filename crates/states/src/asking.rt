@@ -6,8 +6,8 @@ use changes::put;
 use changes::same_state;
 use changes::word;
 use changes::write;
-use interpreter::Stepped;
-use sides::State;
+use row_interpreter::Stepped;
+use rows::State;
 use steps::Said;
 
 // What a step says.

@@ -1,11 +1,11 @@
 // The handler's table, and the states to break, by load and steps.
 ghost use Prim.Native.Nat.{_<_, _≤_};
 use changes::size;
-use interpreter::LoadAnswer;
-use interpreter::Stepped;
-use interpreter::load;
-use interpreter::step;
-use sides::State;
+use row_interpreter::LoadAnswer;
+use row_interpreter::Stepped;
+use row_interpreter::load;
+use row_interpreter::step;
+use rows::State;
 
 // The words of the nodes.
 struct Words {
@@ -118,7 +118,7 @@ fn loaded(wrapper: u32) -> LoadAnswer {
     let words = &pool[..];
     let n = count_if(wrapper == 2, both.len());
     let m = count_if(wrapper == 2, words.len());
-    load(wrapper, both, words, &both[0..n], &words[0..m])
+    load(wrapper, [both, &both[0..n]], [words, &words[0..m]])
 }
 
 // A step of such a state.
@@ -140,10 +140,8 @@ pub fn stepped(
     let m = count_if(wrapper == 2, words.len());
     step(
         wrapper,
-        both,
-        words,
-        &both[0..n],
-        &words[0..m],
+        [both, &both[0..n]],
+        [words, &words[0..m]],
         s,
         kind,
         side,

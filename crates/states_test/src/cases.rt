@@ -4,7 +4,7 @@ use changes::label;
 use changes::number;
 use changes::put;
 use changes::write;
-use sides::State;
+use rows::State;
 use states::ask;
 use states::case;
 use states::has_shelf;

@@ -1,9 +1,8 @@
 // Waiting inputs, as a list of rows, each a line.
-use changes::input_of;
 use changes::number;
 use changes::put_input;
 use changes::write;
-use sides::State;
+use rows::State;
 use states::ask;
 use states::head;
 use values::Value;
@@ -58,8 +57,8 @@ fn input_case(wrapper: u32, side: u32, s: State, row: [usize; 5]) {
     number(row[3]);
     write(b" of");
     number(row[4]);
-    let p = input_of(row[1], row[2], row[3], value_for(row[4]));
-    ask(wrapper, put_input(s, side, p));
+    let v = value_for(row[4]);
+    ask(wrapper, put_input(s, side, row[1], row[2], row[3], v));
 }
 
 // The lines of the list.

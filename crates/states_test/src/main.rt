@@ -29,7 +29,7 @@ use cases::taken_case;
 use changes::put;
 use changes::write;
 use inputs::inputs;
-use sides::State;
+use rows::State;
 
 // A side under the pipeline. By the counts of the state: one name of side 1, two of side 2.
 fn pipeline(side: u32, s: State) {

@@ -2,12 +2,12 @@
 ghost use Prim.Native.Nat.{_≤_};
 use changes::word;
 use changes::write;
-use interpreter::Found;
-use interpreter::Stepped;
-use interpreter::load;
-use interpreter::step;
-use interpreter::stranded;
-use sides::State;
+use row_interpreter::Found;
+use row_interpreter::Stepped;
+use row_interpreter::load;
+use row_interpreter::step;
+use row_interpreter::stranded;
+use rows::State;
 
 // So many, or none.
 fn count_if(lent: bool, n: usize) -> usize
@@ -17,17 +17,17 @@ fn count_if(lent: bool, n: usize) -> usize
 }
 
 // The state that load gives. Where side 2 has no nodes it has no pool.
-pub fn start(wrapper: u32, nodes1: &[u32], nodes2: &[u32], pool: &[u32]) -> State {
+pub fn start<'a>(wrapper: u32, nodes1: &'a [u32], nodes2: &'a [u32], pool: &[u32]) -> State {
     let n = count_if(0 < nodes2.len(), pool.len());
-    let a = load(wrapper, nodes1, pool, nodes2, &pool[0..n]);
+    let a = load(wrapper, [nodes1, nodes2], [pool, &pool[0..n]]);
     a.state
 }
 
 // A step with one position. What enters, kind 1, is the pool.
-pub fn stepped(
+pub fn stepped<'a>(
     wrapper: u32,
-    nodes1: &[u32],
-    nodes2: &[u32],
+    nodes1: &'a [u32],
+    nodes2: &'a [u32],
     pool: &[u32],
     s: State,
     kind: u32,
@@ -39,10 +39,8 @@ pub fn stepped(
     let given = &pool[0..m];
     step(
         wrapper,
-        nodes1,
-        pool,
-        nodes2,
-        &pool[0..n],
+        [nodes1, nodes2],
+        [pool, &pool[0..n]],
         s,
         kind,
         side,
@@ -53,10 +51,10 @@ pub fn stepped(
 }
 
 // The state after it.
-pub fn after(
+pub fn after<'a>(
     wrapper: u32,
-    nodes1: &[u32],
-    nodes2: &[u32],
+    nodes1: &'a [u32],
+    nodes2: &'a [u32],
     pool: &[u32],
     s: State,
     kind: u32,
@@ -68,16 +66,16 @@ pub fn after(
 }
 
 // What is stranded on a side.
-fn lost_at(
+fn lost_at<'a>(
     wrapper: u32,
-    nodes1: &[u32],
-    nodes2: &[u32],
+    nodes1: &'a [u32],
+    nodes2: &'a [u32],
     pool: &[u32],
     s: State,
     side: u32,
 ) -> Found {
     let n = count_if(0 < nodes2.len(), pool.len());
-    stranded(wrapper, nodes1, pool, nodes2, &pool[0..n], s, side)
+    stranded(wrapper, [nodes1, nodes2], [pool, &pool[0..n]], s, side)
 }
 
 // A wrapper's name, or its number where it is none.
@@ -114,11 +112,11 @@ fn position(f: Found) {
 }
 
 // A line: what is stranded on the side that is asked.
-pub fn line(
+pub fn line<'a>(
     name: &[u8],
     wrapper: u32,
-    nodes1: &[u32],
-    nodes2: &[u32],
+    nodes1: &'a [u32],
+    nodes2: &'a [u32],
     pool: &[u32],
     s: State,
     side: u32,

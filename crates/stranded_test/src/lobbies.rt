@@ -2,14 +2,14 @@
 use crate::calls::after;
 use crate::calls::line;
 use crate::calls::start;
-use sides::State;
+use rows::State;
 
 // A line: a side makes a step, and is asked.
-fn ask(
+fn ask<'a>(
     name: &[u8],
     wrapper: u32,
-    nodes1: &[u32],
-    nodes2: &[u32],
+    nodes1: &'a [u32],
+    nodes2: &'a [u32],
     pool: &[u32],
     s: State,
     kind: u32,
@@ -21,7 +21,7 @@ fn ask(
 }
 
 // One message: it goes up on `out`, `in`, `mid` or a new name, or enters. Side 1's on `mid` goes to the shelf under the pipeline.
-fn one(wrapper: u32, nodes1: &[u32], nodes2: &[u32], pool: &[u32], s: State, side: u32) {
+fn one<'a>(wrapper: u32, nodes1: &'a [u32], nodes2: &'a [u32], pool: &[u32], s: State, side: u32) {
     ask(b"up on out", wrapper, nodes1, nodes2, pool, s, 3, side, 0);
     ask(b"up on in", wrapper, nodes1, nodes2, pool, s, 3, side, 1);
     ask(b"up on mid", wrapper, nodes1, nodes2, pool, s, 3, side, 2);
@@ -30,14 +30,14 @@ fn one(wrapper: u32, nodes1: &[u32], nodes2: &[u32], pool: &[u32], s: State, sid
 }
 
 // One that arrived on `out`, and another behind it; then the one leaving.
-fn two(wrapper: u32, nodes1: &[u32], nodes2: &[u32], pool: &[u32], s: State, side: u32) {
+fn two<'a>(wrapper: u32, nodes1: &'a [u32], nodes2: &'a [u32], pool: &[u32], s: State, side: u32) {
     let t = after(wrapper, nodes1, nodes2, pool, s, 3, side, 0);
     ask(b"out, in", wrapper, nodes1, nodes2, pool, t, 3, side, 0);
     ask(b"out, pass", wrapper, nodes1, nodes2, pool, t, 6, side, 0);
 }
 
 // A side's lobbies.
-fn one_side(wrapper: u32, nodes1: &[u32], nodes2: &[u32], pool: &[u32], side: u32) {
+fn one_side<'a>(wrapper: u32, nodes1: &'a [u32], nodes2: &'a [u32], pool: &[u32], side: u32) {
     let s = start(wrapper, nodes1, nodes2, pool);
     one(wrapper, nodes1, nodes2, pool, s, side);
     two(wrapper, nodes1, nodes2, pool, s, side);
@@ -65,7 +65,12 @@ fn absent_piped(nodes: &[u32], pool: &[u32]) {
 }
 
 // Side 1's message on `in` is up.
-pub fn stranded_on_1(wrapper: u32, nodes1: &[u32], nodes2: &[u32], pool: &[u32]) -> State {
+pub fn stranded_on_1<'a>(
+    wrapper: u32,
+    nodes1: &'a [u32],
+    nodes2: &'a [u32],
+    pool: &[u32],
+) -> State {
     let s = start(wrapper, nodes1, nodes2, pool);
     after(wrapper, nodes1, nodes2, pool, s, 3, 1, 1)
 }

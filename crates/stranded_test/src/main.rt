@@ -20,29 +20,30 @@ fn sender_nodes(nodes: &mut [u32; 4400]) {
     node(nodes, 7, 4, 10, 1, 0, 0);
 }
 
-// What is stranded, and what a refused step answers, with the first n words of a list as the handler's nodes.
-fn asked(list: &[u32], n: usize) {
+// What is stranded, and what a refused step answers, with the first n words of a list as the handler's nodes; beside them nil, and a
+// node of an unknown kind.
+fn asked<'a>(list: &'a [u32], n: usize, nil: &'a [u32], unknown: &'a [u32]) {
     let pool = [20u32];
-    let nil = [0u32; 5];
-    let unknown = [7u32, 0, 0, 0, 0];
     if n <= list.len() {
         let nodes = &list[0..n];
         lobbies::lines(nodes, &pool);
-        unready::lines(nodes, &pool, &nil, &unknown);
-        refusals::lines(nodes, &pool, &unknown);
+        unready::lines(nodes, &pool, nil, unknown);
+        refusals::lines(nodes, &pool, unknown);
     }
 }
 
 // The same with a list of its fixed length.
-fn asked_list(list: &[u32; 4400], n: usize) {
-    asked(list, n);
+fn asked_list<'a>(list: &'a [u32; 4400], n: usize, nil: &'a [u32], unknown: &'a [u32]) {
+    asked(list, n, nil, unknown);
 }
 
 // The questions with that handler.
 fn questions() {
     let mut nodes = [0u32; 4400];
     sender_nodes(&mut nodes);
-    asked_list(&nodes, 40);
+    let nil = [0u32; 5];
+    let unknown = [7u32, 0, 0, 0, 0];
+    asked_list(&nodes, 40, &nil, &unknown);
 }
 
 fn main() {

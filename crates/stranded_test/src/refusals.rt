@@ -6,8 +6,8 @@ use changes::put;
 use changes::same_state;
 use changes::word;
 use changes::write;
-use interpreter::Stepped;
-use sides::State;
+use row_interpreter::Stepped;
+use rows::State;
 use steps::Said;
 
 // A label, or a refusal with its number.
@@ -40,11 +40,11 @@ fn answer(s: State, r: Stepped) {
 }
 
 // A line: a side is asked to let the pool enter, the name 20.
-fn line(
+fn line<'a>(
     name: &[u8],
     wrapper: u32,
-    nodes1: &[u32],
-    nodes2: &[u32],
+    nodes1: &'a [u32],
+    nodes2: &'a [u32],
     pool: &[u32],
     s: State,
     side: u32,
@@ -74,7 +74,7 @@ fn piped(nodes: &[u32], pool: &[u32], s: State) {
 }
 
 // A state that is not well formed, tables that load refuses, and no wrapper: a side that is there, and one that is not.
-fn unready(nodes: &[u32], pool: &[u32], unknown: &[u32], s: State) {
+fn unready<'a>(nodes: &'a [u32], pool: &[u32], unknown: &'a [u32], s: State) {
     let t = put(s, 2, 9, 257);
     line(b"257 names minted on side 2", 2, nodes, nodes, pool, t, 1);
     line(b"257 names minted on side 2", 2, nodes, nodes, pool, t, 7);
@@ -85,7 +85,7 @@ fn unready(nodes: &[u32], pool: &[u32], unknown: &[u32], s: State) {
 }
 
 // Sides that the wrappers have and lack, then states and tables that no step is made with.
-pub fn lines(nodes: &[u32], pool: &[u32], unknown: &[u32]) {
+pub fn lines<'a>(nodes: &'a [u32], pool: &[u32], unknown: &'a [u32]) {
     let s = start(2, nodes, nodes, pool);
     filtered(nodes, pool);
     piped(nodes, pool, s);

@@ -3,16 +3,16 @@ use crate::calls::line;
 use crate::lobbies::stranded_on_1;
 use crate::lobbies::stranded_on_both;
 use changes::put;
-use sides::State;
+use rows::State;
 
 // Two lines: both sides of the pipeline are asked.
-fn both(name: &[u8], nodes1: &[u32], nodes2: &[u32], pool: &[u32], s: State) {
+fn both<'a>(name: &[u8], nodes1: &'a [u32], nodes2: &'a [u32], pool: &[u32], s: State) {
     line(name, 2, nodes1, nodes2, pool, s, 1);
     line(name, 2, nodes1, nodes2, pool, s, 2);
 }
 
 // A state with a stranded message on both sides, with tables that are not its own: any that load takes suit it, as no input waits in it.
-fn tables(nodes: &[u32], pool: &[u32], nil: &[u32], unknown: &[u32], s: State) {
+fn tables<'a>(nodes: &'a [u32], pool: &[u32], nil: &'a [u32], unknown: &'a [u32], s: State) {
     let none = &nodes[..0];
     both(b"other tables", nil, nil, pool, s);
     both(b"unknown kind on side 1", unknown, nodes, pool, s);
@@ -68,7 +68,7 @@ fn counts(nodes: &[u32], pool: &[u32], s: State) {
 }
 
 // Tables and wrappers, then states of the pipeline put anew.
-pub fn lines(nodes: &[u32], pool: &[u32], nil: &[u32], unknown: &[u32]) {
+pub fn lines<'a>(nodes: &'a [u32], pool: &[u32], nil: &'a [u32], unknown: &'a [u32]) {
     let s = stranded_on_both(nodes, pool);
     tables(nodes, pool, nil, unknown, s);
     wrappers(nodes, pool, s);

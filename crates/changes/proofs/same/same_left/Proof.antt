@@ -1,14 +1,15 @@
--- `changes::same::same_left` meets its contract: the loop reads places below 512.
+-- `changes::same::same_left` meets its contract: the loop reads marks below their number.
 use Prim.Native.Nat.{_-_, _≤_}
 use borrow.Author.Needs.{needs}
+use lib.ListN.{length}
 use Rattle.changes.proofs.same.same_left.Statement.{statement}
 use Rattle.changes.proofs.same.same_left.Tie as tie
 
 abbrev Inv-loop : tie.InvT-loop
-Inv-loop a b k₀ k = k ≤ 512
+Inv-loop a b k₀ k = 0 ≤ k
 
 abbrev μ-loop : tie.MeasureT-loop
-μ-loop a b k₀ k = 512 - k
+μ-loop a b k₀ k = length a - k
 
 loop-holds : tie.Need-loop-holds Inv-loop μ-loop
 loop-holds c = search needs
