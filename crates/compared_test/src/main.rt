@@ -1,10 +1,10 @@
 // That the comparison of two states, by which the programs on broken states say that a state was kept, sees each field: pairs of
 // states that differ in one.
-use changes::put;
-use changes::same_state;
-use changes::word;
-use changes::write;
-use rows::State;
+use sides::State;
+use test_changes::put;
+use test_changes::same_state;
+use test_changes::word;
+use test_changes::write;
 
 // A line: what differs on which side, and whether that is seen. Each of the two states has one thing put anew.
 fn compare(name: &[u8], s: State, side: u32, what: usize, n: usize, other: usize, m: usize) {
@@ -73,7 +73,7 @@ fn fields(s: State, side: u32) {
 }
 
 fn main() {
-    let s = states::piped();
+    let s = test_states::piped();
     fields(s, 1);
     fields(s, 2);
     taken_marks(s, 1);

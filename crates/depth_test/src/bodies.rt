@@ -7,18 +7,18 @@ use crate::tables::spine;
 use crate::tables::tree;
 use crate::tried::ends;
 use crate::tried::tried;
-use schedules::lists::inputs;
-use schedules::lists::nested;
-use schedules::lists::node;
-use schedules::steps::arrive;
-use schedules::steps::depart;
-use schedules::steps::enter;
-use schedules::steps::land;
-use schedules::steps::leave;
-use schedules::steps::meet;
-use schedules::steps::pass;
-use schedules::steps::send;
-use schedules::steps::up;
+use test_schedules::lists::inputs;
+use test_schedules::lists::nested;
+use test_schedules::lists::node;
+use test_schedules::steps::arrive;
+use test_schedules::steps::depart;
+use test_schedules::steps::enter;
+use test_schedules::steps::land;
+use test_schedules::steps::leave;
+use test_schedules::steps::meet;
+use test_schedules::steps::pass;
+use test_schedules::steps::send;
+use test_schedules::steps::up;
 
 // !in^parent y. (0 | (0 | .. y^parent y)), or the same to the left: the last node decides on 15.
 fn parallels(name: &[u8], left: bool) {

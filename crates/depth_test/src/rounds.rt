@@ -1,8 +1,8 @@
 // The same steps many times, added to a list of words; the place behind them is given back.
-use schedules::lists::narrow;
-use schedules::lists::sum;
-use schedules::steps::arrive;
-use schedules::steps::depart;
+use test_schedules::lists::narrow;
+use test_schedules::lists::sum;
+use test_schedules::steps::arrive;
+use test_schedules::steps::depart;
 
 // A message enters, goes down to place k + 1, and meets the input at k.
 fn meeting(list: &mut [u32; 4400], at: usize, k: usize) -> usize {

@@ -2,14 +2,14 @@
 use crate::tables::output;
 use crate::tables::spine;
 use crate::tried::tried;
-use schedules::lists::inputs;
-use schedules::lists::nested;
-use schedules::lists::node;
-use schedules::steps::depart;
-use schedules::steps::descend;
-use schedules::steps::enter_word;
-use schedules::steps::send;
-use schedules::steps::up;
+use test_schedules::lists::inputs;
+use test_schedules::lists::nested;
+use test_schedules::lists::node;
+use test_schedules::steps::depart;
+use test_schedules::steps::descend;
+use test_schedules::steps::enter_word;
+use test_schedules::steps::send;
+use test_schedules::steps::up;
 
 // new n. (0 | (0 | .. out^parent n)), or the same to the left.
 fn parallels(name: &[u8], left: bool) {

@@ -1,7 +1,7 @@
 // Nodes of tables.
-use schedules::lists::narrow;
-use schedules::lists::node;
-use schedules::lists::sum;
+use test_schedules::lists::narrow;
+use test_schedules::lists::node;
+use test_schedules::lists::sum;
 
 // The nodes 1 to 4: `new`, one in another.
 fn first_news(nodes: &mut [u32; 4400]) {

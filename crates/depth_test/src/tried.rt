@@ -1,6 +1,6 @@
 // A run under the filter. One pool serves all tables: at 0 the wildcard, at 1 the name 10, at 2 the pair (10 10), at 5 the name
 // 20, at 6 the names 10 to 17 in a tuple.
-use schedules::tried::filtered_ends;
+use test_schedules::tried::filtered_ends;
 
 // A run of 256 nodes with the first n words of a list as steps: lines for the answers before one index and from another on.
 pub fn ends(

@@ -1,13 +1,13 @@
 // Inputs one in another. The first binds y, the others take anything, and the last node is y^parent y.
 use crate::rounds::meetings;
 use crate::tried::ends;
-use schedules::lists::inputs;
-use schedules::lists::node;
-use schedules::lists::repeat;
-use schedules::steps::arrive;
-use schedules::steps::depart;
-use schedules::steps::meet;
-use schedules::steps::send;
+use test_schedules::lists::inputs;
+use test_schedules::lists::node;
+use test_schedules::lists::repeat;
+use test_schedules::steps::arrive;
+use test_schedules::steps::depart;
+use test_schedules::steps::meet;
+use test_schedules::steps::send;
 
 // The nodes, all inputs of one kind.
 fn chain(nodes: &mut [u32; 4400], kind: u32) {

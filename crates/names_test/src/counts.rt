@@ -1,8 +1,8 @@
 // Each count of a side.
 ghost use Prim.Native.Nat.{_≤_};
-use rows::State;
-use states::case;
-use states::has_shelf;
+use sides::State;
+use test_states::case;
+use test_states::has_shelf;
 
 // The most that there may be of what is counted.
 fn limit(what: usize) -> usize

@@ -15,13 +15,13 @@
 mod counts; // each count
 mod names; // names and values
 
-use changes::put;
-use changes::write;
 use counts::counts;
 use names::names;
 use names::value;
 use names::values;
-use rows::State;
+use sides::State;
+use test_changes::put;
+use test_changes::write;
 
 // What no state may hold, whatever was minted.
 fn any_side(wrapper: u32, side: u32, s: State) {
@@ -61,8 +61,8 @@ fn filter(s: State) {
 }
 
 fn main() {
-    let s = states::piped();
+    let s = test_states::piped();
     pipeline(1, s);
     pipeline(2, s);
-    filter(states::filtered());
+    filter(test_states::filtered());
 }

@@ -1,16 +1,16 @@
 // Names and values, at every place that holds one.
 ghost use Prim.Native.Nat.{_<_, _≤_};
-use changes::label;
-use changes::number;
-use changes::put_value;
-use changes::size;
-use changes::word;
-use changes::write;
-use rows::State;
-use states::ask;
-use states::case;
-use states::has_shelf;
-use states::head;
+use sides::State;
+use test_changes::label;
+use test_changes::number;
+use test_changes::put_value;
+use test_changes::size;
+use test_changes::word;
+use test_changes::write;
+use test_states::ask;
+use test_states::case;
+use test_states::has_shelf;
+use test_states::head;
 use values::Value;
 
 // Whether a side has a place: no shelf but where it may have one.

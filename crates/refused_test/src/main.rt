@@ -4,11 +4,11 @@
 // the name 20, with the table on side 1, then on side 2, and `kept` where the state that came back is the one that was passed. The
 // lines after them have one answer: wrappers, and a state of the other wrapper or of other tables.
 ghost use Prim.Native.Nat.{_≤_};
-use changes::write;
-use row_interpreter::load;
-use row_interpreter::step;
-use rows::State;
-use states::answer;
+use interpreter::load;
+use interpreter::step;
+use sides::State;
+use test_changes::write;
+use test_states::answer;
 
 // A table that load takes, and its pool: it sends `mid` up.
 const SOUND: [u32; 5] = [4, 2, 1, 0, 0];
@@ -231,14 +231,14 @@ fn wrappers() {
         b"pipeline, state of other tables",
         n,
         p,
-        states::piped(),
+        test_states::piped(),
     );
     filtered_line(
         false,
         b"filter, state of other tables",
         n,
         p,
-        states::filtered(),
+        test_states::filtered(),
     );
 }
 

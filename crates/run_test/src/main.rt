@@ -3,10 +3,10 @@
 mod more; // lengths, uses of bound names, descending, minted names
 mod stranded; // trial B
 
-use row_running::run;
-use schedules::shown::number;
-use schedules::shown::outcome;
-use schedules::shown::write;
+use running::run;
+use test_schedules::shown::number;
+use test_schedules::shown::outcome;
+use test_schedules::shown::write;
 
 // From which place on all words are 7.
 fn unchanged_from(out: &[u32]) -> usize {

@@ -1,10 +1,10 @@
 // Trial B, for the question `stranded`: side 2 sends `mid` up, and it can go nowhere.
-use row_interpreter::Found;
-use row_interpreter::load;
-use row_interpreter::step;
-use row_interpreter::stranded;
-use schedules::shown::number;
-use schedules::shown::write;
+use interpreter::Found;
+use interpreter::load;
+use interpreter::step;
+use interpreter::stranded;
+use test_schedules::shown::number;
+use test_schedules::shown::write;
 
 fn lost(f: Found) {
     match f {

@@ -1,14 +1,14 @@
 // States with one thing put anew, as a list of rows, each a line.
 ghost use Prim.Native.Nat.{_≤_};
-use changes::label;
-use changes::number;
-use changes::put;
-use changes::write;
-use rows::State;
-use states::ask;
-use states::case;
-use states::has_shelf;
-use states::head;
+use sides::State;
+use test_changes::label;
+use test_changes::number;
+use test_changes::put;
+use test_changes::write;
+use test_states::ask;
+use test_states::case;
+use test_states::has_shelf;
+use test_states::head;
 
 // Where: 0 on every side, 1 where the side may have a shelf, 2 where it may not. Whether it is allowed. What is put, by its number in
 // the crate `changes`; how much or which.

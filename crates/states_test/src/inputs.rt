@@ -1,10 +1,10 @@
 // Waiting inputs, as a list of rows, each a line.
-use changes::number;
-use changes::put_input;
-use changes::write;
-use rows::State;
-use states::ask;
-use states::head;
+use sides::State;
+use test_changes::number;
+use test_changes::put_input;
+use test_changes::write;
+use test_states::ask;
+use test_states::head;
 use values::Value;
 
 // Whether it is allowed; the box; the node; the number of values; the word that each is.

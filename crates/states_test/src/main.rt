@@ -26,10 +26,10 @@ mod inputs; // waiting inputs
 
 use cases::cases;
 use cases::taken_case;
-use changes::put;
-use changes::write;
 use inputs::inputs;
-use rows::State;
+use sides::State;
+use test_changes::put;
+use test_changes::write;
 
 // A side under the pipeline. By the counts of the state: one name of side 1, two of side 2.
 fn pipeline(side: u32, s: State) {
@@ -82,14 +82,14 @@ fn filter(s: State) {
 
 // The state as it came from load and steps.
 fn untouched(wrapper: u32, s: State) {
-    states::head(true, wrapper, 1);
+    test_states::head(true, wrapper, 1);
     write(b" nothing");
-    states::ask(wrapper, s);
+    test_states::ask(wrapper, s);
 }
 
 fn main() {
-    let s = states::piped();
-    let f = states::filtered();
+    let s = test_states::piped();
+    let f = test_states::filtered();
     untouched(2, s);
     untouched(1, f);
     pipeline(1, s);

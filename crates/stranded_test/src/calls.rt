@@ -1,13 +1,13 @@
 // Load, a step and the question `stranded`, with one pool for both sides, and how the lines about them begin.
 ghost use Prim.Native.Nat.{_≤_};
-use changes::word;
-use changes::write;
-use row_interpreter::Found;
-use row_interpreter::Stepped;
-use row_interpreter::load;
-use row_interpreter::step;
-use row_interpreter::stranded;
-use rows::State;
+use interpreter::Found;
+use interpreter::Stepped;
+use interpreter::load;
+use interpreter::step;
+use interpreter::stranded;
+use sides::State;
+use test_changes::word;
+use test_changes::write;
 
 // So many, or none.
 fn count_if(lent: bool, n: usize) -> usize
@@ -106,7 +106,7 @@ pub fn begin(question: &[u8], name: &[u8], wrapper: u32, side: u32) {
 // The position of a stranded message, or none.
 fn position(f: Found) {
     match f {
-        Found::At(k) => changes::number(k),
+        Found::At(k) => test_changes::number(k),
         Found::Nothing => write(b" none"),
     }
 }

@@ -2,7 +2,7 @@
 use crate::calls::after;
 use crate::calls::line;
 use crate::calls::start;
-use rows::State;
+use sides::State;
 
 // A line: a side makes a step, and is asked.
 fn ask<'a>(

@@ -5,7 +5,7 @@ mod lobbies; // what is stranded in lobbies by load and steps
 mod refusals; // the side of a refused step
 mod unready; // what is stranded where tables are refused or the state is broken
 
-use schedules::lists::node;
+use test_schedules::lists::node;
 
 // A handler that sends its parent a message on `out`, on `in`, on `mid` and on a minted name:
 // out^parent 20 | (in^parent 20 | (mid^parent 20 | new n. n^parent 20))

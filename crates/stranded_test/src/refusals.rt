@@ -2,13 +2,13 @@
 use crate::calls::begin;
 use crate::calls::start;
 use crate::calls::stepped;
-use changes::put;
-use changes::same_state;
-use changes::word;
-use changes::write;
-use row_interpreter::Stepped;
-use rows::State;
+use interpreter::Stepped;
+use sides::State;
 use steps::Said;
+use test_changes::put;
+use test_changes::same_state;
+use test_changes::word;
+use test_changes::write;
 
 // A label, or a refusal with its number.
 fn say(said: Said) {
@@ -31,7 +31,7 @@ fn answer(s: State, r: Stepped) {
     say(said);
     word(r.side);
     write(b" length");
-    changes::number(v.len);
+    test_changes::number(v.len);
     if same_state(s, t) {
         write(b" kept\n");
     } else {

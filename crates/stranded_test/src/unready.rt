@@ -2,8 +2,8 @@
 use crate::calls::line;
 use crate::lobbies::stranded_on_1;
 use crate::lobbies::stranded_on_both;
-use changes::put;
-use rows::State;
+use sides::State;
+use test_changes::put;
 
 // Two lines: both sides of the pipeline are asked.
 fn both<'a>(name: &[u8], nodes1: &'a [u32], nodes2: &'a [u32], pool: &[u32], s: State) {

@@ -2,14 +2,14 @@
 use crate::rounds::takes;
 use crate::rounds::threes;
 use crate::rounds::two;
-use schedules::lists::inputs;
-use schedules::lists::nested;
-use schedules::lists::node;
-use schedules::steps::take;
-use schedules::steps::up;
-use schedules::tried::filtered_lists;
-use schedules::tried::loaded;
-use schedules::tried::piped_lists;
+use test_schedules::lists::inputs;
+use test_schedules::lists::nested;
+use test_schedules::lists::node;
+use test_schedules::steps::take;
+use test_schedules::steps::up;
+use test_schedules::tried::filtered_lists;
+use test_schedules::tried::loaded;
+use test_schedules::tried::piped_lists;
 
 // !in^parent y. (mid^parent y | (mid^parent y | mid^parent y))
 fn three_mids(nodes: &mut [u32; 4400]) {

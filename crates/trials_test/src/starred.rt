@@ -1,20 +1,20 @@
 // The trials A to I.
-use schedules::lists::node;
-use schedules::lists::repeat;
-use schedules::steps::arrive;
-use schedules::steps::depart;
-use schedules::steps::down;
-use schedules::steps::enter;
-use schedules::steps::enter_word;
-use schedules::steps::land;
-use schedules::steps::leave;
-use schedules::steps::meet;
-use schedules::steps::pass;
-use schedules::steps::take;
-use schedules::steps::up;
-use schedules::tried::filtered_list;
-use schedules::tried::filtered_lists;
-use schedules::tried::piped_list;
+use test_schedules::lists::node;
+use test_schedules::lists::repeat;
+use test_schedules::steps::arrive;
+use test_schedules::steps::depart;
+use test_schedules::steps::down;
+use test_schedules::steps::enter;
+use test_schedules::steps::enter_word;
+use test_schedules::steps::land;
+use test_schedules::steps::leave;
+use test_schedules::steps::meet;
+use test_schedules::steps::pass;
+use test_schedules::steps::take;
+use test_schedules::steps::up;
+use test_schedules::tried::filtered_list;
+use test_schedules::tried::filtered_lists;
+use test_schedules::tried::piped_list;
 
 // The copier: listing A.
 fn trial_a() {
