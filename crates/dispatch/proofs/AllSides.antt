@@ -18,7 +18,7 @@ use Rattle.values.specs.Env.{viewValue}
 use Rattle.tables.specs.Nodes as slices
 use Rattle.sides.specs.declared.Rest.{Rest}
 use Rattle.sides.specs.Layout.{viewShelf, fitsShelf}
-use Rattle.sides.specs.Sides.{coreOf, fitsSide, sideOf}
+use Rattle.sides.specs.Sides.{coreOf, sideOf}
 use Rattle.steps.specs.declared.Said.{Said}
 use Rattle.steps.specs.declared.Said.the-variants as said
 use Rattle.steps.specs.StepIs.{labelOf}

@@ -2,17 +2,16 @@
 use mathlib.Core.Path.{_≡_, refl, sym, ap, subst, _∙_}
 use mathlib.Core.Bool.{Bool, true, false}
 use mathlib.Core.List.{List, [], _∷_}
-use Prim.Native.Nat.{ℕ, zero, suc, _<_, _≤_}
+use Prim.Native.Nat.{ℕ}
 use native.Mathlib.Omega.{arith}
 use borrow.Author.Tests.{eq-eqb, ne-eqb}
 use lib.Dec.{eqb}
 use lib.ListN.{length}
 use Rattle.model.specs.Basics.{_&_, choose, Res, refuse, done, bind, need}
 use Rattle.model.specs.Side.{Core}
-use Rattle.model.specs.Wrapper.{Route, Wrapper}
+use Rattle.model.specs.Wrapper.{Route}
 use Rattle.model.specs.Load.{Setting}
 use Rattle.model.specs.Step.{Moved, settled, goDown, up, pass, leave, descend, meet, enter, takes, inner, routeTo, local}
-use Rattle.wrappers.specs.declared.Source.{Source}
 use Rattle.wrappers.specs.declared.Source.the-variants.{Side, Nowhere}
 use Rattle.wrappers.specs.Routes.{sourceBy, sourceFor}
 use Rattle.sides.specs.declared.Rest.{Rest}

@@ -25,7 +25,7 @@ use Rattle.tables.specs.Checks.{Passes}
 use Rattle.wrappers.specs.Compositions.{composition}
 use Rattle.wrappers.proofs.Described.{has-in}
 use Rattle.sides.specs.declared.Rest.{Rest}
-use Rattle.sides.specs.Sides.{coreOf, fitsSide, sideOf}
+use Rattle.sides.specs.Sides.{coreOf, fitsSide}
 use Rattle.loading.specs.declared.Outcome.the-variants.{Ok}
 use Rattle.loading.specs.Loading.{outcomeOf}
 use Rattle.loading.proofs.Faults.{Taken, taken, table-at}

@@ -1,7 +1,7 @@
 pub mod Slots
 pub mod Sizes
 pub mod LongWalk
-pub mod Marks
+pub mod TupleNames
 pub mod Waiting
 pub mod Patterns
 pub mod Bindings

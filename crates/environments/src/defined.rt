@@ -16,7 +16,7 @@ ghost use Rattle.environments.specs.Fits.{Fits};
 use crate::wide;
 use scopes::free_uses::clear;
 use sides::Rows;
-use tables::marks::Marks;
+use tables::name_set::NameSet;
 
 // Whether the value in place k is a tuple.
 fn tuple_in(e: &[u32], k: usize) -> bool
@@ -32,7 +32,7 @@ fn tuple_in(e: &[u32], k: usize) -> bool
 }
 
 // The names that an environment binds to a tuple.
-fn tuple_names(e: &[u32], n: usize) -> Marks
+fn tuple_names(e: &[u32], n: usize) -> NameSet
     requires { ⌜ Fits (now e) n ⌝ }
     ensures { λ r. ⌜ ((m : ℕ) → m < 64 → getD (r .on) m false ≡ tupleOf (value (envOf (now (e .entry)) n) m)) ⌝ }
 {
@@ -45,7 +45,7 @@ fn tuple_names(e: &[u32], n: usize) -> Marks
         }
         k += 1;
     }
-    Marks { on }
+    NameSet { on }
 }
 
 // Whether no name that the environment binds to a tuple is free as a channel, tag or box name in the term at a node.

@@ -11,10 +11,9 @@ use lib.Seq.{take-suc, take-all}
 use Rattle.model.specs.Basics.{every, has}
 use Rattle.model.specs.Table.{Table}
 use Rattle.model.specs.Side.{Core, startSide, noSide}
-use Rattle.model.specs.Side.{Side as MSide, State as MState}
+use Rattle.model.specs.Side.{Side as MSide}
 use Rattle.model.specs.Wrapper.{allSides, hasSide}
 use Rattle.model.specs.Load.{Composition, wrapperOf, start, startOf, Loaded, refused, ok, load}
-use Rattle.model.specs.Load.{table as tableOf}
 use Rattle.model.proofs.Tests.{both}
 use Rattle.sides.proofs.Lists.{view-push, every-push}
 use Rattle.tables.specs.Nodes as slices
@@ -22,13 +21,12 @@ use Rattle.wrappers.specs.Compositions.{composition}
 use Rattle.sides.specs.declared.Rest.{Rest}
 use Rattle.sides.specs.declared.Side.{Side}
 use Rattle.sides.specs.declared.State.{State}
-use Rattle.sides.specs.Sides.{coreOf, fitsSide, viewSide, viewState, fitsArrays, stateOf, Nothing}
+use Rattle.sides.specs.Sides.{fitsSide, viewSide, viewState, fitsArrays, stateOf, Nothing}
 use Rattle.loading.specs.declared.Outcome.{Outcome}
 use Rattle.loading.specs.declared.Outcome.the-variants.{Ok, Refused}
 use Rattle.loading.specs.Loading.{outcomeOf}
 use Rattle.loading.specs.Starting.{Startable, StartIs}
-use Rattle.loading.proofs.Faults.{Taken, taken, table-at, side-number, map-at}
-use Rattle.interpreter.specs.declared.LoadAnswer.{LoadAnswer}
+use Rattle.loading.proofs.Faults.{taken, table-at, side-number, map-at}
 use Rattle.interpreter.specs.Loaded.{SideIs, StateIs, AllStartable, stateLoaded, LoadIs}
 
 -- a side by its core and its marks

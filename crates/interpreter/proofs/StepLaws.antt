@@ -1,6 +1,6 @@
 -- A step of a state by value, path by path.
 use mathlib.Core.Path.{_≡_, refl, sym, ap, ap₂, subst, _∙_}
-use mathlib.Core.Bool.{Bool, true, false, cond, false≢true}
+use mathlib.Core.Bool.{Bool, true, false, false≢true}
 use mathlib.Core.List.{List, [], _∷_, _++_, map, map-append}
 use mathlib.Core.Option.{Option, none, some}
 use Prim.Native.Nat.{ℕ, zero, suc, _+_, _-_, _<_, _≤_}
@@ -10,12 +10,12 @@ use borrow.Author.Tests.{ltb-true, ltb-false}
 use lib.Dec.{ltb}
 use lib.ListN.{length, take, getD, set, length-map}
 use lib.Seq.{set-getD, getD-set-same, take-suc, take-suc-set, take-all}
-use Rattle.model.specs.Basics.{_&_, Res, refuse, done, every}
+use Rattle.model.specs.Basics.{_&_, Res, every}
 use Rattle.model.specs.Side.{Side as MSide, State as MState}
 use Rattle.model.specs.Wrapper.{allSides, described, hasSide}
 use Rattle.model.specs.Load.{Composition, wrapperOf, Setting, Loaded, refused, ok, isOk, load}
 use Rattle.model.specs.WellFormed.{wfState, ready}
-use Rattle.model.specs.Step.{Step, Moved, settled, local, refusal, answerOf, Result, step, answerTo, afterStep}
+use Rattle.model.specs.Step.{Step, Moved, settled, local, refusal, Result, step, answerTo, afterStep}
 use Rattle.model.specs.Answer.{given}
 use Rattle.model.proofs.Tests.{fst, snd, both}
 use Rattle.values.specs.Env.{viewValue}
@@ -32,7 +32,6 @@ use Rattle.answers.specs.Answers.{givenFor, isRefusal}
 use Rattle.answers.proofs.AnswerLaws.{same-given}
 use Rattle.steps.specs.declared.RestStep.{RestStep}
 use Rattle.steps.specs.Asked.{knownBy}
-use Rattle.steps.specs.StepIs.{StepIs}
 use Rattle.dispatch.specs.Stepping.{settingOf, OwnReady}
 use Rattle.dispatch.specs.Sharing.{shelvesIn, shelvedOf, Shelves, sidesIn, stateIn, Lent, AtSide, markedBy, MarkedAt}
 use Rattle.dispatch.proofs.AllSides.{shelves-of}

@@ -28,7 +28,6 @@ use Rattle.steps.specs.declared.Offer.{Offer}
 use Rattle.steps.specs.declared.Offer.the-variants.{At, Refused}
 use Rattle.steps.specs.Asked.{channelIn, valueIn}
 use Rattle.steps.specs.StepIs.{Sane}
-use Rattle.unfolding.specs.declared.Counts.{Counts}
 use Rattle.unfolding.specs.Scoped.{Scoped}
 use Rattle.meeting.specs.declared.pairs.Joined.{Joined}
 

@@ -1,4 +1,4 @@
--- Refusal 15 by a walk with marks is `defined` of crate model.
+-- Refusal 15 by a walk with a set of names is `defined` of crate model.
 use mathlib.Core.Path.{_≡_, refl, sym, ap, ap₂, _∙_, subst}
 use mathlib.Core.Bool.{Bool, true, false, not, cond}
 use mathlib.Core.List.{List, [], _∷_, _++_, map, append-assoc, append-nil}
@@ -174,7 +174,7 @@ unfolding tupleOf
 tuples-all e k m b p q r = r ∙ ap tupleOf (look-all e k m _ p q refl)
 
 -- MARKS AND ENVIRONMENTS
--- the marks are the names that the environment binds to tuples
+-- the set holds the names that the environment binds to tuples
 pub record Agrees (ρ : Env) (ts : List Bool) : Type 0 where
   pub sized : Sized ρ
   pub full : length ts ≡ 64

@@ -1,4 +1,4 @@
--- Refusal 15 by marks: a name is marked where it is bound to a tuple.
+-- Refusal 15 by a set of names: those that are bound to a tuple.
 use mathlib.Core.Bool.{Bool, true, false, not}
 use mathlib.Core.List.{List, [], _∷_}
 use Prim.Native.Nat.{ℕ, zero, suc}
@@ -17,7 +17,7 @@ tagClear ts zero = true
 tagClear ts (suc zero) = true
 tagClear ts (suc (suc n)) = nameClear ts n
 
--- the marks without those of some names
+-- the set without some names
 abbrev pub hide : List Bool → List ℕ → List Bool
 hide ts [] = ts
 hide ts (n ∷ ns) = hide (set ts n false) ns

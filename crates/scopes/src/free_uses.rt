@@ -13,7 +13,7 @@ ghost use Rattle.tables.specs.Scope.{Walks};
 ghost use Rattle.tables.specs.Checks.{Passes};
 ghost use Rattle.scopes.specs.FreeUses.{nameClear, tagClear, hide, clearAt};
 use super::walk::child;
-use tables::marks::Marks;
+use tables::name_set::NameSet;
 use tables::nodes::node_at;
 use tables::pool::words_at;
 use values::Env;
@@ -27,11 +27,11 @@ fn wide(x: u32) -> usize
 }
 
 // The names that an environment binds to a tuple.
-fn tuple_names(e: Env) -> Marks
+fn tuple_names(e: Env) -> NameSet
     ensures { λ r. ⌜ ((m : ℕ) → m < 64 → getD (r .on) m false ≡ not (isNameIn (viewEnv e) m)) ⌝ }
 {
     let n = e.count();
-    let mut r = Marks::none();
+    let mut r = NameSet::none();
     let mut k: usize = 0;
     while k < n {
         let w = wide(e.names[k]);
@@ -43,7 +43,7 @@ fn tuple_names(e: Env) -> Marks
 }
 
 // Whether channel and tag are no marked names.
-fn unmarked(ts: Marks, channel: usize, tag: usize) -> bool
+fn unmarked(ts: NameSet, channel: usize, tag: usize) -> bool
     ensures { λ r. ⌜ r ≡ nameClear (ts .on) channel & tagClear (ts .on) tag ⌝ }
 {
     if ts.has(channel) {
@@ -57,8 +57,8 @@ fn unmarked(ts: Marks, channel: usize, tag: usize) -> bool
     }
 }
 
-// The marks without the names of a pattern, which hides them.
-fn hide_names(ts: Marks, s: &[u32]) -> Marks
+// The set without the names of a pattern, which hides them.
+fn hide_names(ts: NameSet, s: &[u32]) -> NameSet
     ensures { λ r. ⌜ r .on ≡ hide (ts .on) (binders (now (s .entry))) ⌝ }
 {
     let mut r = ts;
@@ -75,7 +75,7 @@ fn hide_names(ts: Marks, s: &[u32]) -> Marks
 
 // Whether no marked name is free as a channel, tag or box name in the term at node n. The nodes above n are the falling
 // measure.
-pub fn clear(nodes: &[u32], pool: &[u32], n: usize, ts: Marks) -> bool
+pub fn clear(nodes: &[u32], pool: &[u32], n: usize, ts: NameSet) -> bool
     ensures { λ r. ⌜ (Walks (table (now (nodes .entry)) (now (pool .entry))) n → r ≡ clearAt (table (now (nodes .entry)) (now (pool .entry))) n (ts .on)) ⌝ }
 {
     let c = nodes.len() / 5;

@@ -6,11 +6,11 @@ use mathlib.Core.List.{List, [], _∷_, _++_, map, map-append, append-assoc, app
 use mathlib.Core.Option.{some}
 use native.Mathlib.Numerals.{add-one}
 use native.Mathlib.Omega.{arith}
-use borrow.Author.Tests.{le-leb, lt-leb, leb-true, lt-ltb, le-ltb, ltb-true, ltb-false}
-use lib.Dec.{leb, ltb}
-use lib.ListN.{length, take, drop, getD, getElem?, set, length-map, length-take}
+use borrow.Author.Tests.{le-leb, lt-leb, leb-true}
+use lib.Dec.{leb}
+use lib.ListN.{length, take, drop, getD, getElem?, set, length-map}
 use lib.Seq.{take-suc-set, take-suc, take-set-lt, drop-append-le, drop-set-lt, drop-drop, getD-drop, take-take, slice, slice-empty, length-take-le}
-use Rattle.model.specs.Basics.{Res, _&_, every, remove, pick}
+use Rattle.model.specs.Basics.{_&_, every, remove}
 use Rattle.model.proofs.Tests.{fst, snd, both, every-append, every-one, every-remove, every-set}
 
 -- a list without its place i, in two parts

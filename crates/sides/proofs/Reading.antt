@@ -1,20 +1,18 @@
 -- What each function that reads answers, as the definitions of specs/Layout.antt and specs/Environments.antt say it.
-use Prim.Native.Nat.{ℕ, suc, _+_, _-_, _*_, _^_, _<_, _≤_, min}
+use Prim.Native.Nat.{ℕ, suc, _+_, _-_, _*_, _<_, _≤_, min}
 use mathlib.Core.Path.{_≡_, refl, sym, _∙_, ap}
 use mathlib.Core.Bool.{Bool, true}
 use mathlib.Core.List.{List, []}
-use native.Mathlib.Nat.{add-zero, add-sub-cancel-left}
+use native.Mathlib.Nat.{add-sub-cancel-left}
 use native.Mathlib.Omega.{arith}
 use borrow.Author.Tests.{eq-eqb, ne-eqb, leb-true}
 use lib.Dec.{leb}
 use lib.ListN.{length, take, drop, getD, length-drop}
-use lib.Seq.{take-all, length-take-le, drop-drop, getD-drop}
+use lib.Seq.{take-all, length-take-le, drop-drop}
 use Rattle.model.specs.Basics.{_&_, every}
 use Rattle.values.specs.declared.Value.{Value}
 use Rattle.values.specs.Env.{Stores}
-use Rattle.sides.specs.Views.{viewTag}
-use Rattle.sides.specs.declared.Output.{Output}
-use Rattle.sides.specs.Layout.{parts, rowsOf, rowAt, placesOf, tagOf, viewPlace, fitsPlace, viewRow, fitsRow, boxesOf, shelfOf, ValueIs, OutputIs}
+use Rattle.sides.specs.Layout.{parts, rowsOf, rowAt, placesOf, viewPlace, fitsPlace, fitsRow, boxesOf, shelfOf, ValueIs}
 use Rattle.sides.specs.Environments.{lastOf}
 use Rattle.sides.proofs.Parts.{part-of-part, parts-length, parts-at, first-behind}
 
@@ -64,11 +62,6 @@ first-place r = refl
 pub first-fits : (r : List ℕ) → fitsRow r ≡ true → getD r 0 0 ≡ 1 → fitsPlace (take 17 (drop 8 r)) ≡ true
 unfolding fitsRow
 first-fits r f e = ap fitsPlace (sym (first-place r)) ∙ (rw (eq-eqb (getD r 0 0) 1 e) at f)
-
-pub output-read : (r : List ℕ) (o : Output) → getD r 0 0 ≡ 1 → o .at ≡ getD r 1 0 → getD r 1 0 < 2 ^ 32 → o .channel ≡ getD r 2 0 → viewTag (o .tag) ≡ tagOf (getD r 3 0) (getD r 4 0) →
-    ValueIs (viewPlace (take 17 (drop 8 r))) (o .value) → OutputIs (viewRow r) o
-unfolding viewRow
-output-read r o e a b c t v = record { view = rw (eq-eqb (getD r 0 0) 1 e, first-place, a, c, t, v .view); narrow = omega arith; short = v .short }
 
 -- THE ARRAY TEST: a row's, by its kind
 pub place-word : (r : List ℕ) (k : ℕ) → k < 8 → getD (getD (placesOf r) k []) 0 0 ≡ getD r (8 + 17 * k) 0

@@ -4,7 +4,7 @@
 use mathlib.Core.Path.{_≡_}
 use mathlib.Core.Bool.{Bool, cond}
 use mathlib.Core.List.{List, [], _∷_, map}
-use Prim.Native.Nat.{ℕ, zero, suc, _^_, _<_, _≤_}
+use Prim.Native.Nat.{ℕ, zero, suc, _≤_}
 use lib.Dec.{leb, eqb}
 use lib.ListN.{getD, take, drop}
 use Rattle.model.specs.Basics.{_&_, every}
@@ -97,9 +97,3 @@ viewOutput o = output (o .at) (o .channel) (viewTag (o .tag)) (viewValue (o .val
 pub record ValueIs (x : List ℕ) (r : Value) : Type 0 where
   pub view : viewValue r ≡ x
   pub short : r .len ≤ 16
-
--- the struct o is the particle p, its box a word and its value within its array
-pub record OutputIs (p : Particle) (o : Output) : Type 0 where
-  pub view : viewOutput o ≡ p
-  pub narrow : o .at < 2 ^ 32
-  pub short : o .value .len ≤ 16

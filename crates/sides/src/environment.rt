@@ -19,7 +19,7 @@ use crate::places::put_words;
 use crate::places::wide;
 
 // The last of the n names that is w; n where there is none.
-pub fn slot_of(e: &[u32], n: usize, w: u32) -> usize
+pub(crate) fn slot_of(e: &[u32], n: usize, w: u32) -> usize
     requires { ⌜ (length (now e) ≡ 144) × (n ≤ 8) ⌝ }
     ensures { λ r. ⌜ r ≡ lastOf (now (e .entry)) n w n ⌝ }
 {
@@ -103,7 +103,7 @@ fn append_value(v: &mut [u32], m: usize, e: &[u32], n: usize, w: u32) -> usize
 }
 
 // A table's value into a place, its bound names (words up to 63) replaced. The caller has seen that it has at most 16 words then.
-pub fn put_substituted(v: &mut [u32], e: &[u32], n: usize, s: &[u32])
+pub(crate) fn put_substituted(v: &mut [u32], e: &[u32], n: usize, s: &[u32])
     requires { ⌜ (length (now v) ≡ 17) × (length (now e) ≡ 144) × (n ≤ 8) × (every fitsPlace (take n (placesOf (now e))) ≡ true) × (length (substitute (envOf (now e) n) (now s)) ≤ 16) ⌝ }
     ensures { λ _. ⌜ now (v .exit) ≡ placed (now (v .entry)) 0 (substitute (envOf (now (e .entry)) n) (now (s .entry))) ⌝ }
 {

@@ -2,6 +2,7 @@
 use crate::Row;
 use crate::Rows;
 use crate::Sides;
+use values::Minting;
 
 impl Rows {
     // The words of a row, and of an environment.
@@ -59,7 +60,7 @@ impl Row {
 
 impl Sides {
     // The sides that are lent tables and have a place in a state.
-    pub const COUNT: usize = 2;
+    pub const COUNT: usize = Minting::SIDES;
 
     // A side's marks of minted names: 256 for the names of each side.
     pub const MARKS: usize = 256 * Sides::COUNT;

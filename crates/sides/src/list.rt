@@ -7,7 +7,7 @@ ghost use lib.ListN.{length, take, getD};
 ghost use Rattle.model.specs.Basics.{every};
 ghost use Rattle.model.specs.Values.{substitute};
 ghost use Rattle.sides.specs.Views.{viewTag};
-ghost use Rattle.sides.specs.Layout.{rowAt, placesOf, tagIn, viewPlace, fitsPlace, viewRow, fitsRow, fitsRows, ValueIs, OutputIs};
+ghost use Rattle.sides.specs.Layout.{rowAt, placesOf, tagIn, viewPlace, fitsPlace, fitsRow, fitsRows, ValueIs};
 ghost use Rattle.sides.specs.Stored.{outputPut, sentPut, movedTo, inputPut, valuesPut, rowGone};
 ghost use Rattle.sides.specs.Environments.{envOf};
 use crate::Output;
@@ -17,7 +17,6 @@ use crate::Tag;
 use crate::environment::put_substituted;
 use crate::inputs::copy_values;
 use crate::inputs::write_input;
-use crate::outputs::output_in;
 use crate::outputs::put_head;
 use crate::outputs::write_output;
 use crate::places::value_in;
@@ -43,16 +42,6 @@ pub fn tag_at(rows: &[u32], i: usize) -> Tag
     tag_of(word_at(rows, i, Row::TAG), word_at(rows, i, Row::CHILD))
 }
 
-// The output at row i.
-pub fn output_at(rows: &[u32], i: usize) -> Output
-    requires { ⌜ (length (now rows) ≡ 5184) × (i < 32) × (fitsRow (rowAt (now rows) i) ≡ true) × (getD (rowAt (now rows) i) 0 0 ≡ 1) ⌝ }
-    ensures { λ o. ⌜ OutputIs (viewRow (rowAt (now (rows .entry)) i)) o ⌝ }
-{
-    let a = Rows::WIDTH * i;
-    let e = a + Rows::WIDTH;
-    output_in(&rows[a..e])
-}
-
 // Value k of the waiting input at row i.
 pub fn value_at(rows: &[u32], i: usize, k: usize) -> Value
     requires { ⌜ (length (now rows) ≡ 5184) × (i < 32) × (k < 8) × (fitsPlace (getD (placesOf (rowAt (now rows) i)) k []) ≡ true) ⌝ }
@@ -64,7 +53,7 @@ pub fn value_at(rows: &[u32], i: usize, k: usize) -> Value
 }
 
 // An output at row i.
-pub fn put_output(rows: &mut [u32], i: usize, o: Output)
+pub(crate) fn put_output(rows: &mut [u32], i: usize, o: Output)
     requires { ⌜ (length (now rows) ≡ 5184) × (i < 32) × (o .at < 2 ^ 32) × (o .value .len ≤ 16) ⌝ }
     ensures { λ _. ⌜ now (rows .exit) ≡ outputPut (now (rows .entry)) (144 * i) o ⌝ }
 {

@@ -1,36 +1,15 @@
 // An output in the 144 words of its row.
 ghost use mathlib.Core.Path.{_≡_};
-ghost use mathlib.Core.Bool.{true};
 ghost use Prim.Native.Nat.{_^_, _<_, _≤_};
-ghost use lib.ListN.{length, getD};
-ghost use Rattle.sides.specs.Layout.{viewRow, fitsRow, OutputIs};
+ghost use lib.ListN.{length};
 ghost use Rattle.sides.specs.Stored.{headPut, outputPut};
 use crate::Output;
 use crate::Row;
 use crate::Rows;
 use crate::Tag;
 use crate::places::put_value;
-use crate::places::value_in;
-use crate::places::wide;
 use crate::tags::tag_kind;
 use crate::tags::tag_name;
-use crate::tags::tag_of;
-
-// The output that a row holds.
-pub(crate) fn output_in(r: &[u32]) -> Output
-    requires { ⌜ (length (now r) ≡ 144) × (fitsRow (now r) ≡ true) × (getD (now r) 0 0 ≡ 1) ⌝ }
-    ensures { λ o. ⌜ OutputIs (viewRow (now (r .entry))) o ⌝ }
-{
-    let e = Rows::HEAD + Rows::PLACE;
-    let tag = tag_of(r[Row::TAG], r[Row::CHILD]);
-    let value = value_in(&r[Rows::HEAD..e]);
-    Output {
-        at: wide(r[Row::BOX]),
-        channel: r[Row::CHANNEL],
-        tag,
-        value,
-    }
-}
 
 // The first words of an output.
 pub(crate) fn put_head(r: &mut [u32], at: usize, channel: u32, tag: Tag)

@@ -7,14 +7,14 @@ use Prim.Native.Nat.{ℕ, zero, suc, _<_, _≤_}
 use native.Mathlib.Omega.{arith}
 use borrow.Author.Tests.{le-leb, eq-eqb, ne-eqb}
 use lib.Dec.{eqb}
-use lib.ListN.{length, getD, getElem?, set, length-append, length-set}
+use lib.ListN.{length, getElem?, set, length-append, length-set}
 use Rattle.model.specs.Basics.{_&_, _or_, refuse, done, need, every, remove, pick}
 use Rattle.model.specs.Values.{isValue, isMinted}
-use Rattle.model.specs.Side.{Tag, fromParent, fromChild, Particle, output, input, Box, down, arrived, leaving, Message, Core, limits, takenAt}
+use Rattle.model.specs.Side.{Tag, fromParent, fromChild, Particle, output, input, Box, down, arrived, leaving, Message, Core, limits}
 use Rattle.model.specs.Unfolding.{addParticle}
 use Rattle.model.specs.Load.{Setting}
 use Rattle.model.specs.Wrapper.{shelves}
-use Rattle.model.specs.Step.{Moved, silent, enters, leaves, silently, withContents, withLobby, withParticles, enter, isDown, isArrived, isLeaving, goDown, isToParent, upFrom, upParticle, up, isToChild, descendParticle, descend, pass, leave, takes, short, settled}
+use Rattle.model.specs.Step.{Moved, silent, enters, leaves, silently, withContents, withLobby, withParticles, enter, isDown, isArrived, isLeaving, goDown, isToParent, upFrom, upParticle, up, isToChild, descendParticle, descend, pass, leave, short, settled}
 use Rattle.model.proofs.Tests.{both, every-append, every-one, every-remove, every-set, length-remove}
 use Rattle.steps.proofs.Settling.{pick-past, pick-at, need-true, need-false, choose-true, choose-false, no-left, no-right, Within, limits-in, over-particles, over-lobby, over-shelf, settled-refused, settled-full, settled-within}
 

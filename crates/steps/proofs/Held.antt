@@ -8,7 +8,7 @@ use Prim.Native.Nat.{ℕ, zero, suc, _+_, _<_, _≤_}
 use native.Mathlib.Omega.{arith}
 use borrow.Author.Tests.{ltb-true, leb-true, leb-false, not-true, not-false}
 use lib.Dec.{leb}
-use lib.ListN.{length, take, drop, getD, getElem?, length-take, length-drop}
+use lib.ListN.{length, take, drop, getD, getElem?, length-take}
 use lib.Seq.{drop-drop}
 use Rattle.model.specs.Basics.{Res, refuse, done, every}
 use Rattle.model.specs.Side.{Particle, output, input, Box, Core}
@@ -24,14 +24,13 @@ use Rattle.values.specs.declared.Value.{Value}
 use Rattle.values.specs.Env.{viewValue, Stores}
 use Rattle.sides.specs.declared.Message.{Message}
 use Rattle.sides.specs.Views.{viewMessage, viewLobby, fitsMessage, fitsLobby}
-use Rattle.sides.proofs.Lists.{view-length, view-at, every-at}
+use Rattle.sides.proofs.Lists.{view-length, view-at}
 use Rattle.sides.proofs.Lobbies.{lobby-length, lobby-at, lobby-fits-at, lobby-short, value-short}
 use Rattle.sides.specs.declared.Rest.{Rest}
-use Rattle.sides.specs.Layout.{parts, rowAt, placesOf, tagIn, viewPlace, fitsPlace, viewRow, fitsRow, viewRows, fitsRows, boxesOf, viewBox, viewBoxes, shelfOf, viewShelf, fitsShelf}
+use Rattle.sides.specs.Layout.{parts, rowAt, placesOf, tagIn, viewPlace, fitsPlace, fitsRow, viewRows, fitsRows, boxesOf, viewBox, viewBoxes, shelfOf, viewShelf, fitsShelf}
 use Rattle.sides.specs.Sides.{coreOf, fitsSide}
 use Rattle.sides.proofs.Reading.{boxes-count, shelf-count, place-short, first-place, first-fits}
 use Rattle.sides.proofs.Viewing.{view-count, view-row, fits-row, output-view, input-view}
-use Rattle.steps.specs.declared.Said.{Said}
 use Rattle.steps.specs.declared.Said.the-variants as said
 use Rattle.steps.specs.declared.Offer.{Offer}
 use Rattle.steps.specs.declared.Offer.the-variants.{At, Refused}

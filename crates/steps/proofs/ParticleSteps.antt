@@ -5,7 +5,7 @@ use mathlib.Core.List.{List, [], _∷_, _++_, map}
 use Prim.Native.Nat.{ℕ, _+_, _-_, _*_, _<_, _≤_}
 use native.Mathlib.Omega.{arith}
 use lib.Dec.{leb, eqb}
-use lib.ListN.{length, take, drop, getD}
+use lib.ListN.{length, take, getD}
 use Rattle.model.specs.Basics.{_&_, Res, refuse, done, every, remove}
 use Rattle.model.specs.Side.{output, arrived}
 use Rattle.model.specs.Load.{Setting}

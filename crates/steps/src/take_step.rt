@@ -1,8 +1,7 @@
 // Take: a side takes a value off a source's shelf.
 ghost use mathlib.Core.Path.{_≡_};
 ghost use mathlib.Core.Bool.{true};
-ghost use Prim.Native.Nat.{_<_, _≤_};
-ghost use lib.ListN.{length};
+ghost use Prim.Native.Nat.{_<_};
 ghost use Rattle.model.specs.Side.{takenAt};
 ghost use Rattle.model.specs.Step.{takes, settled};
 ghost use Rattle.sides.specs.Layout.{viewShelf};

@@ -10,7 +10,7 @@ use lib.ListN.{length, take, drop, length-map, length-take}
 use lib.Seq.{take-take, drop-drop}
 use Rattle.model.specs.Basics.{_&_, every}
 use Rattle.model.specs.Values.{Env, word, extend, substitute}
-use Rattle.model.specs.Table.{Table, count, field, Term, nil, par, box, new, build, term}
+use Rattle.model.specs.Table.{Table, count, field, Term, par, box, new, build, term}
 use Rattle.model.specs.Side.{Particle, Box, input, Contents}
 use Rattle.model.specs.Unfolding.{particlesIn, boxesIn, newNamesIn, addParticle, addBox, unfolds}
 use Rattle.model.proofs.CauseTools.{neither}

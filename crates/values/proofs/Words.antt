@@ -1,9 +1,9 @@
 -- Tests of a word: one law for each way that the code goes.
-use mathlib.Core.Path.{_≡_, refl}
+use mathlib.Core.Path.{_≡_, refl, sym, _∙_}
 use mathlib.Core.Bool.{Bool, true, false}
-use Prim.Native.Nat.{ℕ, _<_, _≤_}
+use Prim.Native.Nat.{ℕ, _<_, _≤_, _%_}
 use native.Mathlib.Omega.{arith}
-use borrow.Author.Tests.{le-leb, lt-leb}
+use borrow.Author.Tests.{le-leb, lt-leb, leb-true, leb-false}
 use lib.Dec.{leb, eqb}
 use Rattle.model.specs.Basics.{_&_, _or_}
 use Rattle.model.specs.Values.{isTuple, isMinted}
@@ -24,17 +24,23 @@ module _ (w : ℕ) where
   unfolding _&_ _or_
   minted-none h = rw (lt-leb 65536 w h, lt-leb 131072 w (omega arith))
 
-  pub minted-one : 65536 ≤ w → w ≤ 65791 → true ≡ isMinted w
+  pub minted-high : 196608 ≤ w → false ≡ isMinted w
   unfolding _&_ _or_
-  minted-one h l = rw (le-leb 65536 w h, le-leb w 65791 l)
+  minted-high h = rw (le-leb 65536 w (omega arith), lt-leb w 65791 (omega arith), le-leb 131072 w (omega arith), lt-leb w 131327 (omega arith))
 
-  pub minted-gap : 65791 < w → w < 131072 → false ≡ isMinted w
+  -- of side 1 or 2, by its serial
+  pub minted-serial : 65536 ≤ w → w < 196608 → leb (w % 65536) 255 ≡ isMinted w
   unfolding _&_ _or_
-  minted-gap h l = rw (le-leb 65536 w (omega arith), lt-leb w 65791 h, lt-leb 131072 w l)
-
-  pub minted-two : 131072 ≤ w → leb w 131327 ≡ isMinted w
-  unfolding _&_ _or_
-  minted-two h = rw (le-leb 65536 w (omega arith), lt-leb w 65791 (omega arith), le-leb 131072 w h)
+  minted-serial h l = go (leb w 65791) (leb 131072 w) refl refl
+    where
+      go : (a b : Bool) → leb w 65791 ≡ a → leb 131072 w ≡ b → leb (w % 65536) 255 ≡ isMinted w
+      go true b e f = rw (le-leb 65536 w h, e) (le-leb (w % 65536) 255 (omega (arith, leb-true w 65791 e)))
+      go false false e f = rw (le-leb 65536 w h, e, f) (lt-leb (w % 65536) 255 (omega (arith, leb-false w 65791 e, leb-false 131072 w f)))
+      go false true e f = rw (le-leb 65536 w h, e, f) (go-high (leb w 131327) refl)
+        where
+          go-high : (c : Bool) → leb w 131327 ≡ c → leb (w % 65536) 255 ≡ leb w 131327
+          go-high true g = le-leb (w % 65536) 255 (omega (arith, leb-true 131072 w f, leb-true w 131327 g)) ∙ sym g
+          go-high false g = lt-leb (w % 65536) 255 (omega (arith, leb-true 131072 w f, leb-false w 131327 g)) ∙ sym g
 
   pub leaf-low : (l : Leaf) → w ≤ 63 → true ≡ leafOf l w
   unfolding leafOf _or_

@@ -24,19 +24,25 @@ pub enum Span {
     Bad,
 }
 
-// Whether w is a minted name: 65,536 × side + serial, side 1 or 2, serial up to 255.
+// How many sides mint names.
+pub struct Minting;
+
+impl Minting {
+    pub const SIDES: usize = 2;
+}
+
+// Whether w is a minted name: 65,536 × side + serial, a side's number from 1 on, serial up to 255.
 pub fn is_minted(w: u32) -> bool
     ensures { λ r. ⌜ r ≡ isMinted w ⌝ }
 {
-    if w < 65536 {
-        false
-    } else if w <= 65791 {
-        true
-    } else if w < 131072 {
-        false
-    } else {
-        w <= 131327
+    let side = (w / 65536) as usize;
+    if side == 0 {
+        return false;
     }
+    if Minting::SIDES < side {
+        return false;
+    }
+    w % 65536 <= 255
 }
 
 // Whether w is an item by itself.

@@ -10,9 +10,9 @@ mod marks; // names that have left, shelf places taken
 mod particles; // outputs and waiting inputs
 mod shelf; // values on the shelf
 mod side; // a side
-mod whole; // a state
+mod state; // a state
 
-pub use whole::well_formed;
+pub use state::well_formed;
 
 // A word as a number of places.
 pub(crate) fn wide(x: u32) -> usize

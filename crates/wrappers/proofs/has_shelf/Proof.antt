@@ -1,5 +1,4 @@
 use Rattle.wrappers.proofs.Described.{shelf-at, no-shelf}
-use borrow.Author.Needs.{needs}
 use Rattle.wrappers.proofs.has_shelf.Statement.{statement}
 use Rattle.wrappers.proofs.has_shelf.Tie as tie
 

@@ -1,5 +1,4 @@
 use Rattle.wrappers.proofs.Described.{filter-side, first-side, second-side, no-sides}
-use borrow.Author.Needs.{needs}
 use Rattle.wrappers.proofs.has_side.Statement.{statement}
 use Rattle.wrappers.proofs.has_side.Tie as tie
 

@@ -1,5 +1,4 @@
 use Rattle.wrappers.proofs.Described.{one-wrapper, two-wrapper}
-use borrow.Author.Needs.{needs}
 use Rattle.wrappers.proofs.is_wrapper.Statement.{statement}
 use Rattle.wrappers.proofs.is_wrapper.Tie as tie
 

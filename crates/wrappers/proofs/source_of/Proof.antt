@@ -1,5 +1,4 @@
 use Rattle.wrappers.proofs.Described.{first-source, other-j, other-taker, no-source}
-use borrow.Author.Needs.{needs}
 use Rattle.wrappers.proofs.source_of.Statement.{statement}
 use Rattle.wrappers.proofs.source_of.Tie as tie
 

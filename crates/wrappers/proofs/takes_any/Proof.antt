@@ -1,5 +1,4 @@
 use Rattle.wrappers.proofs.Described.{taker-at, no-taker}
-use borrow.Author.Needs.{needs}
 use Rattle.wrappers.proofs.takes_any.Statement.{statement}
 use Rattle.wrappers.proofs.takes_any.Tie as tie
 

@@ -1,7 +1,7 @@
 use mathlib.Core.Path.{sym, _∙_}
 use mathlib.Core.List.{[]}
 use lib.ListN.{getD}
-use Rattle.model.specs.Step.{takes, local, settled}
+use Rattle.model.specs.Step.{local, settled}
 use Rattle.wrappers.proofs.Described.{source-in}
 use Rattle.sides.specs.Sides.{coreOf}
 use Rattle.steps.specs.Asked.{knownBy}

@@ -3,7 +3,7 @@ use lib.ListN.{length}
 use Rattle.tables.specs.Nodes.{table}
 use Rattle.scopes.proofs.StepLaws.{walks-at}
 use Rattle.scopes.proofs.ScopeBound.{passes-checked}
-use Rattle.environments.proofs.Marks.{defined-is}
+use Rattle.environments.proofs.TupleNames.{defined-is}
 use borrow.Author.Needs.{needs}
 use Rattle.environments.proofs.defined.defined_at.Statement.{statement}
 use Rattle.environments.proofs.defined.defined_at.Tie as tie

@@ -1,7 +1,6 @@
--- Each slot's name is marked or unmarked in turn; a number past 63 leaves the marks as they are.
+-- Each slot's name is put into the set or taken out in turn; a number past 63 leaves the set as it is.
 use mathlib.Core.Path.{_≡_, sym, ap, ap₂, _∙_}
 use mathlib.Core.Bool.{Bool, false}
-use mathlib.Core.List.{List}
 use mathlib.Core.Logic.{⊎-elim}
 use Prim.Native.Nat.{ℕ, _≤_, _-_}
 use lib.ListN.{length, set, length-set, replicate, getD-replicate}

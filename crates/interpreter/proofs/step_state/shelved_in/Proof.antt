@@ -1,6 +1,6 @@
 use mathlib.Core.Path.{_≡_, refl, _∙_}
 use mathlib.Core.List.{map}
-use Prim.Native.Nat.{_-_, _≤_, _<_}
+use Prim.Native.Nat.{_-_, _≤_}
 use lib.ListN.{length, take, length-set}
 use Rattle.values.proofs.Lists.{unmap}
 use Rattle.sides.specs.declared.Side.{Side}

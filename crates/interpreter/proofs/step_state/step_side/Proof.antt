@@ -1,7 +1,7 @@
-use mathlib.Core.Path.{_≡_, refl, sym, ap, subst, _∙_}
+use mathlib.Core.Path.{_≡_, refl, ap, _∙_}
 use Prim.Native.Nat.{_-_, _<_}
 use denote.Ref.{now}
-use lib.ListN.{length, length-map, length-set}
+use lib.ListN.{length, length-map}
 use Rattle.values.proofs.Lists.{unmap}
 use Rattle.sides.specs.declared.Side.{Side}
 use Rattle.loading.proofs.Starting.{has-number}

@@ -1,6 +1,5 @@
 use Rattle.tables.specs.Nodes.{table}
 use Rattle.loading.proofs.Faults.{lack-none, lack-nodes, lack-pool}
-use borrow.Author.Needs.{needs}
 use Rattle.loading.proofs.verdicts.lack_verdict.Statement.{statement}
 use Rattle.loading.proofs.verdicts.lack_verdict.Tie as tie
 

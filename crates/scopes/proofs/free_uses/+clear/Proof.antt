@@ -18,8 +18,8 @@ use Rattle.scopes.proofs.free_uses.+clear.Lts-clear as clear-lts
 use Rattle.scopes.proofs.free_uses.hide_names.Reads as hide-names-reads
 use Rattle.scopes.proofs.free_uses.unmarked.Reads as unmarked-reads
 use Rattle.scopes.proofs.walk.child.Reads as child-reads
-use Rattle.tables.proofs.marks.Marks.has.Reads as has-reads
-use Rattle.tables.proofs.marks.Marks.put.Reads as put-reads
+use Rattle.tables.proofs.name_set.NameSet.has.Reads as has-reads
+use Rattle.tables.proofs.name_set.NameSet.put.Reads as put-reads
 use Rattle.tables.proofs.nodes.node_at.Reads as node-at-reads
 use Rattle.tables.proofs.pool.words_at.Reads as words-at-reads
 use Rattle.scopes.proofs.free_uses.+clear.{statement}

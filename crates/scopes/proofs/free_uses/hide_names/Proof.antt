@@ -7,7 +7,7 @@ use Prim.Native.Nat.{ℕ, _≤_, _-_}
 use lib.ListN.{length, take, set}
 use lib.Seq.{take-all}
 use Rattle.model.specs.Values.{binders}
-use Rattle.tables.specs.declared.marks.Marks.{Marks}
+use Rattle.tables.specs.declared.name_set.NameSet.{NameSet}
 use Rattle.scopes.specs.FreeUses.{hide}
 use Rattle.scopes.proofs.FreeUseLaws.{hide-name, hide-other}
 use borrow.Author.Needs.{needs}
@@ -46,8 +46,8 @@ loop-again c =
     let l = c .before .before .before .loop in (
       search needs,
       ⊎-elim
-          (λ q. ap (λ (m : Marks). m .on) (q .3) ∙ q .2 .ensures ∙ ap (λ (x : ℕ). set (l .r .on) x false) (q .1 .ensures) ∙ hide-name _ _ (l .i) (c .before .before .loop-test .taken) _ (q .0 .taken) (l .inv .1))
-          (λ q. ap (λ (m : Marks). m .on) (q .1) ∙ hide-other _ _ (l .i) (c .before .before .loop-test .taken) _ (q .0 .left) (l .inv .1))
+          (λ q. ap (λ (m : NameSet). m .on) (q .3) ∙ q .2 .ensures ∙ ap (λ (x : ℕ). set (l .r .on) x false) (q .1 .ensures) ∙ hide-name _ _ (l .i) (c .before .before .loop-test .taken) _ (q .0 .taken) (l .inv .1))
+          (λ q. ap (λ (m : NameSet). m .on) (q .1) ∙ hide-other _ _ (l .i) (c .before .before .loop-test .taken) _ (q .0 .left) (l .inv .1))
           (c .if1 .came),
     )
 

@@ -1,4 +1,3 @@
-use mathlib.Core.Path.{refl}
 use lib.ListN.{length-set}
 use Rattle.sides.proofs.Storing.{box-stored}
 use borrow.Author.Needs.{needs}

@@ -1,4 +1,3 @@
-use mathlib.Core.Path.{refl}
 use Rattle.steps.proofs.Held.{rows-cap, boxes-cap}
 use Rattle.steps.proofs.ParticleSteps.{box-did}
 use native.Mathlib.Omega.{arith}

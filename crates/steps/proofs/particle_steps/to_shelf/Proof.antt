@@ -1,6 +1,4 @@
-use mathlib.Core.Path.{_∙_}
 use Rattle.steps.proofs.Held.{none-more, one-more}
-use Rattle.sides.proofs.Storing.{shelf-length}
 use Rattle.steps.specs.Asked.{valueIn}
 use Rattle.steps.proofs.Held.{rows-cap, shelf-cap, value-in-place}
 use Rattle.steps.proofs.ParticleSteps.{shelf-did, shelf-full}

@@ -1,6 +1,5 @@
 use mathlib.Core.Path.{refl, sym, ap, _∙_}
 use borrow.Author.Tests.{not-true, not-false}
-use Rattle.model.specs.Side.{Tag}
 use Rattle.model.specs.Step.{isToParent}
 use Rattle.steps.proofs.Held.{rows-cap}
 use Rattle.steps.proofs.ParticleSteps.{up-past, up-no-output, up-not}

@@ -1,5 +1,5 @@
 use mathlib.Core.Path.{refl, ap, sym, _∙_}
-use mathlib.Core.Bool.{Bool, false}
+use mathlib.Core.Bool.{false}
 use Prim.Native.Nat.{ℕ}
 use lib.ListN.{getD}
 use Rattle.steps.proofs.Held.{none-more, one-more}

@@ -1,8 +1,8 @@
--- `tables::marks::Marks::none` meets its contract.
+-- `tables::name_set::NameSet::none` meets its contract.
 use mathlib.Core.Bool.{false}
 use Rattle.tables.proofs.PoolLaws.{same-everywhere}
-use Rattle.tables.proofs.marks.Marks.none.Statement.{statement}
-use Rattle.tables.proofs.marks.Marks.none.Tie as tie
+use Rattle.tables.proofs.name_set.NameSet.none.Statement.{statement}
+use Rattle.tables.proofs.name_set.NameSet.none.Tie as tie
 
 returns : tie.Need-returns
 returns c = λ m. same-everywhere 64 m false

@@ -1,4 +1,4 @@
--- Refusal 15 by the marks of the names that an environment binds to a tuple is `defined`.
+-- Refusal 15 by the set of the names that an environment binds to a tuple is `defined`.
 use mathlib.Core.Path.{_≡_, refl, sym, ap, _∙_}
 use mathlib.Core.Bool.{Bool, true, false, not}
 use mathlib.Core.List.{List}
@@ -23,10 +23,10 @@ not-not true = refl
 not-not false = refl
 
 module _ (e : List ℕ) (n : ℕ) (f : Fits e n) (ts : List Bool) (full : length ts ≡ 64) (p : (m : ℕ) → m < 64 → getD ts m false ≡ tupleOf (value (envOf e n) m)) where
-  marks-agree : Agrees (envOf e n) ts
+  set-agrees : Agrees (envOf e n) ts
   unfolding tupleOf
-  marks-agree = record { sized = env-sized e n f; full = full; same = λ m h. not-not _ ∙ ap not (sym (p m (omega arith))) }
+  set-agrees = record { sized = env-sized e n f; full = full; same = λ m h. not-not _ ∙ ap not (sym (p m (omega arith))) }
 
   pub defined-is : (t : Table) → Passes t → (k : ℕ) → k < count t → (r : Bool) → r ≡ clearAt t k ts → r ≡ defined (term t k) (envOf e n)
   unfolding clearAt
-  defined-is t c k l r z = z ∙ sym (fits-clear (sits t (passes-checked t c) k l) (envOf e n) ts marks-agree)
+  defined-is t c k l r z = z ∙ sym (fits-clear (sits t (passes-checked t c) k l) (envOf e n) ts set-agrees)

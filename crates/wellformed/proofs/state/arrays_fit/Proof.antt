@@ -8,8 +8,8 @@ use Rattle.model.specs.Wrapper.{allSides}
 use Rattle.values.proofs.Lists.{unmap}
 use Rattle.sides.specs.Sides.{fitsSide}
 use Rattle.wellformed.proofs.TestLaws.{from-every, Passed, passed-more, passed-not, passed-all}
-use Rattle.wellformed.proofs.whole.arrays_fit.Statement.{statement}
-use Rattle.wellformed.proofs.whole.arrays_fit.Tie as tie
+use Rattle.wellformed.proofs.state.arrays_fit.Statement.{statement}
+use Rattle.wellformed.proofs.state.arrays_fit.Tie as tie
 
 abbrev Inv-loop : tie.InvT-loop
 Inv-loop s k₀ k = Passed (λ j o. fitsSide (o .words) (o .rest)) (s .sides) k

@@ -1,11 +1,11 @@
--- `tables::marks::Marks::put` meets its contract.
+-- `tables::name_set::NameSet::put` meets its contract.
 use mathlib.Core.Path.{_≡_, sym}
 use lib.ListN.{length}
 use lib.Seq.{set-out}
 use native.Mathlib.Omega.{arith}
 use borrow.Author.Needs.{needs}
-use Rattle.tables.proofs.marks.Marks.put.Statement.{statement}
-use Rattle.tables.proofs.marks.Marks.put.Tie as tie
+use Rattle.tables.proofs.name_set.NameSet.put.Statement.{statement}
+use Rattle.tables.proofs.name_set.NameSet.put.Tie as tie
 
 element-write-self : tie.Need-element-write-self
 element-write-self c = search needs

@@ -9,8 +9,8 @@ use Rattle.values.proofs.Lists.{unmap}
 use Rattle.wellformed.specs.Clauses.{mintedIn, shelvedIn}
 use Rattle.wellformed.proofs.TestLaws.{map-at}
 use Rattle.wellformed.proofs.StateLaws.{filled-more, filled-all}
-use Rattle.wellformed.proofs.whole.counts_of.Statement.{statement}
-use Rattle.wellformed.proofs.whole.counts_of.Tie as tie
+use Rattle.wellformed.proofs.state.counts_of.Statement.{statement}
+use Rattle.wellformed.proofs.state.counts_of.Tie as tie
 
 abbrev Inv-loop : tie.InvT-loop
 Inv-loop s c₀ k₀ c k = (length (c .minted) ≡ length allSides) × (length (c .shelved) ≡ length allSides) × (take k (c .minted) ≡ take k (mintedIn s)) × (take k (c .shelved) ≡ take k (shelvedIn s))

@@ -12,8 +12,8 @@ use Rattle.sides.proofs.Lists.{stops, goes-on}
 use Rattle.wrappers.specs.Compositions.{composition}
 use Rattle.wellformed.proofs.TestLaws.{Passed, passed-more, passed-not, passed-all}
 use Rattle.wellformed.proofs.StateLaws.{standsAt, state-is, table-passes, side-within, side-answer, Places}
-use Rattle.wellformed.proofs.whole.well_formed.Statement.{statement}
-use Rattle.wellformed.proofs.whole.well_formed.Tie as tie
+use Rattle.wellformed.proofs.state.well_formed.Statement.{statement}
+use Rattle.wellformed.proofs.state.well_formed.Tie as tie
 
 abbrev Inv-loop : tie.InvT-loop
 Inv-loop wrapper t2 t3 nodes pools s minted shelved k₀ k = Passed (standsAt (composition wrapper (map now t2) (map now t3)) s) allSides k

@@ -1,11 +1,11 @@
--- `tables::marks::Marks::has` meets its contract.
+-- `tables::name_set::NameSet::has` meets its contract.
 use mathlib.Core.Path.{_≡_, sym}
 use mathlib.Core.Bool.{false}
 use lib.ListN.{length, List·getD-eq-default}
 use native.Mathlib.Omega.{arith}
 use borrow.Author.Needs.{needs}
-use Rattle.tables.proofs.marks.Marks.has.Statement.{statement}
-use Rattle.tables.proofs.marks.Marks.has.Tie as tie
+use Rattle.tables.proofs.name_set.NameSet.has.Statement.{statement}
+use Rattle.tables.proofs.name_set.NameSet.has.Tie as tie
 
 element-copy-out-result : tie.Need-element-copy-out-result
 element-copy-out-result c = search needs
