@@ -48,7 +48,6 @@ fn pipeline(side: u32, s: State) {
     names(false, 2, side, s, 10, 19, &[65537, 131074]);
     values(false, 2, side, s, 12, 15);
     value(false, 2, side, s, 16);
-    largest_serials(side, s);
 }
 
 // The filter: two names of side 1, none of side 2.
@@ -63,6 +62,8 @@ fn filter(s: State) {
 fn main() {
     let s = states::piped();
     pipeline(1, s);
+    largest_serials(1, s);
     pipeline(2, s);
+    largest_serials(2, s);
     filter(states::filtered());
 }
