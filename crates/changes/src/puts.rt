@@ -15,6 +15,8 @@
 //   35        whether a particle is an output
 //   36        an input at a node
 //   37        the last word past the length of a shelf's value
+//
+// A number that is to be a word, and is none, is put as the largest word.
 use super::in_rest::changed_rest;
 use super::in_rest::mark_left;
 use super::in_rest::valued;
@@ -83,7 +85,7 @@ pub fn put_value(mut s: State, side: u32, what: usize, v: Value) -> State {
     s
 }
 
-// Particle 0: an input in a box that waits at a node, with n values that are the same. A number that is no word is the largest word.
+// Particle 0: an input in a box that waits at a node, with n values that are the same.
 pub fn put_input(mut s: State, side: u32, at: usize, node: usize, n: usize, v: Value) -> State {
     let k = place_of(side);
     if k < Sides::COUNT {
