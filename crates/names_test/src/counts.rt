@@ -26,7 +26,8 @@ fn is_counted(what: usize, wrapper: u32, side: u32) -> bool {
     }
 }
 
-// Each count at its limit, past it, and the largest number; the shelf's where the side may have one.
+// Each count at its limit, past it, and the largest number (of a count that is a word, the largest word); the shelf's where the side may
+// have one.
 pub fn counts(wrapper: u32, side: u32, s: State) {
     let mut k: usize = 0;
     while k < 10 {

@@ -41,19 +41,16 @@ fn largest_serials(side: u32, s: State) {
     write(b"with the names that were minted\n");
 }
 
-// A side under the pipeline. By the counts of the state: one name of side 1, two of side 2.
+// What is by the counts of the state, under the pipeline: one name of side 1, two of side 2.
 fn pipeline(side: u32, s: State) {
-    any_side(2, side, s);
     names(true, 2, side, s, 10, 19, &[63, 65536, 131073]);
     names(false, 2, side, s, 10, 19, &[65537, 131074]);
     values(false, 2, side, s, 12, 15);
     value(false, 2, side, s, 16);
-    largest_serials(side, s);
 }
 
-// The filter: two names of side 1, none of side 2.
+// The same under the filter: two names of side 1, none of side 2.
 fn filter(s: State) {
-    any_side(1, 1, s);
     names(true, 1, 1, s, 10, 19, &[63, 65537]);
     names(false, 1, 1, s, 10, 19, &[65538, 65792, 131072, 131328]);
     values(false, 1, 1, s, 12, 14);
@@ -62,7 +59,13 @@ fn filter(s: State) {
 
 fn main() {
     let s = test_states::piped();
+    let f = test_states::filtered();
+    any_side(2, 1, s);
     pipeline(1, s);
+    largest_serials(1, s);
+    any_side(2, 2, s);
     pipeline(2, s);
-    filter(test_states::filtered());
+    largest_serials(2, s);
+    any_side(1, 1, f);
+    filter(f);
 }

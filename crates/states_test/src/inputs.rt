@@ -7,7 +7,8 @@ use test_states::ask;
 use test_states::head;
 use values::Value;
 
-// Whether it is allowed; the box; the node; the number of values; the word that each is.
+// Whether it is allowed; the box; the node; the number of values; the word that each is. The first three are words on a side: the
+// largest number is put as the largest word.
 const INPUTS: [[usize; 5]; 27] = [
     [1, 1, 6, 1, 20], // the box: there are boxes 0 and 1
     [0, 2, 6, 1, 20],

@@ -2,7 +2,6 @@
 use crate::calls::begin;
 use crate::calls::start;
 use crate::calls::stepped;
-use interpreter::Stepped;
 use sides::State;
 use steps::Said;
 use test_changes::put;
@@ -23,16 +22,13 @@ fn say(said: Said) {
     }
 }
 
-// What the answer holds, and whether the state after it is the one before.
-fn answer(s: State, r: Stepped) {
-    let said = r.said;
-    let v = r.value;
-    let t = r.state;
+// What an answer holds, and whether the state after it is the one before.
+fn answer(said: Said, side: u32, len: usize, kept: bool) {
     say(said);
-    word(r.side);
+    word(side);
     write(b" length");
-    test_changes::number(v.len);
-    if same_state(s, t) {
+    test_changes::number(len);
+    if kept {
         write(b" kept\n");
     } else {
         write(b" changed\n");
@@ -50,7 +46,11 @@ fn line<'a>(
     side: u32,
 ) {
     begin(b"enter", name, wrapper, side);
-    answer(s, stepped(wrapper, nodes1, nodes2, pool, s, 1, side, 0));
+    let r = stepped(wrapper, nodes1, nodes2, pool, s, 1, side, 0);
+    let said = r.said;
+    let v = r.value;
+    let t = r.state;
+    answer(said, r.side, v.len, same_state(s, t));
 }
 
 // The filter has side 1.

@@ -17,7 +17,7 @@ pub(crate) fn as_word(n: usize) -> u32 {
 }
 
 // A value from word a on: its length, and all of its 16 words.
-fn put_value(words: &mut [u32; Rows::WORDS], a: usize, v: Value)
+fn store_value(words: &mut [u32; Rows::WORDS], a: usize, v: Value)
     requires { ⌜ a < 5184 ⌝ }
 {
     store(words, a, as_word(v.len));
@@ -32,7 +32,7 @@ fn put_value(words: &mut [u32; Rows::WORDS], a: usize, v: Value)
 pub(crate) fn put_place(words: &mut [u32; Rows::WORDS], i: usize, k: usize, v: Value)
     requires { ⌜ (i < 32) × (k < 8) ⌝ }
 {
-    put_value(words, Rows::WIDTH * i + Rows::HEAD + Rows::PLACE * k, v);
+    store_value(words, Rows::WIDTH * i + Rows::HEAD + Rows::PLACE * k, v);
 }
 
 // The words of row i before its places.
@@ -137,5 +137,5 @@ pub(crate) fn put_box(words: &mut [u32; Rows::WORDS], j: usize, name: u32, paren
 pub(crate) fn put_shelved(words: &mut [u32; Rows::WORDS], j: usize, v: Value)
     requires { ⌜ j < 32 ⌝ }
 {
-    put_value(words, Rows::SHELF + Rows::PLACE * j, v);
+    store_value(words, Rows::SHELF + Rows::PLACE * j, v);
 }

@@ -15,6 +15,8 @@
 //   35        whether a particle is an output
 //   36        an input at a node
 //   37        the last word past the length of a shelf's value
+//
+// A number that is to be a word, and is none, is put as the largest word.
 use super::in_rest::changed_rest;
 use super::in_rest::mark_left;
 use super::in_rest::valued;
@@ -27,26 +29,13 @@ use sides::Sides;
 use sides::State;
 use values::Value;
 
-// A side of a state; side 1 for a number that no side has.
-fn side_of(s: State, side: u32) -> Side {
-    let k = size(side);
-    if 0 < k {
-        if k <= Sides::COUNT {
-            return s.sides[k - 1];
-        }
+// The place of a side in a state; of a number that no side has, past the last.
+fn place_of(side: u32) -> usize {
+    if 0 < side {
+        size(side - 1)
+    } else {
+        Sides::COUNT
     }
-    s.sides[0]
-}
-
-// The state with another side; itself for a number that no side has.
-fn with_side(mut s: State, side: u32, o: Side) -> State {
-    let k = size(side);
-    if 0 < k {
-        if k <= Sides::COUNT {
-            s.sides[k - 1] = o;
-        }
-    }
-    s
 }
 
 fn changed(o: Side, what: usize, n: usize) -> Side {
@@ -78,16 +67,29 @@ fn with_input(o: Side, at: usize, node: usize, n: usize, v: Value) -> Side {
     Side { words, rest, left }
 }
 
-pub fn put(s: State, side: u32, what: usize, n: usize) -> State {
-    with_side(s, side, changed(side_of(s, side), what, n))
+// A state is as it was where the side is none.
+pub fn put(mut s: State, side: u32, what: usize, n: usize) -> State {
+    let k = place_of(side);
+    if k < Sides::COUNT {
+        s.sides[k] = changed(s.sides[k], what, n);
+    }
+    s
 }
 
 // A value at a place that holds one, 15 to 18.
-pub fn put_value(s: State, side: u32, what: usize, v: Value) -> State {
-    with_side(s, side, with_value(side_of(s, side), what, v))
+pub fn put_value(mut s: State, side: u32, what: usize, v: Value) -> State {
+    let k = place_of(side);
+    if k < Sides::COUNT {
+        s.sides[k] = with_value(s.sides[k], what, v);
+    }
+    s
 }
 
 // Particle 0: an input in a box that waits at a node, with n values that are the same.
-pub fn put_input(s: State, side: u32, at: usize, node: usize, n: usize, v: Value) -> State {
-    with_side(s, side, with_input(side_of(s, side), at, node, n, v))
+pub fn put_input(mut s: State, side: u32, at: usize, node: usize, n: usize, v: Value) -> State {
+    let k = place_of(side);
+    if k < Sides::COUNT {
+        s.sides[k] = with_input(s.sides[k], at, node, n, v);
+    }
+    s
 }

@@ -1,8 +1,8 @@
--- `test_changes::places::put_value` meets its contract: the loop goes over words below 16.
+-- `test_changes::places::store_value` meets its contract: the loop goes over words below 16.
 use Prim.Native.Nat.{_-_, _≤_}
 use borrow.Author.Needs.{needs}
-use Rattle.test_changes.proofs.places.put_value.Statement.{statement}
-use Rattle.test_changes.proofs.places.put_value.Tie as tie
+use Rattle.test_changes.proofs.places.store_value.Statement.{statement}
+use Rattle.test_changes.proofs.places.store_value.Tie as tie
 
 abbrev Inv-loop : tie.InvT-loop
 Inv-loop words₀ a v k₀ words k = k ≤ 16
@@ -46,8 +46,8 @@ loop-again c = search needs
 returns : tie.Need-returns Inv-loop μ-loop
 returns c = search needs
 
-pub put-value-spec : {M : Type 1} → statement M
-put-value-spec =
+pub store-value-spec : {M : Type 1} → statement M
+store-value-spec =
     tie.close
     (tie.spec
     Inv-loop
