@@ -104,6 +104,7 @@ pub holds-none : (l : Lists) → Holds noInput l l
 holds-none l =
     let z = no-counts allSides in
     record {
+      tables = refl;
       inside = record { nodes = λ k. omega (arith, z k); fives = λ k. rw (z k) refl; pools = λ k. omega (arith, z k); steps = omega arith; stepWords = omega arith };
       lists = same-lists _ _ _ _ _ _ (sym (laid-none 1285 0 allSides (l .nodes))) (sym (laid-none 1025 0 allSides (l .pools))) refl;
     }

@@ -7,7 +7,7 @@ use Prim.Native.Nat.{ℕ, zero, suc, _+_, _-_, _*_, _<_, _≤_, _%_}
 use native.Mathlib.Omega.{arith}
 use borrow.Author.Tests.{leb-true, lt-ltb, le-ltb, eq-eqb, ne-eqb, eqb-true}
 use lib.Dec.{ltb, eqb}
-use lib.ListN.{length, getD, set, take, drop, length-append, length-drop, length-map, List·getD-map}
+use lib.ListN.{length, getD, set, take, drop, length-append, length-drop, length-map, length-set, List·getD-map}
 use lib.Seq.{sets, map-set-same}
 use Rattle.model.specs.Basics.{_&_}
 use Rattle.model.specs.Table.{Table}
@@ -179,7 +179,10 @@ module _ (i : Input) (ns : List ℕ) where
   v-some s f m = ap (poolLine i ns) (f .number) ∙ passes _ _ (both _ _ (f .ranked) (both _ _ (eq-eqb (length ns) 2 (f .sized)) (both _ _ (inside 1 (length allSides) (suc s) (omega arith) (omega (arith, f .place))) (lt-ltb _ 1025 m))))
 
 -- WHAT THE LISTS HOLD THEN
-module _ (i : Input) (old l : Lists) (h : Holds i old l) (s : ℕ) (vs : List ℕ) (place : s < length (i .loads .tables)) where
+module _ (i : Input) (old l : Lists) (h : Holds i old l) (s : ℕ) (vs : List ℕ) (place : s < length allSides) where
+  there : s < length (i .loads .tables)
+  there = omega (arith, h .tables)
+
   nodes-held : length vs ≡ 5 → getD (placesOf i .nodes) s 0 < 1285 → Holds (putTable 2 i s (moreNodes i s vs)) old (lists (sets (l .nodes) (1285 * s + getD (placesOf i .nodes) s 0) vs) (l .pools) (l .steps))
   nodes-held e m =
       let t = moreNodes i s vs in
@@ -187,6 +190,7 @@ module _ (i : Input) (old l : Lists) (h : Holds i old l) (s : ℕ) (vs : List �
       let n = getD (placesOf i .nodes) s 0 in
       let a = h .inside .fives s in
       record {
+        tables = length-set (i .loads .tables) s t ∙ h .tables;
         inside = record {
           nodes = each (λ (x : Table). x .nodes) (i .loads .tables) s refl t vs refl (λ (x : ℕ). x ≤ 1285) 5 e (omega arith) (h .inside .nodes);
           fives = each (λ (x : Table). x .nodes) (i .loads .tables) s refl t vs refl (λ (x : ℕ). x % 5 ≡ 0) 5 e (omega arith) (h .inside .fives);
@@ -196,7 +200,7 @@ module _ (i : Input) (old l : Lists) (h : Holds i old l) (s : ℕ) (vs : List �
         };
         lists =
             same-lists _ _ _ _ _ _
-            (ap (λ (x : Lists). sets (x .nodes) (1285 * s + n) vs) (h .lists) ∙ stored (λ (x : Table). x .nodes) (i .loads .tables) s refl t vs refl 1285 (old .nodes) place (h .inside .nodes))
+            (ap (λ (x : Lists). sets (x .nodes) (1285 * s + n) vs) (h .lists) ∙ stored (λ (x : Table). x .nodes) (i .loads .tables) s refl t vs refl 1285 (old .nodes) there (h .inside .nodes))
             (ap (λ (x : Lists). x .pools) (h .lists) ∙ ap (λ (x : List (List ℕ)). laid 1025 0 x (old .pools)) (sym kept))
             (ap (λ (x : Lists). x .steps) (h .lists));
       }
@@ -207,6 +211,7 @@ module _ (i : Input) (old l : Lists) (h : Holds i old l) (s : ℕ) (vs : List �
       let kept = map-set-same (λ (x : Table). x .nodes) (i .loads .tables) s t noTable refl in
       let n = getD (placesOf i .pools) s 0 in
       record {
+        tables = length-set (i .loads .tables) s t ∙ h .tables;
         inside = record {
           nodes = λ k. subst (λ (x : List (List ℕ)). getD (map length x) k 0 ≤ 1285) (sym kept) (h .inside .nodes k);
           fives = λ k. subst (λ (x : List (List ℕ)). getD (map length x) k 0 % 5 ≡ 0) (sym kept) (h .inside .fives k);
@@ -217,7 +222,7 @@ module _ (i : Input) (old l : Lists) (h : Holds i old l) (s : ℕ) (vs : List �
         lists =
             same-lists _ _ _ _ _ _
             (ap (λ (x : Lists). x .nodes) (h .lists) ∙ ap (λ (x : List (List ℕ)). laid 1285 0 x (old .nodes)) (sym kept))
-            (ap (λ (x : Lists). sets (x .pools) (1025 * s + n) vs) (h .lists) ∙ stored (λ (x : Table). x .pool) (i .loads .tables) s refl t vs refl 1025 (old .pools) place (h .inside .pools))
+            (ap (λ (x : Lists). sets (x .pools) (1025 * s + n) vs) (h .lists) ∙ stored (λ (x : Table). x .pool) (i .loads .tables) s refl t vs refl 1025 (old .pools) there (h .inside .pools))
             (ap (λ (x : Lists). x .steps) (h .lists));
       }
 
@@ -243,21 +248,20 @@ module _ (i : Input) (p : Places) (old l : Lists) (at : p ≡ placesOf i) (h : H
     pub n-no-room : 1285 ≤ getD (p .nodes) s 0 → AfterIs i (onN i (take len ws)) (notTaken p) old l
     n-no-room m = is-fault i _ p old l at h (n-full i (take len ws) s (f .number) (omega (arith, n-count)))
 
-    pub n-taken : length (p .nodes) ≡ length allSides → getD (p .nodes) s 0 < 1285 → (new : List ℕ) → new ≡ sets (l .nodes) (1285 * s + getD (p .nodes) s 0) (take 5 (drop 1 ws)) →
+    pub n-taken : getD (p .nodes) s 0 < 1285 → (new : List ℕ) → new ≡ sets (l .nodes) (1285 * s + getD (p .nodes) s 0) (take 5 (drop 1 ws)) →
         AfterIs i (onN i (take len ws)) (takenTo (nodesMore p s)) old (lists new (l .pools) (l .steps))
-    n-taken w m new e =
+    n-taken m new e =
         let vs = drop 1 (take len ws) in
         let ts = i .loads .tables in
         let t = moreNodes i s vs in
         let size : length vs ≡ 5 = omega (arith, f .sized, length-drop 1 (take len ws)) in
-        let there : s < length ts = omega (arith, f .place, w, ap (λ (x : Places). length (x .nodes)) at, length-map (nodesOf i) length, length-map ts (λ (x : Table). x .nodes)) in
         let room : getD (placesOf i .nodes) s 0 < 1285 = subst (λ (x : Places). getD (x .nodes) s 0 < 1285) at m in
         let put : new ≡ sets (l .nodes) (1285 * s + getD (placesOf i .nodes) s 0) vs =
         e ∙ ap (λ (x : Places). sets (l .nodes) (1285 * s + getD (x .nodes) s 0) (take 5 (drop 1 ws))) at ∙ ap (sets (l .nodes) (1285 * s + getD (placesOf i .nodes) s 0)) (others-of len 5 ws (omega (arith, f .sized, size-of len ws full))) in
         is-next i _ _ old _ (putTable 2 i s t)
         (n-some i (take len ws) s (subst (λ (x : Places). Names 2 6 (x .rank) (take len ws) s) at f) (omega (arith, n-count, m)))
         (ap (λ (x : Places). nodesMore x s) at ∙ same-places _ _ _ _ _ _ _ _ _ _ (counts (λ (x : Table). x .nodes) ts s refl t vs refl 5 size) (ap (map length) (sym (map-set-same (λ (x : Table). x .pool) ts s t noTable refl))) refl refl)
-        (subst (λ (x : List ℕ). Holds (putTable 2 i s t) old (lists x (l .pools) (l .steps))) (sym put) (nodes-held i old l h s vs there size room))
+        (subst (λ (x : List ℕ). Holds (putTable 2 i s t) old (lists x (l .pools) (l .steps))) (sym put) (nodes-held i old l h s vs (f .place) size room))
 
   module _ (s : ℕ) (f : Names 3 2 (p .rank) (take len ws) s) where
     v-count : getD (p .pools) s 0 ≡ length (getD (i .loads .tables) s noTable .pool)
@@ -266,18 +270,17 @@ module _ (i : Input) (p : Places) (old l : Lists) (at : p ≡ placesOf i) (h : H
     pub v-no-room : 1025 ≤ getD (p .pools) s 0 → AfterIs i (onV i (take len ws)) (notTaken p) old l
     v-no-room m = is-fault i _ p old l at h (v-full i (take len ws) s (f .number) (omega (arith, v-count)))
 
-    pub v-taken : length (p .pools) ≡ length allSides → getD (p .pools) s 0 < 1025 → (new : List ℕ) → new ≡ sets (l .pools) (1025 * s + getD (p .pools) s 0) (take 1 (drop 1 ws)) →
+    pub v-taken : getD (p .pools) s 0 < 1025 → (new : List ℕ) → new ≡ sets (l .pools) (1025 * s + getD (p .pools) s 0) (take 1 (drop 1 ws)) →
         AfterIs i (onV i (take len ws)) (takenTo (poolMore p s)) old (lists (l .nodes) new (l .steps))
-    v-taken w m new e =
+    v-taken m new e =
         let vs = drop 1 (take len ws) in
         let ts = i .loads .tables in
         let t = morePool i s vs in
         let size : length vs ≡ 1 = omega (arith, f .sized, length-drop 1 (take len ws)) in
-        let there : s < length ts = omega (arith, f .place, w, ap (λ (x : Places). length (x .pools)) at, length-map (poolsOf i) length, length-map ts (λ (x : Table). x .pool)) in
         let room : getD (placesOf i .pools) s 0 < 1025 = subst (λ (x : Places). getD (x .pools) s 0 < 1025) at m in
         let put : new ≡ sets (l .pools) (1025 * s + getD (placesOf i .pools) s 0) vs =
         e ∙ ap (λ (x : Places). sets (l .pools) (1025 * s + getD (x .pools) s 0) (take 1 (drop 1 ws))) at ∙ ap (sets (l .pools) (1025 * s + getD (placesOf i .pools) s 0)) (others-of len 1 ws (omega (arith, f .sized, size-of len ws full))) in
         is-next i _ _ old _ (putTable 3 i s t)
         (v-some i (take len ws) s (subst (λ (x : Places). Names 3 2 (x .rank) (take len ws) s) at f) (omega (arith, v-count, m)))
         (ap (λ (x : Places). poolMore x s) at ∙ same-places _ _ _ _ _ _ _ _ _ _ (ap (map length) (sym (map-set-same (λ (x : Table). x .nodes) ts s t noTable refl))) (counts (λ (x : Table). x .pool) ts s refl t vs refl 1 size) refl refl)
-        (subst (λ (x : List ℕ). Holds (putTable 3 i s t) old (lists (l .nodes) x (l .steps))) (sym put) (pool-held i old l h s vs there size room))
+        (subst (λ (x : List ℕ). Holds (putTable 3 i s t) old (lists (l .nodes) x (l .steps))) (sym put) (pool-held i old l h s vs (f .place) size room))

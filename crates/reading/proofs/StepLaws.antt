@@ -120,6 +120,7 @@ module _ (i : Input) (p : Places) (old l : Lists) (at : p ≡ placesOf i) (h : H
       let n : p .steps ≡ length (i .steps) = ap (λ (y : Places). y .steps) at in
       is-next i _ _ old _ j (passes _ _ (same-test ∙ e)) places
       (record {
+        tables = h .tables;
         inside = record { nodes = h .inside .nodes; fives = h .inside .fives; pools = h .inside .pools; steps = omega (arith, steps, n, room); stepWords = omega (arith, steps, words, h .inside .stepWords, few) };
         lists = same-lists _ _ _ _ _ _ (ap (λ (y : Lists). y .nodes) (h .lists)) (ap (λ (y : Lists). y .pools) (h .lists)) there;
       })

@@ -6,7 +6,7 @@ use mathlib.Core.Option.{Option, none, some}
 use Prim.Native.Nat.{ℕ, _+_, _*_, _≤_, _%_}
 use lib.ListN.{length, getD}
 use lib.Seq.{sets}
-use Rattle.model.specs.Table.{Table}
+use Rattle.model.specs.Wrapper.{allSides}
 use Rattle.format.specs.Words.{allStepWords}
 use Rattle.format.specs.Lines as format
 use Rattle.format.specs.Lines.{Input, fault, whole, reading, readSoFar}
@@ -63,8 +63,9 @@ pub record Inside (p : Places) : Type 0 where
   pub steps : p .steps ≤ 1024
   pub stepWords : p .words ≤ 22 * p .steps
 
--- the lent lists, which were `old`, hold what the lines give, and are otherwise as they were
+-- the lent lists, which were `old`, hold what the lines give for each side, and are otherwise as they were
 pub record Holds (i : Input) (old new : Lists) : Type 0 where
+  pub tables : length (i .loads .tables) ≡ length allSides
   pub inside : Inside (placesOf i)
   pub lists : new ≡ filled i old
 

@@ -49,7 +49,7 @@ element-write-p : tie.Need-element-write-p
 element-write-p c = let f = a-side 2 6 _ _ _ _ (c .before .before .before .before .before .before .before .side-named .ensures) (c .before .before .before .before .before .side .given .1) in omega (arith, f .place)
 
 returns-3 : tie.Need-returns-3
-returns-3 c = let s = c .before .before .before .before .before .before .before .before in let a = s .args in let w : length (a .l .words) ≡ 21 = search (needs, s .good) in let f = a-side 2 6 _ _ _ _ (c .before .before .before .before .before .before .before .side-named .ensures) (c .before .before .before .before .before .side .given .1) in let n : length (a .t2 .nodes) ≡ length allSides = search (needs, s .good) in λ i old x y e h. n-taken i (a .t2) old _ e h (a .l .len) (a .l .words) w _ f n (c .before .before .if1 .left) _ (c .store .ensures)
+returns-3 c = let s = c .before .before .before .before .before .before .before .before in let a = s .args in let w : length (a .l .words) ≡ 21 = search (needs, s .good) in let f = a-side 2 6 _ _ _ _ (c .before .before .before .before .before .before .before .side-named .ensures) (c .before .before .before .before .before .side .given .1) in λ i old x y e h. n-taken i (a .t2) old _ e h (a .l .len) (a .l .words) w _ f (c .before .before .if1 .left) _ (c .store .ensures)
 
 pub on-n-spec : {M : Type 1} → statement M
 on-n-spec =
