@@ -92,20 +92,20 @@ onW i ns =
     when (eqb (i .rank) 0 & eqb (length ns) 1)
     (record { rank = 1; loads = record { wrapper = getD ns 0 0; tables = i .loads .tables }; steps = i .steps })
 
--- N: after W, before V and S; a side, 1 or 2, and five words; at most 257 a side
+-- N: after W, before V and S; a side by its number, and five words; at most 257 a side
 unfoldable pub onN : Input → List ℕ → Option Input
 onN i ns =
     let k = getD ns 0 0 in
     let t = table (i .loads) k in
-    when (between 1 2 (i .rank) & (eqb (length ns) 6 & (between 1 2 k & ltb (length (t .nodes)) (5 * 257))))
+    when (between 1 2 (i .rank) & (eqb (length ns) 6 & (between 1 (length allSides) k & ltb (length (t .nodes)) (5 * 257))))
     (record { rank = 2; loads = withTable (i .loads) k (record { nodes = t .nodes ++ drop 1 ns; pool = t .pool }); steps = i .steps })
 
--- V: after W and N, before S; a side, 1 or 2, and one word; at most 1,025 a side
+-- V: after W and N, before S; a side by its number, and one word; at most 1,025 a side
 unfoldable pub onV : Input → List ℕ → Option Input
 onV i ns =
     let k = getD ns 0 0 in
     let t = table (i .loads) k in
-    when (between 1 3 (i .rank) & (eqb (length ns) 2 & (between 1 2 k & ltb (length (t .pool)) 1025)))
+    when (between 1 3 (i .rank) & (eqb (length ns) 2 & (between 1 (length allSides) k & ltb (length (t .pool)) 1025)))
     (record { rank = 3; loads = withTable (i .loads) k (record { nodes = t .nodes; pool = t .pool ++ drop 1 ns }); steps = i .steps })
 
 -- S: after the others; kind, side, i, j and at most 17 value words; at most 1,024
@@ -144,3 +144,13 @@ readFrom n i (l ∷ (m ∷ ls)) = elim (withLine i l) [ none ↦ fault n | some 
 -- the whole input; more than 65,536 bytes are at fault as line 0
 unfoldable pub reading : List ℕ → Reading
 reading bs = choose (leb (length bs) 65536) (readFrom 1 noInput (pieces newline bs)) (fault 0)
+
+-- what the lines before the first line at fault give
+unfoldable pub soFar : Input → List (List ℕ) → Input
+soFar i [] = i
+soFar i (l ∷ []) = i
+soFar i (l ∷ (m ∷ ls)) = elim (withLine i l) [ none ↦ i | some j ↦ soFar j (m ∷ ls) ]
+
+-- the same of the whole input, of which nothing is read where it is too long
+unfoldable pub readSoFar : List ℕ → Input
+readSoFar bs = choose (leb (length bs) 65536) (soFar noInput (pieces newline bs)) noInput

@@ -1,28 +1,40 @@
--- Answers by what a line gives, and lists with words more.
-use mathlib.Core.Path.{_≡_, ap, _∙_}
-use mathlib.Core.List.{List, _++_}
+-- Answers by what a line gives, and a line's numbers.
+use mathlib.Core.Path.{_≡_, refl, ap, _∙_}
+use mathlib.Core.Bool.{true, false}
+use mathlib.Core.List.{List}
 use mathlib.Core.Option.{Option, none, some}
 use Prim.Native.Nat.{ℕ, min, _+_, _<_}
-use native.Mathlib.Omega.{arith}
-use lib.ListN.{length, getD, take, drop, length-append, length-take}
+use lib.ListN.{length, getD, take, drop, length-take}
 use lib.Seq.{getD-take}
 use Rattle.format.specs.Lines.{Input}
 use Rattle.reading.specs.declared.Places.{Places}
-use Rattle.reading.specs.declared.lines.After.the-variants.{Fault, Next}
+use Rattle.reading.specs.declared.lines.After.{After}
+use Rattle.reading.specs.Lists.{Lists, lists, placesOf, Holds, AfterIs}
 use Rattle.reading.proofs.PieceLaws.{take-of-drop}
-use Rattle.reading.specs.Lists.{Lists, Filled, Holds, AfterIs}
 
 -- an answer by what a line gives
-pub is-fault : (o : Option Input) (l : Lists) → o ≡ none → AfterIs o Fault l
-is-fault o l e = rw e
+abbrev pub notTaken : Places → After
+notTaken p = record { taken = false; places = p }
 
-pub is-next : (o : Option Input) (i : Input) (p : Places) (l : Lists) → o ≡ some i → Holds i p l → AfterIs o (Next p) l
-is-next o i p l e h = rw e h
+abbrev pub takenTo : Places → After
+takenTo p = record { taken = true; places = p }
 
--- a lent list with words more
-pub filled-more : (k n m : ℕ) (old new ws vs : List ℕ) → Filled k old ws → take m new ≡ take k old ++ vs → length vs ≡ n → m ≡ k + n → Filled m new (ws ++ vs)
-filled-more k n m old new ws vs f e h q =
-    record { count = omega (arith, f .count, length-append ws vs); words = e ∙ ap (λ (x : List ℕ). x ++ vs) (f .words) }
+module _ (i : Input) (o : Option Input) (p : Places) (old new : Lists) where
+  pub is-fault : p ≡ placesOf i → Holds i old new → o ≡ none → AfterIs i o (notTaken p) old new
+  is-fault q h e = rw e (record { taken = refl; places = q; holds = h })
+
+  pub is-next : (j : Input) → o ≡ some j → p ≡ placesOf j → Holds j old new → AfterIs i o (takenTo p) old new
+  is-next j e q h = rw e (record { taken = refl; places = q; holds = h })
+
+-- places, and the lent lists, one by one
+abbrev pub places : (rank wrapper : ℕ) → (nodes pools : List ℕ) → (steps words : ℕ) → Places
+places r w n p s k = record { rank = r; wrapper = w; nodes = n; pools = p; steps = s; words = k }
+
+pub same-places : (r w : ℕ) (n p m q : List ℕ) (s k t j : ℕ) → n ≡ m → p ≡ q → s ≡ t → k ≡ j → places r w n p s k ≡ places r w m q t j
+same-places r w n p m q s k t j a b c d = rw (a, b, c, d)
+
+pub same-lists : (a b c d e f : List ℕ) → a ≡ d → b ≡ e → c ≡ f → lists a b c ≡ lists d e f
+same-lists a b c d e f p q r = rw (p, q, r)
 
 -- the first number of some, and the others
 pub first-of : (len : ℕ) (ws : List ℕ) → 0 < len → getD (take len ws) 0 0 ≡ getD ws 0 0

@@ -12,42 +12,37 @@ use Rattle.model.specs.Basics.{choose}
 use Rattle.format.specs.Lines.{Line, Input, lineOf, onW, onN, onV, onS, onLine, withLine}
 use Rattle.reading.specs.declared.Places.{Places}
 use Rattle.reading.specs.declared.lines.After.{After}
-use Rattle.reading.specs.declared.lines.After.the-variants.{Fault, Next}
 use Rattle.reading.specs.Fields.{viewLine, shortLine, short, afterLine}
-use Rattle.reading.proofs.LineLaws.{struct, view-line, view-none, is-short, is-long}
-use Rattle.reading.specs.Lists.{Lists, Holds, AfterIs}
+use Rattle.reading.specs.Lists.{Lists, placesOf, Holds, AfterIs}
 use Rattle.model.proofs.Tests.{both}
-use Rattle.reading.proofs.TestLaws.{first-fails, second-fails, inside, above, passes, fails, same-either}
-use Rattle.reading.proofs.AnswerLaws.{is-fault, is-next, first-of, size-of}
-use Rattle.reading.proofs.SideLaws.{n-gives, v-gives, size-other}
-use Rattle.reading.proofs.StepLaws.{s-gives}
+use Rattle.reading.proofs.LineLaws.{struct, view-line, view-none, is-short, is-long}
+use Rattle.reading.proofs.TestLaws.{first-fails, second-fails, above, passes, fails, same-either}
+use Rattle.reading.proofs.AnswerLaws.{is-fault, is-next, notTaken, takenTo, places, first-of, size-of}
+use Rattle.reading.proofs.SideLaws.{n-none, v-none, another-size}
+use Rattle.reading.proofs.StepLaws.{s-none}
 
 -- a W line
-module _ (i : Input) (p : Places) (l : Lists) (h : Holds i p l) (len : ℕ) (ws : List ℕ) (full : length ws ≡ 21) where
-  pub w-late : (p .rank ≡ 0 → ⊥) → AfterIs (onW i (take len ws)) Fault l
-  unfolding onW
-  w-late e = is-fault (onW i (take len ws)) l (fails _ _ (first-fails _ _ (ne-eqb (i .rank) 0 (λ q. e (h .rank ∙ q)))))
+module _ (i : Input) (p : Places) (old l : Lists) (at : p ≡ placesOf i) (h : Holds i old l) (len : ℕ) (ws : List ℕ) (full : length ws ≡ 21) where
+  rank-is : p .rank ≡ i .rank
+  rank-is = ap (λ (x : Places). x .rank) at
 
-  pub w-size : (len ≡ 1 → ⊥) → AfterIs (onW i (take len ws)) Fault l
+  pub w-late : (p .rank ≡ 0 → ⊥) → AfterIs i (onW i (take len ws)) (notTaken p) old l
   unfolding onW
-  w-size e = is-fault (onW i (take len ws)) l (fails _ _ (second-fails _ _ (ne-eqb (length (take len ws)) 1 (λ q. e (omega (arith, size-of len ws full))))))
+  w-late e = is-fault i _ p old l at h (fails _ _ (first-fails _ _ (ne-eqb (i .rank) 0 (λ q. e (rank-is ∙ q)))))
 
-  pub w-taken : p .rank ≡ 0 → len ≡ 1 →
-      AfterIs (onW i (take len ws)) (Next (record { rank = 1; wrapper = getD ws 0 0; nodes1 = p .nodes1; pool1 = p .pool1; nodes2 = p .nodes2; pool2 = p .pool2; steps = p .steps; words = p .words })) l
+  pub w-size : (len ≡ 1 → ⊥) → AfterIs i (onW i (take len ws)) (notTaken p) old l
+  unfolding onW
+  w-size e = is-fault i _ p old l at h (fails _ _ (second-fails _ _ (ne-eqb (length (take len ws)) 1 (λ q. e (omega (arith, size-of len ws full))))))
+
+  pub w-taken : p .rank ≡ 0 → len ≡ 1 → AfterIs i (onW i (take len ws)) (takenTo (places 1 (getD ws 0 0) (p .nodes) (p .pools) (p .steps) (p .words))) old l
   unfolding onW
   w-taken e q =
-      is-next (onW i (take len ws)) _ _ l (passes _ _ (both _ _ (eq-eqb (i .rank) 0 (sym (h .rank) ∙ e)) (eq-eqb (length (take len ws)) 1 (omega (arith, size-of len ws full)))))
+      is-next i _ _ old l _ (passes _ _ (both _ _ (eq-eqb (i .rank) 0 (sym rank-is ∙ e)) (eq-eqb (length (take len ws)) 1 (omega (arith, size-of len ws full)))))
+      (ap (λ (x : Places). places 1 (getD ws 0 0) (x .nodes) (x .pools) (x .steps) (x .words)) at ∙ ap (λ (w : ℕ). places 1 w (placesOf i .nodes) (placesOf i .pools) (placesOf i .steps) (placesOf i .words)) (sym (first-of len ws (omega arith))))
       (record {
-        inside = omega arith;
-        rank = refl;
-        wrapper = sym (first-of len ws (omega arith));
         tables = h .tables;
-        nodes1 = h .nodes1;
-        pool1 = h .pool1;
-        nodes2 = h .nodes2;
-        pool2 = h .pool2;
-        steps = h .steps;
-        words = h .words;
+        inside = record { nodes = h .inside .nodes; fives = h .inside .fives; pools = h .inside .pools; steps = h .inside .steps; stepWords = h .inside .stepWords };
+        lists = h .lists;
       })
 
 -- what a line gives by its letter
@@ -73,11 +68,16 @@ module _ (i : Input) (ns : List ℕ) where
   letter-other c w n v s = rw (ne-eqb c 87 w, ne-eqb c 78 n, ne-eqb c 86 v, ne-eqb c 83 s)
 
 -- the answer for a struct's line, where it is not at fault, from the answer for its letter
-pub by-letter : (i : Input) (c len : ℕ) (ws : List ℕ) (r : After) (l : Lists) → len ≤ 21 → (o : Option Input) → onLine i (record { letter = c; words = take len ws }) ≡ o → AfterIs o r l → AfterIs (afterLine i (viewLine (struct c ws len))) r l
-by-letter i c len ws r l few o e a = rw (view-line c len ws few, e) a
+module _ (i : Input) (c len : ℕ) (ws : List ℕ) (old l : Lists) where
+  pub by-letter : (r : After) → len ≤ 21 → (o : Option Input) → onLine i (record { letter = c; words = take len ws }) ≡ o → AfterIs i o r old l → AfterIs i (afterLine i (viewLine (struct c ws len))) r old l
+  by-letter r few o e a = rw (view-line c len ws few, e) a
 
-pub at-fault : (i : Input) (c len : ℕ) (ws : List ℕ) (l : Lists) → 21 < len → AfterIs (afterLine i (viewLine (struct c ws len))) Fault l
-at-fault i c len ws l h = is-fault _ l (ap (afterLine i) (view-none c len ws h))
+  -- a line of no letter, and one that is at fault as it stands
+  pub by-none : (p : Places) → p ≡ placesOf i → Holds i old l → len ≤ 21 → onLine i (record { letter = c; words = take len ws }) ≡ none → AfterIs i (afterLine i (viewLine (struct c ws len))) (notTaken p) old l
+  by-none p at h few e = by-letter (notTaken p) few none e (is-fault i none p old l at h refl)
+
+  pub by-length : (p : Places) → p ≡ placesOf i → Holds i old l → 21 < len → AfterIs i (afterLine i (viewLine (struct c ws len))) (notTaken p) old l
+  by-length p at h m = is-fault i _ p old l at h (ap (afterLine i) (view-none c len ws m))
 
 -- a line of more than 21 numbers gives nothing, whatever its letter
 module _ (i : Input) (ns : List ℕ) (many : 21 < length ns) where
@@ -86,13 +86,13 @@ module _ (i : Input) (ns : List ℕ) (many : 21 < length ns) where
   long-w = fails _ _ (second-fails _ _ (ne-eqb (length ns) 1 (λ e. omega arith)))
 
   long-n : onN i ns ≡ none
-  long-n = n-gives i ns (size-other 2 6 _ _ _ _ _ (λ e. omega arith))
+  long-n = n-none i ns (another-size 2 6 (i .rank) ns (λ e. omega arith))
 
   long-v : onV i ns ≡ none
-  long-v = v-gives i ns (size-other 3 2 _ _ _ _ _ (λ e. omega arith))
+  long-v = v-none i ns (another-size 3 2 (i .rank) ns (λ e. omega arith))
 
   long-s : onS i ns ≡ none
-  long-s = s-gives i ns (second-fails _ _ (first-fails _ _ (above 4 21 (length ns) many)))
+  long-s = s-none i ns (second-fails _ _ (first-fails _ _ (above 4 21 (length ns) many)))
 
   long : (c : ℕ) → onLine i (record { letter = c; words = ns }) ≡ none
   unfolding onLine

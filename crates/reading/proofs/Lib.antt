@@ -3,6 +3,7 @@ pub mod NumberLaws
 pub mod PieceLaws
 pub mod LineLaws
 pub mod StoreLaws
+pub mod LaidLaws
 pub mod AnswerLaws
 pub mod SideLaws
 pub mod StepLaws

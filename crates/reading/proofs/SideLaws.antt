@@ -1,178 +1,285 @@
 -- N and V lines, which name a side.
-use mathlib.Core.Path.{_≡_, refl, sym, ap, _∙_}
+use mathlib.Core.Path.{_≡_, refl, sym, ap, subst, _∙_}
 use mathlib.Core.Bool.{Bool, true, false}
-use mathlib.Core.List.{List, [], _∷_, _++_}
+use mathlib.Core.List.{List, [], _∷_, _++_, map}
 use mathlib.Core.Option.{Option, none, some}
-use Prim.Native.Nat.{ℕ, _+_, _<_, _≤_}
+use Prim.Native.Nat.{ℕ, zero, suc, _+_, _-_, _*_, _<_, _≤_, _%_}
 use native.Mathlib.Omega.{arith}
-use borrow.Author.Tests.{lt-ltb, le-ltb, eq-eqb, ne-eqb}
+use borrow.Author.Tests.{leb-true, lt-ltb, le-ltb, eq-eqb, ne-eqb, eqb-true}
 use lib.Dec.{ltb, eqb}
-use lib.ListN.{length, getD, set, take, drop, length-drop}
-use Rattle.model.specs.Basics.{_&_, choose}
+use lib.ListN.{length, getD, set, take, drop, length-append, length-drop, length-map, length-set, List·getD-map}
+use lib.Seq.{sets, map-set-same}
+use Rattle.model.specs.Basics.{_&_}
 use Rattle.model.specs.Table.{Table}
-use Rattle.model.specs.Load.{Composition, table}
-use Rattle.format.specs.Lines.{Input, between, onN, onV}
+use Rattle.model.specs.Wrapper.{allSides}
+use Rattle.model.specs.Load.{noTable, table}
+use Rattle.model.proofs.Tests.{fst, snd, both}
+use Rattle.sides.proofs.Lists.{map-set}
+use Rattle.format.specs.Lines.{Input, between, when, withTable, onN, onV}
 use Rattle.reading.specs.declared.Places.{Places}
-use Rattle.reading.specs.declared.lines.After.the-variants.{Fault, Next}
-use Rattle.reading.specs.Lists.{Lists, lists, Filled, Inside, Holds, AfterIs}
-use Rattle.model.proofs.Tests.{both}
-use Rattle.reading.proofs.TestLaws.{first-fails, second-fails, inside, below, above, fails, neither}
-use Rattle.reading.proofs.AnswerLaws.{is-fault, is-next, filled-more, first-of, others-of, size-of}
+use Rattle.reading.specs.declared.lines.Named.{Named}
+use Rattle.reading.specs.declared.lines.Named.the-variants.{At, Nothing}
+use Rattle.reading.specs.Fields.{namesSide, namedBy}
+use Rattle.reading.specs.Lists.{Lists, lists, laid, placesOf, Holds, AfterIs}
+use Rattle.reading.proofs.TestLaws.{first-fails, second-fails, three-fail, last-fails, inside, below, above, passes, fails}
+use Rattle.reading.proofs.LaidLaws.{laid-more}
+use Rattle.reading.proofs.AnswerLaws.{is-fault, is-next, notTaken, takenTo, places, same-places, same-lists, first-of, others-of, size-of}
 
--- a line that names a side: an N line, with `room` words more at most, or a V line
-unfoldable pub sideTest : (high size rank len k used room : ℕ) → Bool
-sideTest high size rank len k used room = between 1 high rank & (eqb len size & (between 1 2 k & ltb used room))
+-- THE SIDE THAT A LINE NAMES
+module _ (high size rank len : ℕ) (ws : List ℕ) (full : length ws ≡ 21) (some-words : 0 < size) (few : size < 21) where
+  abbrev Says : Named → Type 0
+  Says r = r ≡ namedBy (namesSide high size rank (take len ws)) (getD (take len ws) 0 0)
 
-module _ (high size rank len k used room : ℕ) where
-  rank-zero : rank ≡ 0 → sideTest high size rank len k used room ≡ false
-  unfolding sideTest
-  rank-zero e = first-fails _ _ (below 1 high rank (omega arith))
+  nothing : namesSide high size rank (take len ws) ≡ false → Says Nothing
+  nothing e = rw e refl
 
-  rank-high : high < rank → sideTest high size rank len k used room ≡ false
-  unfolding sideTest
-  rank-high e = first-fails _ _ (above 1 high rank e)
+  pub by-no-rank : rank ≡ 0 → Says Nothing
+  unfolding namesSide
+  by-no-rank e = nothing (first-fails _ _ (below 1 high rank (omega arith)))
 
-  pub size-other : (len ≡ size → ⊥) → sideTest high size rank len k used room ≡ false
-  unfolding sideTest
-  size-other e = second-fails _ _ (first-fails _ _ (ne-eqb len size e))
+  pub by-rank : high < rank → Says Nothing
+  unfolding namesSide
+  by-rank e = nothing (first-fails _ _ (above 1 high rank e))
 
-  side-other : (k ≡ 1 → ⊥) → (k ≡ 2 → ⊥) → sideTest high size rank len k used room ≡ false
-  unfolding sideTest
-  side-other e f = second-fails _ _ (second-fails _ _ (first-fails _ _ (neither k e f)))
+  pub by-size : (len ≡ size → ⊥) → Says Nothing
+  unfolding namesSide
+  by-size e = nothing (second-fails _ _ (first-fails _ _ (ne-eqb (length (take len ws)) size (λ q. e (omega (arith, size-of len ws full))))))
 
-  no-room : room ≤ used → sideTest high size rank len k used room ≡ false
-  unfolding sideTest
-  no-room e = second-fails _ _ (second-fails _ _ (second-fails _ _ (le-ltb used room e)))
+  pub by-zero : len ≡ size → getD ws 0 0 ≡ 0 → Says Nothing
+  unfolding namesSide
+  by-zero e z = nothing (second-fails _ _ (second-fails _ _ (below 1 (length allSides) (getD (take len ws) 0 0) (omega (arith, first-of len ws (omega arith))))))
 
-  all-pass : 0 < rank → rank ≤ high → len ≡ size → 0 < k → k ≤ 2 → used < room → sideTest high size rank len k used room ≡ true
-  unfolding sideTest
-  all-pass a b e f g h = both _ _ (inside 1 high rank a b) (both _ _ (eq-eqb len size e) (both _ _ (inside 1 2 k f g) (lt-ltb used room h)))
+  pub by-side : len ≡ size → length allSides < getD ws 0 0 → Says Nothing
+  unfolding namesSide
+  by-side e z = nothing (second-fails _ _ (second-fails _ _ (above 1 (length allSides) (getD (take len ws) 0 0) (omega (arith, first-of len ws (omega arith))))))
 
--- a line at fault, where o is what the line gives and `used` how many words stand where it adds
-module _ (high size room used : ℕ) (i : Input) (p : Places) (l : Lists) (h : Holds i p l) (len : ℕ) (ws : List ℕ) (full : length ws ≡ 21) (o : Option Input)
-    (gives : sideTest high size (i .rank) (length (take len ws)) (getD (take len ws) 0 0) used room ≡ false → o ≡ none) where
-  pub at-rank-zero : p .rank ≡ 0 → AfterIs o Fault l
-  at-rank-zero e = is-fault o l (gives (rank-zero high size _ _ _ used room (omega (arith, h .rank))))
+  pub by-all : (rank ≡ 0 → ⊥) → rank ≤ high → len ≡ size → (getD ws 0 0 ≡ 0 → ⊥) → getD ws 0 0 ≤ length allSides → Says (At (getD ws 0 0 - 1))
+  unfolding namesSide
+  by-all a b e z m =
+      let f = first-of len ws (omega arith) in
+      let t : namesSide high size rank (take len ws) ≡ true =
+      both _ _ (inside 1 high rank (omega arith) b) (both _ _ (eq-eqb (length (take len ws)) size (omega (arith, size-of len ws full))) (inside 1 (length allSides) (getD (take len ws) 0 0) (omega (arith, f)) (omega (arith, f)))) in
+      ap (λ (n : ℕ). At (n - 1)) (sym f) ∙ ap (λ (b : Bool). namedBy b (getD (take len ws) 0 0)) (sym t)
 
-  pub at-rank-high : high < p .rank → AfterIs o Fault l
-  at-rank-high e = is-fault o l (gives (rank-high high size _ _ _ used room (omega (arith, h .rank))))
+-- a line of another size names no side
+pub another-size : (high size rank : ℕ) (ns : List ℕ) → (length ns ≡ size → ⊥) → namesSide high size rank ns ≡ false
+unfolding namesSide
+another-size high size rank ns e = second-fails _ _ (first-fails _ _ (ne-eqb (length ns) size e))
 
-  pub at-size : size < 21 → (len ≡ size → ⊥) → AfterIs o Fault l
-  at-size m e = is-fault o l (gives (size-other high size _ _ _ used room (λ q. e (omega (arith, size-of len ws full)))))
+-- what an answer tells: the line names no side, or the side of place s
+pub no-side : (r : Named) (b : Bool) (n : ℕ) → r ≡ namedBy b n → r ≡ Nothing → b ≡ false
+no-side r false n e q = refl
+no-side r true n e q = let k : At (n - 1) ≡ Nothing = sym e ∙ q in let z : _≡_ {A = ℕ} 0 1 = cc in absurd (omega arith)
 
-  pub at-side : 0 < len → (getD ws 0 0 ≡ 1 → ⊥) → (getD ws 0 0 ≡ 2 → ⊥) → AfterIs o Fault l
-  at-side m e f = let q = first-of len ws m in is-fault o l (gives (side-other high size _ _ _ used room (λ x. e (sym q ∙ x)) (λ x. f (sym q ∙ x))))
+pub record Names (high size rank : ℕ) (ns : List ℕ) (s : ℕ) : Type 0 where
+  pub ranked : between 1 high rank ≡ true
+  pub sized : length ns ≡ size
+  pub number : getD ns 0 0 ≡ suc s
+  pub place : s < length allSides
 
-  pub at-room : (n : ℕ) → used ≡ n → room ≤ n → AfterIs o Fault l
-  at-room n e m = is-fault o l (gives (no-room high size _ _ _ used room (omega arith)))
+module _ (high size rank : ℕ) (ns : List ℕ) (s : ℕ) where
+  tested : namesSide high size rank ns ≡ true → s ≡ getD ns 0 0 - 1 → Names high size rank ns s
+  unfolding namesSide
+  tested e q =
+      let a = snd _ _ e in
+      let b = snd _ _ a in
+      let low = leb-true 1 (getD ns 0 0) (fst _ _ b) in
+      let top = leb-true (getD ns 0 0) (length allSides) (snd _ _ b) in
+      record { ranked = fst _ _ e; sized = eqb-true (length ns) size (fst _ _ a); number = omega arith; place = omega arith }
 
--- the table that a line's side names
-module _ (b : Composition) (f : Table → List ℕ) (n len : ℕ) (ws : List ℕ) (some-words : 0 < len) where
-  pub used-one : getD ws 0 0 ≡ 1 → n ≡ length (f (table b 1)) → length (f (table b (getD (take len ws) 0 0))) ≡ n
-  used-one e q = rw (first-of len ws some-words ∙ e) (sym q)
+  pub a-side : (r : Named) → r ≡ namedBy (namesSide high size rank ns) (getD ns 0 0) → r ≡ At s → Names high size rank ns s
+  a-side r e q = by (namesSide high size rank ns) refl
+    where
+      by : (b : Bool) → namesSide high size rank ns ≡ b → Names high size rank ns s
+      by true t = let k : At s ≡ At (getD ns 0 0 - 1) = sym q ∙ e ∙ ap (λ (b : Bool). namedBy b (getD ns 0 0)) t in tested t cc
+      by false t = let k : At s ≡ Nothing = sym q ∙ e ∙ ap (λ (b : Bool). namedBy b (getD ns 0 0)) t in let z : _≡_ {A = ℕ} 0 1 = cc in absurd (omega arith)
 
-  pub used-two : getD ws 0 0 ≡ 2 → n ≡ length (f (table b 2)) → length (f (table b (getD (take len ws) 0 0))) ≡ n
-  used-two e q = rw (first-of len ws some-words ∙ e) (sym q)
+-- A SIDE'S TABLE WITH WORDS MORE
+-- what holds of every count holds with one of them put anew
+all-set : (P : ℕ → Type 0) (l : List ℕ) (s v : ℕ) → P v → ((k : ℕ) → P (getD l k 0)) → (k : ℕ) → P (getD (set l s v) k 0)
+all-set P [] s v p h k = h k
+all-set P (x ∷ l) zero v p h zero = p
+all-set P (x ∷ l) zero v p h (suc k) = h (suc k)
+all-set P (x ∷ l) (suc s) v p h zero = h zero
+all-set P (x ∷ l) (suc s) v p h (suc k) = all-set P l s v p (λ j. h (suc j)) k
 
--- an input with other tables
-withTables : (rank : ℕ) → Input → (table1 table2 : Table) → Input
-withTables r i s t = record { rank = r; loads = record { wrapper = i .loads .wrapper; tables = s ∷ t ∷ [] }; steps = i .steps }
+-- f takes a table's nodes or its pool
+module _ (f : Table → List ℕ) (ts : List Table) (s : ℕ) (empty : [] ≡ f noTable) where
+  found : getD (map f ts) s [] ≡ f (getD ts s noTable)
+  found = ap (getD (map f ts) s) empty ∙ List·getD-map f ts s noTable
 
-moreNodes : Table → List ℕ → Table
-moreNodes t ws = record { nodes = t .nodes ++ ws; pool = t .pool }
+  count : getD (map length (map f ts)) s 0 ≡ length (f (getD ts s noTable))
+  count = List·getD-map length (map f ts) s [] ∙ ap length found
 
-morePool : Table → List ℕ → Table
-morePool t ws = record { nodes = t .nodes; pool = t .pool ++ ws }
+-- t is the table of place s with the words vs more there
+module _ (f : Table → List ℕ) (ts : List Table) (s : ℕ) (empty : [] ≡ f noTable) (t : Table) (vs : List ℕ) (more : f t ≡ f (getD ts s noTable) ++ vs) where
+  counts : (n : ℕ) → length vs ≡ n → set (map length (map f ts)) s (getD (map length (map f ts)) s 0 + n) ≡ map length (map f (set ts s t))
+  counts n e =
+      let q : getD (map length (map f ts)) s 0 + n ≡ length (f t) = omega (arith, count f ts s empty, length-append (f (getD ts s noTable)) vs, ap length more) in
+      ap (set (map length (map f ts)) s) q ∙ sym (map-set length (map f ts) s (f t)) ∙ ap (map length) (sym (map-set f ts s t))
 
-pub n-gives : (i : Input) (ns : List ℕ) → sideTest 2 6 (i .rank) (length ns) (getD ns 0 0) (length (table (i .loads) (getD ns 0 0) .nodes)) 1285 ≡ false → onN i ns ≡ none
-unfolding onN sideTest
-n-gives i ns e = fails _ _ e
+  stored : (wide : ℕ) (l : List ℕ) → s < length ts → ((k : ℕ) → getD (map length (map f ts)) k 0 ≤ wide) → sets (laid wide 0 (map f ts) l) (wide * s + getD (map length (map f ts)) s 0) vs ≡ laid wide 0 (map f (set ts s t)) l
+  stored wide l m h =
+      let n = getD (map length (map f ts)) s 0 in
+      let z : wide * s + n ≡ 0 + wide * s + n = omega arith in
+      ap (λ (k : ℕ). sets (laid wide 0 (map f ts) l) k vs) z ∙ laid-more wide 0 (map f ts) s vs l (omega (arith, length-map ts f)) h
+      ∙ ap (λ (x : List (List ℕ)). laid wide 0 x l) (ap (set (map f ts) s) (ap (λ (y : List ℕ). y ++ vs) (found f ts s empty) ∙ sym more) ∙ sym (map-set f ts s t))
 
-n-one : (i : Input) (ns : List ℕ) → i .loads .tables ≡ table (i .loads) 1 ∷ table (i .loads) 2 ∷ [] → getD ns 0 0 ≡ 1 → sideTest 2 6 (i .rank) (length ns) 1 (length (table (i .loads) 1 .nodes)) 1285 ≡ true →
-    onN i ns ≡ some (withTables 2 i (moreNodes (table (i .loads) 1) (drop 1 ns)) (table (i .loads) 2))
-unfolding onN sideTest withTables moreNodes choose
-n-one i ns two e h =
-    let z : onN i ns ≡ some (record { rank = 2; loads = record { wrapper = i .loads .wrapper; tables = set (i .loads .tables) 0 (moreNodes (table (i .loads) 1) (drop 1 ns)) }; steps = i .steps }) = rw (e, h) in
-    z ∙ ap (λ (l : List Table). some (record { rank = 2; loads = record { wrapper = i .loads .wrapper; tables = set l 0 (moreNodes (table (i .loads) 1) (drop 1 ns)) }; steps = i .steps })) two
+  each : (P : ℕ → Type 0) (n : ℕ) → length vs ≡ n → P (getD (map length (map f ts)) s 0 + n) → ((k : ℕ) → P (getD (map length (map f ts)) k 0)) → (k : ℕ) → P (getD (map length (map f (set ts s t))) k 0)
+  each P n e p h k = subst (λ (l : List ℕ). P (getD l k 0)) (counts n e) (all-set P (map length (map f ts)) s _ p h k)
 
-n-two : (i : Input) (ns : List ℕ) → i .loads .tables ≡ table (i .loads) 1 ∷ table (i .loads) 2 ∷ [] → getD ns 0 0 ≡ 2 → sideTest 2 6 (i .rank) (length ns) 2 (length (table (i .loads) 2 .nodes)) 1285 ≡ true →
-    onN i ns ≡ some (withTables 2 i (table (i .loads) 1) (moreNodes (table (i .loads) 2) (drop 1 ns)))
-unfolding onN sideTest withTables moreNodes choose
-n-two i ns two e h =
-    let z : onN i ns ≡ some (record { rank = 2; loads = record { wrapper = i .loads .wrapper; tables = set (i .loads .tables) 1 (moreNodes (table (i .loads) 2) (drop 1 ns)) }; steps = i .steps }) = rw (e, h) in
-    z ∙ ap (λ (l : List Table). some (record { rank = 2; loads = record { wrapper = i .loads .wrapper; tables = set l 1 (moreNodes (table (i .loads) 2) (drop 1 ns)) }; steps = i .steps })) two
+-- WHAT A LINE GIVES, by the number k that it names
+abbrev nodeLine : Input → List ℕ → (k : ℕ) → Option Input
+nodeLine i ns k =
+    let t = table (i .loads) k in
+    when (between 1 2 (i .rank) & (eqb (length ns) 6 & (between 1 (length allSides) k & ltb (length (t .nodes)) 1285)))
+    (record { rank = 2; loads = withTable (i .loads) k (record { nodes = t .nodes ++ drop 1 ns; pool = t .pool }); steps = i .steps })
 
-pub v-gives : (i : Input) (ns : List ℕ) → sideTest 3 2 (i .rank) (length ns) (getD ns 0 0) (length (table (i .loads) (getD ns 0 0) .pool)) 1025 ≡ false → onV i ns ≡ none
-unfolding onV sideTest
-v-gives i ns e = fails _ _ e
+abbrev poolLine : Input → List ℕ → (k : ℕ) → Option Input
+poolLine i ns k =
+    let t = table (i .loads) k in
+    when (between 1 3 (i .rank) & (eqb (length ns) 2 & (between 1 (length allSides) k & ltb (length (t .pool)) 1025)))
+    (record { rank = 3; loads = withTable (i .loads) k (record { nodes = t .nodes; pool = t .pool ++ drop 1 ns }); steps = i .steps })
 
-v-one : (i : Input) (ns : List ℕ) → i .loads .tables ≡ table (i .loads) 1 ∷ table (i .loads) 2 ∷ [] → getD ns 0 0 ≡ 1 → sideTest 3 2 (i .rank) (length ns) 1 (length (table (i .loads) 1 .pool)) 1025 ≡ true →
-    onV i ns ≡ some (withTables 3 i (morePool (table (i .loads) 1) (drop 1 ns)) (table (i .loads) 2))
-unfolding onV sideTest withTables morePool choose
-v-one i ns two e h =
-    let z : onV i ns ≡ some (record { rank = 3; loads = record { wrapper = i .loads .wrapper; tables = set (i .loads .tables) 0 (morePool (table (i .loads) 1) (drop 1 ns)) }; steps = i .steps }) = rw (e, h) in
-    z ∙ ap (λ (l : List Table). some (record { rank = 3; loads = record { wrapper = i .loads .wrapper; tables = set l 0 (morePool (table (i .loads) 1) (drop 1 ns)) }; steps = i .steps })) two
+-- an input with another table at place s
+abbrev putTable : (rank : ℕ) → Input → ℕ → Table → Input
+putTable r i s t = record { rank = r; loads = record { wrapper = i .loads .wrapper; tables = set (i .loads .tables) s t }; steps = i .steps }
 
-v-two : (i : Input) (ns : List ℕ) → i .loads .tables ≡ table (i .loads) 1 ∷ table (i .loads) 2 ∷ [] → getD ns 0 0 ≡ 2 → sideTest 3 2 (i .rank) (length ns) 2 (length (table (i .loads) 2 .pool)) 1025 ≡ true →
-    onV i ns ≡ some (withTables 3 i (table (i .loads) 1) (morePool (table (i .loads) 2) (drop 1 ns)))
-unfolding onV sideTest withTables morePool choose
-v-two i ns two e h =
-    let z : onV i ns ≡ some (record { rank = 3; loads = record { wrapper = i .loads .wrapper; tables = set (i .loads .tables) 1 (morePool (table (i .loads) 2) (drop 1 ns)) }; steps = i .steps }) = rw (e, h) in
-    z ∙ ap (λ (l : List Table). some (record { rank = 3; loads = record { wrapper = i .loads .wrapper; tables = set l 1 (morePool (table (i .loads) 2) (drop 1 ns)) }; steps = i .steps })) two
+abbrev moreNodes : Input → ℕ → List ℕ → Table
+moreNodes i s vs = let t = getD (i .loads .tables) s noTable in record { nodes = t .nodes ++ vs; pool = t .pool }
 
--- places with other ranks and counts
-abbrev places : (rank : ℕ) → Places → (nodes1 pool1 nodes2 pool2 : ℕ) → Places
-places r p a b c d = record { rank = r; wrapper = p .wrapper; nodes1 = a; pool1 = b; nodes2 = c; pool2 = d; steps = p .steps; words = p .words }
+abbrev morePool : Input → ℕ → List ℕ → Table
+morePool i s vs = let t = getD (i .loads .tables) s noTable in record { nodes = t .nodes; pool = t .pool ++ vs }
 
--- a line that is taken, with its numbers stored behind the others of the list `old`
-module _ (i : Input) (p : Places) (l : Lists) (h : Holds i p l) (len : ℕ) (ws : List ℕ) (full : length ws ≡ 21) (low : p .rank ≡ 0 → ⊥) where
-  stored : (n at : ℕ) (old new us : List ℕ) → len ≡ 1 + n → n ≤ 20 → Filled at old us → take (at + n) new ≡ take at old ++ take n (drop 1 ws) → Filled (at + n) new (us ++ drop 1 (take len ws))
-  stored n at old new us e m f q =
-      let o = others-of len n ws e in
-      filled-more at n (at + n) old new us (drop 1 (take len ws)) f (q ∙ ap (λ (x : List ℕ). take at old ++ x) o)
-      (omega (arith, length-drop 1 (take len ws), size-of len ws full)) refl
+module _ (i : Input) (ns : List ℕ) where
+  pub n-none : namesSide 2 6 (i .rank) ns ≡ false → onN i ns ≡ none
+  unfolding onN namesSide
+  n-none e = fails _ _ (three-fail _ _ _ _ e)
 
-  ready : (high size k room used n : ℕ) → p .rank ≤ high → len ≡ size → size ≤ 21 → 0 < k → k ≤ 2 → n ≡ used → n < room → sideTest high size (i .rank) (length (take len ws)) k used room ≡ true
-  ready high size k room used n r e m a b c d = all-pass high size _ _ k used room (omega (arith, h .rank, low)) (omega (arith, h .rank)) (omega (arith, size-of len ws full)) a b (omega arith)
+  pub v-none : namesSide 3 2 (i .rank) ns ≡ false → onV i ns ≡ none
+  unfolding onV namesSide
+  v-none e = fails _ _ (three-fail _ _ _ _ e)
 
-  held : (r a b c d : ℕ) (n1 p1 n2 p2 : List ℕ) (s t : Table) → Inside (places r p a b c d) → Filled a n1 (s .nodes) → Filled b p1 (s .pool) → Filled c n2 (t .nodes) → Filled d p2 (t .pool) →
-      Holds (withTables r i s t) (places r p a b c d) (lists n1 p1 n2 p2 (l .steps))
-  unfolding withTables
-  held r a b c d n1 p1 n2 p2 s t g e f u v =
-      record { inside = g; rank = refl; wrapper = h .wrapper; tables = refl; nodes1 = e; pool1 = f; nodes2 = u; pool2 = v; steps = h .steps; words = h .words }
+  module _ (s : ℕ) (k : getD ns 0 0 ≡ suc s) where
+    n-full : 1285 ≤ length (getD (i .loads .tables) s noTable .nodes) → onN i ns ≡ none
+    unfolding onN
+    n-full m = ap (nodeLine i ns) k ∙ fails _ _ (last-fails _ _ _ _ (le-ltb _ 1285 m))
 
-  pub n-taken-one : (new : List ℕ) → p .rank ≤ 2 → len ≡ 6 → getD ws 0 0 ≡ 1 → p .nodes1 < 1285 → take (p .nodes1 + 5) new ≡ take (p .nodes1) (l .nodes1) ++ take 5 (drop 1 ws) →
-      AfterIs (onN i (take len ws)) (Next (places 2 p (p .nodes1 + 5) (p .pool1) (p .nodes2) (p .pool2))) (lists new (l .pool1) (l .nodes2) (l .pool2) (l .steps))
-  unfolding moreNodes
-  n-taken-one new r e k m q =
-      is-next (onN i (take len ws)) _ _ _
-      (n-one i (take len ws) (h .tables) (first-of len ws (omega arith) ∙ k)
-      (ready 2 6 1 1285 _ _ r e (omega arith) (omega arith) (omega arith) (h .nodes1 .count) m))
-      (held _ _ _ _ _ _ _ _ _ _ _ (omega arith) (stored 5 (p .nodes1) (l .nodes1) new _ e (omega arith) (h .nodes1) q) (h .pool1) (h .nodes2) (h .pool2))
+    v-full : 1025 ≤ length (getD (i .loads .tables) s noTable .pool) → onV i ns ≡ none
+    unfolding onV
+    v-full m = ap (poolLine i ns) k ∙ fails _ _ (last-fails _ _ _ _ (le-ltb _ 1025 m))
 
-  pub n-taken-two : (new : List ℕ) → p .rank ≤ 2 → len ≡ 6 → getD ws 0 0 ≡ 2 → p .nodes2 < 1285 → take (p .nodes2 + 5) new ≡ take (p .nodes2) (l .nodes2) ++ take 5 (drop 1 ws) →
-      AfterIs (onN i (take len ws)) (Next (places 2 p (p .nodes1) (p .pool1) (p .nodes2 + 5) (p .pool2))) (lists (l .nodes1) (l .pool1) new (l .pool2) (l .steps))
-  unfolding moreNodes
-  n-taken-two new r e k m q =
-      is-next (onN i (take len ws)) _ _ _
-      (n-two i (take len ws) (h .tables) (first-of len ws (omega arith) ∙ k)
-      (ready 2 6 2 1285 _ _ r e (omega arith) (omega arith) (omega arith) (h .nodes2 .count) m))
-      (held _ _ _ _ _ _ _ _ _ _ _ (omega arith) (h .nodes1) (h .pool1) (stored 5 (p .nodes2) (l .nodes2) new _ e (omega arith) (h .nodes2) q) (h .pool2))
+  n-some : (s : ℕ) → Names 2 6 (i .rank) ns s → length (getD (i .loads .tables) s noTable .nodes) < 1285 → onN i ns ≡ some (putTable 2 i s (moreNodes i s (drop 1 ns)))
+  unfolding onN
+  n-some s f m = ap (nodeLine i ns) (f .number) ∙ passes _ _ (both _ _ (f .ranked) (both _ _ (eq-eqb (length ns) 6 (f .sized)) (both _ _ (inside 1 (length allSides) (suc s) (omega arith) (omega (arith, f .place))) (lt-ltb _ 1285 m))))
 
-  pub v-taken-one : (new : List ℕ) → p .rank ≤ 3 → len ≡ 2 → getD ws 0 0 ≡ 1 → p .pool1 < 1025 → take (p .pool1 + 1) new ≡ take (p .pool1) (l .pool1) ++ take 1 (drop 1 ws) →
-      AfterIs (onV i (take len ws)) (Next (places 3 p (p .nodes1) (p .pool1 + 1) (p .nodes2) (p .pool2))) (lists (l .nodes1) new (l .nodes2) (l .pool2) (l .steps))
-  unfolding morePool
-  v-taken-one new r e k m q =
-      is-next (onV i (take len ws)) _ _ _
-      (v-one i (take len ws) (h .tables) (first-of len ws (omega arith) ∙ k)
-      (ready 3 2 1 1025 _ _ r e (omega arith) (omega arith) (omega arith) (h .pool1 .count) m))
-      (held _ _ _ _ _ _ _ _ _ _ _ (omega arith) (h .nodes1) (stored 1 (p .pool1) (l .pool1) new _ e (omega arith) (h .pool1) q) (h .nodes2) (h .pool2))
+  v-some : (s : ℕ) → Names 3 2 (i .rank) ns s → length (getD (i .loads .tables) s noTable .pool) < 1025 → onV i ns ≡ some (putTable 3 i s (morePool i s (drop 1 ns)))
+  unfolding onV
+  v-some s f m = ap (poolLine i ns) (f .number) ∙ passes _ _ (both _ _ (f .ranked) (both _ _ (eq-eqb (length ns) 2 (f .sized)) (both _ _ (inside 1 (length allSides) (suc s) (omega arith) (omega (arith, f .place))) (lt-ltb _ 1025 m))))
 
-  pub v-taken-two : (new : List ℕ) → p .rank ≤ 3 → len ≡ 2 → getD ws 0 0 ≡ 2 → p .pool2 < 1025 → take (p .pool2 + 1) new ≡ take (p .pool2) (l .pool2) ++ take 1 (drop 1 ws) →
-      AfterIs (onV i (take len ws)) (Next (places 3 p (p .nodes1) (p .pool1) (p .nodes2) (p .pool2 + 1))) (lists (l .nodes1) (l .pool1) (l .nodes2) new (l .steps))
-  unfolding morePool
-  v-taken-two new r e k m q =
-      is-next (onV i (take len ws)) _ _ _
-      (v-two i (take len ws) (h .tables) (first-of len ws (omega arith) ∙ k)
-      (ready 3 2 2 1025 _ _ r e (omega arith) (omega arith) (omega arith) (h .pool2 .count) m))
-      (held _ _ _ _ _ _ _ _ _ _ _ (omega arith) (h .nodes1) (h .pool1) (h .nodes2) (stored 1 (p .pool2) (l .pool2) new _ e (omega arith) (h .pool2) q))
+-- WHAT THE LISTS HOLD THEN
+module _ (i : Input) (old l : Lists) (h : Holds i old l) (s : ℕ) (vs : List ℕ) (place : s < length allSides) where
+  there : s < length (i .loads .tables)
+  there = omega (arith, h .tables)
+
+  nodes-held : length vs ≡ 5 → getD (placesOf i .nodes) s 0 < 1285 → Holds (putTable 2 i s (moreNodes i s vs)) old (lists (sets (l .nodes) (1285 * s + getD (placesOf i .nodes) s 0) vs) (l .pools) (l .steps))
+  nodes-held e m =
+      let t = moreNodes i s vs in
+      let kept = map-set-same (λ (x : Table). x .pool) (i .loads .tables) s t noTable refl in
+      let n = getD (placesOf i .nodes) s 0 in
+      let a = h .inside .fives s in
+      record {
+        tables = length-set (i .loads .tables) s t ∙ h .tables;
+        inside = record {
+          nodes = each (λ (x : Table). x .nodes) (i .loads .tables) s refl t vs refl (λ (x : ℕ). x ≤ 1285) 5 e (omega arith) (h .inside .nodes);
+          fives = each (λ (x : Table). x .nodes) (i .loads .tables) s refl t vs refl (λ (x : ℕ). x % 5 ≡ 0) 5 e (omega arith) (h .inside .fives);
+          pools = λ k. subst (λ (x : List (List ℕ)). getD (map length x) k 0 ≤ 1025) (sym kept) (h .inside .pools k);
+          steps = h .inside .steps;
+          stepWords = h .inside .stepWords;
+        };
+        lists =
+            same-lists _ _ _ _ _ _
+            (ap (λ (x : Lists). sets (x .nodes) (1285 * s + n) vs) (h .lists) ∙ stored (λ (x : Table). x .nodes) (i .loads .tables) s refl t vs refl 1285 (old .nodes) there (h .inside .nodes))
+            (ap (λ (x : Lists). x .pools) (h .lists) ∙ ap (λ (x : List (List ℕ)). laid 1025 0 x (old .pools)) (sym kept))
+            (ap (λ (x : Lists). x .steps) (h .lists));
+      }
+
+  pool-held : length vs ≡ 1 → getD (placesOf i .pools) s 0 < 1025 → Holds (putTable 3 i s (morePool i s vs)) old (lists (l .nodes) (sets (l .pools) (1025 * s + getD (placesOf i .pools) s 0) vs) (l .steps))
+  pool-held e m =
+      let t = morePool i s vs in
+      let kept = map-set-same (λ (x : Table). x .nodes) (i .loads .tables) s t noTable refl in
+      let n = getD (placesOf i .pools) s 0 in
+      record {
+        tables = length-set (i .loads .tables) s t ∙ h .tables;
+        inside = record {
+          nodes = λ k. subst (λ (x : List (List ℕ)). getD (map length x) k 0 ≤ 1285) (sym kept) (h .inside .nodes k);
+          fives = λ k. subst (λ (x : List (List ℕ)). getD (map length x) k 0 % 5 ≡ 0) (sym kept) (h .inside .fives k);
+          pools = each (λ (x : Table). x .pool) (i .loads .tables) s refl t vs refl (λ (x : ℕ). x ≤ 1025) 1 e (omega arith) (h .inside .pools);
+          steps = h .inside .steps;
+          stepWords = h .inside .stepWords;
+        };
+        lists =
+            same-lists _ _ _ _ _ _
+            (ap (λ (x : Lists). x .nodes) (h .lists) ∙ ap (λ (x : List (List ℕ)). laid 1285 0 x (old .nodes)) (sym kept))
+            (ap (λ (x : Lists). sets (x .pools) (1025 * s + n) vs) (h .lists) ∙ stored (λ (x : Table). x .pool) (i .loads .tables) s refl t vs refl 1025 (old .pools) there (h .inside .pools))
+            (ap (λ (x : Lists). x .steps) (h .lists));
+      }
+
+-- places with a node more, or a word of the pool, for the side of place s
+abbrev nodesMore : Places → (s : ℕ) → Places
+nodesMore p s = places 2 (p .wrapper) (set (p .nodes) s (getD (p .nodes) s 0 + 5)) (p .pools) (p .steps) (p .words)
+
+abbrev poolMore : Places → (s : ℕ) → Places
+poolMore p s = places 3 (p .wrapper) (p .nodes) (set (p .pools) s (getD (p .pools) s 0 + 1)) (p .steps) (p .words)
+
+-- AN N LINE AND A V LINE
+module _ (i : Input) (p : Places) (old l : Lists) (at : p ≡ placesOf i) (h : Holds i old l) (len : ℕ) (ws : List ℕ) (full : length ws ≡ 21) where
+  pub n-nowhere : namesSide 2 6 (p .rank) (take len ws) ≡ false → AfterIs i (onN i (take len ws)) (notTaken p) old l
+  n-nowhere e = is-fault i _ p old l at h (n-none i (take len ws) (ap (λ (x : Places). namesSide 2 6 (x .rank) (take len ws)) (sym at) ∙ e))
+
+  pub v-nowhere : namesSide 3 2 (p .rank) (take len ws) ≡ false → AfterIs i (onV i (take len ws)) (notTaken p) old l
+  v-nowhere e = is-fault i _ p old l at h (v-none i (take len ws) (ap (λ (x : Places). namesSide 3 2 (x .rank) (take len ws)) (sym at) ∙ e))
+
+  module _ (s : ℕ) (f : Names 2 6 (p .rank) (take len ws) s) where
+    n-count : getD (p .nodes) s 0 ≡ length (getD (i .loads .tables) s noTable .nodes)
+    n-count = ap (λ (x : Places). getD (x .nodes) s 0) at ∙ count (λ (x : Table). x .nodes) (i .loads .tables) s refl
+
+    pub n-no-room : 1285 ≤ getD (p .nodes) s 0 → AfterIs i (onN i (take len ws)) (notTaken p) old l
+    n-no-room m = is-fault i _ p old l at h (n-full i (take len ws) s (f .number) (omega (arith, n-count)))
+
+    pub n-taken : getD (p .nodes) s 0 < 1285 → (new : List ℕ) → new ≡ sets (l .nodes) (1285 * s + getD (p .nodes) s 0) (take 5 (drop 1 ws)) →
+        AfterIs i (onN i (take len ws)) (takenTo (nodesMore p s)) old (lists new (l .pools) (l .steps))
+    n-taken m new e =
+        let vs = drop 1 (take len ws) in
+        let ts = i .loads .tables in
+        let t = moreNodes i s vs in
+        let size : length vs ≡ 5 = omega (arith, f .sized, length-drop 1 (take len ws)) in
+        let room : getD (placesOf i .nodes) s 0 < 1285 = subst (λ (x : Places). getD (x .nodes) s 0 < 1285) at m in
+        let put : new ≡ sets (l .nodes) (1285 * s + getD (placesOf i .nodes) s 0) vs =
+        e ∙ ap (λ (x : Places). sets (l .nodes) (1285 * s + getD (x .nodes) s 0) (take 5 (drop 1 ws))) at ∙ ap (sets (l .nodes) (1285 * s + getD (placesOf i .nodes) s 0)) (others-of len 5 ws (omega (arith, f .sized, size-of len ws full))) in
+        is-next i _ _ old _ (putTable 2 i s t)
+        (n-some i (take len ws) s (subst (λ (x : Places). Names 2 6 (x .rank) (take len ws) s) at f) (omega (arith, n-count, m)))
+        (ap (λ (x : Places). nodesMore x s) at ∙ same-places _ _ _ _ _ _ _ _ _ _ (counts (λ (x : Table). x .nodes) ts s refl t vs refl 5 size) (ap (map length) (sym (map-set-same (λ (x : Table). x .pool) ts s t noTable refl))) refl refl)
+        (subst (λ (x : List ℕ). Holds (putTable 2 i s t) old (lists x (l .pools) (l .steps))) (sym put) (nodes-held i old l h s vs (f .place) size room))
+
+  module _ (s : ℕ) (f : Names 3 2 (p .rank) (take len ws) s) where
+    v-count : getD (p .pools) s 0 ≡ length (getD (i .loads .tables) s noTable .pool)
+    v-count = ap (λ (x : Places). getD (x .pools) s 0) at ∙ count (λ (x : Table). x .pool) (i .loads .tables) s refl
+
+    pub v-no-room : 1025 ≤ getD (p .pools) s 0 → AfterIs i (onV i (take len ws)) (notTaken p) old l
+    v-no-room m = is-fault i _ p old l at h (v-full i (take len ws) s (f .number) (omega (arith, v-count)))
+
+    pub v-taken : getD (p .pools) s 0 < 1025 → (new : List ℕ) → new ≡ sets (l .pools) (1025 * s + getD (p .pools) s 0) (take 1 (drop 1 ws)) →
+        AfterIs i (onV i (take len ws)) (takenTo (poolMore p s)) old (lists (l .nodes) new (l .steps))
+    v-taken m new e =
+        let vs = drop 1 (take len ws) in
+        let ts = i .loads .tables in
+        let t = morePool i s vs in
+        let size : length vs ≡ 1 = omega (arith, f .sized, length-drop 1 (take len ws)) in
+        let room : getD (placesOf i .pools) s 0 < 1025 = subst (λ (x : Places). getD (x .pools) s 0 < 1025) at m in
+        let put : new ≡ sets (l .pools) (1025 * s + getD (placesOf i .pools) s 0) vs =
+        e ∙ ap (λ (x : Places). sets (l .pools) (1025 * s + getD (x .pools) s 0) (take 1 (drop 1 ws))) at ∙ ap (sets (l .pools) (1025 * s + getD (placesOf i .pools) s 0)) (others-of len 1 ws (omega (arith, f .sized, size-of len ws full))) in
+        is-next i _ _ old _ (putTable 3 i s t)
+        (v-some i (take len ws) s (subst (λ (x : Places). Names 3 2 (x .rank) (take len ws) s) at f) (omega (arith, v-count, m)))
+        (ap (λ (x : Places). poolMore x s) at ∙ same-places _ _ _ _ _ _ _ _ _ _ (ap (map length) (sym (map-set-same (λ (x : Table). x .nodes) ts s t noTable refl))) (counts (λ (x : Table). x .pool) ts s refl t vs refl 1 size) refl refl)
+        (subst (λ (x : List ℕ). Holds (putTable 3 i s t) old (lists (l .nodes) x (l .steps))) (sym put) (pool-held i old l h s vs (f .place) size room))

@@ -1,25 +1,26 @@
 -- S lines.
 use mathlib.Core.Path.{_≡_, refl, sym, ap, _∙_}
-use mathlib.Core.Bool.{false}
+use mathlib.Core.Bool.{Bool, true, false}
 use mathlib.Core.List.{List, [], _∷_, _++_, append-assoc, append-nil}
 use mathlib.Core.Option.{none}
-use Prim.Native.Nat.{ℕ, suc, _+_, _-_, _<_, _≤_}
+use Prim.Native.Nat.{ℕ, _+_, _-_, _<_, _≤_}
+use native.Mathlib.Nat.{zero-add}
 use native.Mathlib.Omega.{arith}
-use borrow.Author.Tests.{lt-ltb, le-ltb}
+use borrow.Author.Tests.{leb-true, ltb-true}
 use lib.Dec.{ltb}
 use lib.ListN.{length, getD, take, drop, set, length-append, length-drop}
-use lib.Seq.{take-take, take-suc-set}
+use lib.Seq.{sets, take-take, length-take-le}
 use Rattle.model.specs.Basics.{_&_}
 use Rattle.model.specs.Step.{Step}
+use Rattle.model.proofs.Tests.{fst, snd}
+use Rattle.sides.proofs.Sets.{sets-append}
 use Rattle.format.specs.Words.{stepWords, allStepWords}
 use Rattle.format.specs.Lines.{Input, between, stepOf, onS}
 use Rattle.reading.specs.declared.Places.{Places}
-use Rattle.reading.specs.declared.lines.After.the-variants.{Fault, Next}
+use Rattle.reading.specs.Lists.{Lists, lists, placesOf, Holds, AfterIs}
 use Rattle.reading.proofs.PieceLaws.{take-of-drop}
-use Rattle.reading.specs.Lists.{Lists, lists, Holds, AfterIs}
-use Rattle.model.proofs.Tests.{both}
 use Rattle.reading.proofs.TestLaws.{first-fails, second-fails, inside, below, above, passes, fails}
-use Rattle.reading.proofs.AnswerLaws.{is-fault, is-next, filled-more, size-of}
+use Rattle.reading.proofs.AnswerLaws.{is-fault, is-next, notTaken, takenTo, places, same-places, same-lists, size-of}
 
 -- the words of a step more
 all-words : (xs : List Step) (x : Step) → allStepWords (xs ++ (x ∷ [])) ≡ allStepWords xs ++ stepWords x
@@ -48,51 +49,78 @@ module _ (len : ℕ) (ws : List ℕ) (full : length ws ≡ 21) (enough : 4 ≤ l
   step-size : length (stepWords (stepOf (take len ws))) ≡ len + 1
   step-size = omega (arith, count-of)
 
-pub s-gives : (i : Input) (ns : List ℕ) → between 1 4 (i .rank) & (between 4 21 (length ns) & ltb (length (i .steps)) 1024) ≡ false → onS i ns ≡ none
+-- the four numbers, the count and the value words, stored one after the other
+run-of : (a c : ℕ) (x y l : List ℕ) → length x ≡ 4 → sets (set (sets l a x) (a + 4) c) (a + 5) y ≡ sets l a (x ++ (c ∷ y))
+run-of a c x y l e =
+    let n : a + length x ≡ a + 4 = omega arith in
+    let m : a + length (x ++ (c ∷ [])) ≡ a + 5 = omega (arith, length-append x (c ∷ [])) in
+    ap (λ (k : ℕ). sets (set (sets l a x) k c) (a + 5) y) (sym n) ∙ ap (λ (z : List ℕ). sets z (a + 5) y) (sets-append x (c ∷ []) l a)
+    ∙ ap (λ (k : ℕ). sets (sets l a (x ++ (c ∷ []))) k y) (sym m) ∙ sets-append (x ++ (c ∷ [])) y l a ∙ ap (sets l a) (append-assoc x (c ∷ []) y)
+
+-- an S line's test, from the code's
+abbrev fitsTest : (len rank steps : ℕ) → Bool
+fitsTest len rank steps = between 1 4 rank & (between 4 21 len & ltb steps 1024)
+
+module _ (len rank steps : ℕ) (few : len ≤ 21) where
+  pub fits-no-rank : rank ≡ 0 → false ≡ fitsTest len rank steps
+  fits-no-rank e = sym (first-fails _ _ (below 1 4 rank (omega arith)))
+
+  pub fits-rank : 4 < rank → false ≡ fitsTest len rank steps
+  fits-rank e = sym (first-fails _ _ (above 1 4 rank e))
+
+  pub fits-short : len < 4 → false ≡ fitsTest len rank steps
+  fits-short e = sym (second-fails _ _ (first-fails _ _ (below 4 21 len e)))
+
+  pub fits-last : (rank ≡ 0 → ⊥) → rank ≤ 4 → 4 ≤ len → ltb steps 1024 ≡ fitsTest len rank steps
+  unfolding _&_
+  fits-last a b c = rw (inside 1 4 rank (omega arith) b, inside 4 21 len c few) refl
+
+-- what it tells where it passes
+pub fits-facts : (len rank steps : ℕ) → fitsTest len rank steps ≡ true → (4 ≤ len) × (steps < 1024)
+fits-facts len rank steps e = let a = snd _ _ e in (leb-true 4 len (fst _ _ (fst _ _ a)), ltb-true steps 1024 (snd _ _ a))
+
+pub s-none : (i : Input) (ns : List ℕ) → fitsTest (length ns) (i .rank) (length (i .steps)) ≡ false → onS i ns ≡ none
 unfolding onS
-s-gives i ns e = fails _ _ e
+s-none i ns e = fails _ _ e
 
--- an S line
-module _ (i : Input) (p : Places) (l : Lists) (h : Holds i p l) (len : ℕ) (ws : List ℕ) (full : length ws ≡ 21) where
-  pub s-rank-zero : p .rank ≡ 0 → AfterIs (onS i (take len ws)) Fault l
-  s-rank-zero e = is-fault (onS i (take len ws)) l (s-gives i _ (first-fails _ _ (below 1 4 (i .rank) (omega (arith, h .rank)))))
+-- places with a step more
+abbrev stepMore : Places → (len : ℕ) → Places
+stepMore p len = places 4 (p .wrapper) (p .nodes) (p .pools) (p .steps + 1) (p .words + len + 1)
 
-  pub s-rank-high : 4 < p .rank → AfterIs (onS i (take len ws)) Fault l
-  s-rank-high e = is-fault (onS i (take len ws)) l (s-gives i _ (first-fails _ _ (above 1 4 (i .rank) (omega (arith, h .rank)))))
+-- AN S LINE
+module _ (i : Input) (p : Places) (old l : Lists) (at : p ≡ placesOf i) (h : Holds i old l) (len : ℕ) (ws : List ℕ) (full : length ws ≡ 21) (few : len ≤ 21) where
+  same-test : fitsTest (length (take len ws)) (i .rank) (length (i .steps)) ≡ fitsTest len (p .rank) (p .steps)
+  same-test =
+      let n : length (take len ws) ≡ len = omega (arith, size-of len ws full) in
+      ap (λ (k : ℕ). fitsTest k (i .rank) (length (i .steps))) n ∙ ap (λ (x : Places). fitsTest len (x .rank) (x .steps)) (sym at)
 
-  pub s-short : len < 4 → AfterIs (onS i (take len ws)) Fault l
-  s-short e = is-fault (onS i (take len ws)) l (s-gives i _ (second-fails _ _ (first-fails _ _ (below 4 21 (length (take len ws)) (omega (arith, size-of len ws full))))))
-
-  pub s-full : 1024 ≤ p .steps → AfterIs (onS i (take len ws)) Fault l
-  s-full e = is-fault (onS i (take len ws)) l (s-gives i _ (second-fails _ _ (second-fails _ _ (le-ltb (length (i .steps)) 1024 (omega (arith, h .steps))))))
+  pub s-fault : fitsTest len (p .rank) (p .steps) ≡ false → AfterIs i (onS i (take len ws)) (notTaken p) old l
+  s-fault e = is-fault i _ p old l at h (s-none i (take len ws) (same-test ∙ e))
 
   -- the first four numbers, the count of the value words, and these, stored one behind the other
-  pub s-taken : (one three : List ℕ) → (p .rank ≡ 0 → ⊥) → p .rank ≤ 4 → 4 ≤ len → len ≤ 21 → p .steps < 1024 → p .words + 4 < length one →
-      take (p .words + 4) one ≡ take (p .words) (l .steps) ++ take 4 ws →
-      take (p .words + 5 + (len - 4)) three ≡ take (p .words + 5) (set one (p .words + 4) (len - 4)) ++ take (len - 4) (drop 4 ws) →
-      AfterIs (onS i (take len ws)) (Next (record { rank = 4; wrapper = p .wrapper; nodes1 = p .nodes1; pool1 = p .pool1; nodes2 = p .nodes2; pool2 = p .pool2; steps = p .steps + 1; words = p .words + len + 1 }))
-      (lists (l .nodes1) (l .pool1) (l .nodes2) (l .pool2) three)
+  pub s-taken : (three : List ℕ) → fitsTest len (p .rank) (p .steps) ≡ true →
+      three ≡ sets (set (sets (l .steps) (p .words) (take 4 ws)) (p .words + 4) (len - 4)) (p .words + 5) (take (len - 4) (drop 4 ws)) →
+      AfterIs i (onS i (take len ws)) (takenTo (stepMore p len)) old (lists (l .nodes) (l .pools) three)
   unfolding onS
-  s-taken one three low high enough few room in-one a b =
-      let at = p .words in
-      let n : at + 5 ≡ suc (at + 4) = omega arith in
-      let m : at + 5 + (len - 4) ≡ at + len + 1 = omega arith in
-      let c : take (at + 5) (set one (at + 4) (len - 4)) ≡ take at (l .steps) ++ (take 4 ws ++ ((len - 4) ∷ [])) =
-      rw n (take-suc-set one (at + 4) (len - 4) in-one) ∙ ap (λ (x : List ℕ). x ++ ((len - 4) ∷ [])) a ∙ append-assoc (take at (l .steps)) (take 4 ws) ((len - 4) ∷ []) in
-      let d : take (at + len + 1) three ≡ take at (l .steps) ++ stepWords (stepOf (take len ws)) =
-      (rw m at b) ∙ ap (λ (x : List ℕ). x ++ take (len - 4) (drop 4 ws)) c ∙ append-assoc (take at (l .steps)) _ _
-      ∙ ap (λ (x : List ℕ). take at (l .steps) ++ x) (append-assoc (take 4 ws) ((len - 4) ∷ []) (take (len - 4) (drop 4 ws)) ∙ step-words len ws full enough few) in
-      is-next (onS i (take len ws)) _ _ _
-      (passes _ _ (both _ _ (inside 1 4 (i .rank) (omega (arith, h .rank, low)) (omega (arith, h .rank))) (both _ _ (inside 4 21 (length (take len ws)) (omega (arith, size-of len ws full)) (omega (arith, size-of len ws full))) (lt-ltb (length (i .steps)) 1024 (omega (arith, h .steps))))))
+  s-taken three e put =
+      let enough = fits-facts len (p .rank) (p .steps) e .0 in
+      let room = fits-facts len (p .rank) (p .steps) e .1 in
+      let x = stepOf (take len ws) in
+      let j : Input = record { rank = 4; loads = i .loads; steps = i .steps ++ (x ∷ []) } in
+      let before = allStepWords (i .steps) in
+      let all = all-words (i .steps) x in
+      let four : length (take 4 ws) ≡ 4 = length-take-le 4 ws (omega arith) in
+      let steps : length (i .steps ++ (x ∷ [])) ≡ length (i .steps) + 1 = length-append (i .steps) (x ∷ []) in
+      let words : length (allStepWords (i .steps ++ (x ∷ []))) ≡ length before + len + 1 = omega (arith, ap length all, length-append before (stepWords x), step-size len ws full enough few) in
+      let places : stepMore p len ≡ placesOf j = ap (λ (y : Places). stepMore y len) at ∙ same-places _ _ _ _ _ _ _ _ _ _ refl refl (sym steps) (sym words) in
+      let there : three ≡ sets (old .steps) 0 (allStepWords (i .steps ++ (x ∷ []))) =
+      put ∙ run-of (p .words) (len - 4) (take 4 ws) (take (len - 4) (drop 4 ws)) (l .steps) four ∙ ap (sets (l .steps) (p .words)) (step-words len ws full enough few)
+      ∙ ap (λ (y : Lists). sets (y .steps) (p .words) (stepWords x)) (h .lists) ∙ ap (λ (y : Places). sets (sets (old .steps) 0 before) (y .words) (stepWords x)) at
+      ∙ ap (λ (k : ℕ). sets (sets (old .steps) 0 before) k (stepWords x)) (sym (zero-add (length before))) ∙ sets-append before (stepWords x) (old .steps) 0 ∙ ap (sets (old .steps) 0) (sym all) in
+      let n : p .steps ≡ length (i .steps) = ap (λ (y : Places). y .steps) at in
+      is-next i _ _ old _ j (passes _ _ (same-test ∙ e)) places
       (record {
-        inside = omega arith;
-        rank = refl;
-        wrapper = h .wrapper;
         tables = h .tables;
-        nodes1 = h .nodes1;
-        pool1 = h .pool1;
-        nodes2 = h .nodes2;
-        pool2 = h .pool2;
-        steps = omega (arith, h .steps, length-append (i .steps) (stepOf (take len ws) ∷ []));
-        words = rw (all-words (i .steps) (stepOf (take len ws))) (filled-more at (len + 1) (at + len + 1) (l .steps) three _ _ (h .words) d (step-size len ws full enough few) (omega arith));
+        inside = record { nodes = h .inside .nodes; fives = h .inside .fives; pools = h .inside .pools; steps = omega (arith, steps, n, room); stepWords = omega (arith, steps, words, h .inside .stepWords, few) };
+        lists = same-lists _ _ _ _ _ _ (ap (λ (y : Lists). y .nodes) (h .lists)) (ap (λ (y : Lists). y .pools) (h .lists)) there;
       })

@@ -3,12 +3,11 @@ use mathlib.Core.Path.{_≡_, refl}
 use mathlib.Core.Bool.{Bool, true, false}
 use mathlib.Core.Option.{none, some}
 use Prim.Native.Nat.{ℕ, _<_, _≤_}
-use native.Mathlib.Omega.{arith}
-use borrow.Author.Tests.{le-leb, lt-leb, leb-true, leb-false}
+use borrow.Author.Tests.{le-leb, lt-leb}
 use lib.Dec.{leb}
 use Rattle.model.specs.Basics.{_&_, choose}
 use Rattle.format.specs.Lines.{between, when}
-use Rattle.model.proofs.Tests.{both}
+use Rattle.model.proofs.Tests.{fst, snd, both}
 
 pub first-fails : (a b : Bool) → a ≡ false → a & b ≡ false
 unfolding _&_
@@ -41,10 +40,15 @@ unfolding choose
 same-either true a = refl
 same-either false a = refl
 
--- a side that is neither 1 nor 2
-pub neither : (k : ℕ) → (k ≡ 1 → ⊥) → (k ≡ 2 → ⊥) → between 1 2 k ≡ false
-neither k a b = go (leb 3 k) refl
-  where
-    go : (t : Bool) → leb 3 k ≡ t → between 1 2 k ≡ false
-    go true e = above 1 2 k (leb-true 3 k e)
-    go false e = below 1 2 k (omega (arith, leb-false 3 k e, a, b))
+-- three tests before a fourth
+pub three-fail : (a b c d : Bool) → a & (b & c) ≡ false → a & (b & (c & d)) ≡ false
+unfolding _&_
+three-fail true true c d e = first-fails c d e
+three-fail true false c d e = refl
+three-fail false b c d e = refl
+
+pub all-pass : (a b c d : Bool) → a & (b & c) ≡ true → d ≡ true → a & (b & (c & d)) ≡ true
+all-pass a b c d e f = both a _ (fst a _ e) (both b _ (fst b c (snd a _ e)) (both c d (snd b c (snd a _ e)) f))
+
+pub last-fails : (a b c d : Bool) → d ≡ false → a & (b & (c & d)) ≡ false
+last-fails a b c d e = second-fails a _ (second-fails b _ (second-fails c d e))

@@ -1,14 +1,18 @@
 -- A field and a line as the code answers them.
 use mathlib.Core.List.{List, [], _∷_, _++_}
 use mathlib.Core.Option.{Option, none, some}
-use Prim.Native.Nat.{ℕ}
-use lib.Dec.{leb}
-use lib.ListN.{length, take}
-use Rattle.model.specs.Basics.{choose}
-use Rattle.format.specs.Lines.{Line, Input, onLine}
+use mathlib.Core.Bool.{Bool, true, false}
+use Prim.Native.Nat.{ℕ, _-_}
+use lib.Dec.{leb, eqb}
+use lib.ListN.{length, getD, take}
+use Rattle.model.specs.Basics.{_&_, choose}
+use Rattle.model.specs.Wrapper.{allSides}
+use Rattle.format.specs.Lines.{Line, Input, between, onLine}
 use Rattle.reading.specs.declared.fields.Number.{Number}
 use Rattle.reading.specs.declared.fields.Number.the-variants.{Word, Bad}
 use Rattle.reading.specs.declared.fields.Line as code
+use Rattle.reading.specs.declared.lines.Named.{Named}
+use Rattle.reading.specs.declared.lines.Named.the-variants.{At, Nothing}
 
 -- the answer for a number, or for none
 abbrev pub answerOf : Option ℕ → Number
@@ -46,3 +50,12 @@ lineWith c (some ns) = some (record { letter = c; words = ns })
 abbrev pub afterLine : Input → Option Line → Option Input
 afterLine i none = none
 afterLine i (some l) = onLine i l
+
+-- a line of `size` numbers that names a side, behind lines of a rank from 1 to `high`
+unfoldable pub namesSide : (high size rank : ℕ) → List ℕ → Bool
+namesSide high size rank ns = between 1 high rank & (eqb (length ns) size & between 1 (length allSides) (getD ns 0 0))
+
+-- the answer for the side of number n, where it is named
+abbrev pub namedBy : Bool → ℕ → Named
+namedBy false n = Nothing
+namedBy true n = At (n - 1)

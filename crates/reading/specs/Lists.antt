@@ -1,73 +1,97 @@
 -- What the lent lists hold, and how far they are filled.
 use mathlib.Core.Path.{_≡_}
-use mathlib.Core.List.{List, [], _∷_}
+use mathlib.Core.Bool.{Bool, true, false}
+use mathlib.Core.List.{List, [], _∷_, map}
 use mathlib.Core.Option.{Option, none, some}
-use Prim.Native.Nat.{ℕ, _*_, _≤_, _%_}
-use lib.ListN.{length, take}
-use Rattle.model.specs.Load.{table}
+use Prim.Native.Nat.{ℕ, _+_, _*_, _≤_, _%_}
+use lib.ListN.{length, getD}
+use lib.Seq.{sets}
+use Rattle.model.specs.Wrapper.{allSides}
 use Rattle.format.specs.Words.{allStepWords}
 use Rattle.format.specs.Lines as format
-use Rattle.format.specs.Lines.{Input, fault, whole}
+use Rattle.format.specs.Lines.{Input, fault, whole, reading, readSoFar}
 use Rattle.reading.specs.declared.Places.{Places}
 use Rattle.reading.specs.declared.Reading.{Reading}
-use Rattle.reading.specs.declared.Reading.the-variants as answer
+use Rattle.reading.specs.declared.Verdict.{Verdict}
+use Rattle.reading.specs.declared.Verdict.the-variants.{Fault, Whole}
 use Rattle.reading.specs.declared.lines.After.{After}
-use Rattle.reading.specs.declared.lines.After.the-variants.{Fault, Next}
 
--- the lent lists
+-- the lent lists: the nodes of all sides in one, their pools in one, and the steps
 pub record Lists : Type 0 where
-  pub nodes1 : List ℕ
-  pub pool1 : List ℕ
-  pub nodes2 : List ℕ
-  pub pool2 : List ℕ
+  pub nodes : List ℕ
+  pub pools : List ℕ
   pub steps : List ℕ
 
 -- the same from each list by itself
-abbrev pub lists : (nodes1 pool1 nodes2 pool2 steps : List ℕ) → Lists
-lists a b c d e = record { nodes1 = a; pool1 = b; nodes2 = c; pool2 = d; steps = e }
+abbrev pub lists : (nodes pools steps : List ℕ) → Lists
+lists n p s = record { nodes = n; pools = p; steps = s }
 
--- the first k words of a lent list are ws
-pub record Filled (k : ℕ) (lent ws : List ℕ) : Type 0 where
-  pub count : k ≡ length ws
-  pub words : take k lent ≡ ws
+-- a list with the words of each side at the start of its part, and otherwise as it was: parts of `wide` words, from place a on
+unfoldable pub laid : (wide a : ℕ) → List (List ℕ) → List ℕ → List ℕ
+laid wide a [] l = l
+laid wide a (ws ∷ wss) l = sets (laid wide (a + wide) wss l) a ws
 
--- how far each lent list can be filled; a node has five words, and a step at most 22
+-- the nodes of each side, from side 1 on
+abbrev pub nodesOf : Input → List (List ℕ)
+nodesOf i = map (λ t. t .nodes) (i .loads .tables)
+
+-- the pool of each side
+abbrev pub poolsOf : Input → List (List ℕ)
+poolsOf i = map (λ t. t .pool) (i .loads .tables)
+
+-- the lent lists with what the lines give
+abbrev pub filled : Input → Lists → Lists
+filled i l = lists (laid 1285 0 (nodesOf i) (l .nodes)) (laid 1025 0 (poolsOf i) (l .pools)) (sets (l .steps) 0 (allStepWords (i .steps)))
+
+-- how far they are filled then
+abbrev pub placesOf : Input → Places
+placesOf i =
+    record {
+      rank = i .rank;
+      wrapper = i .loads .wrapper;
+      nodes = map length (nodesOf i);
+      pools = map length (poolsOf i);
+      steps = length (i .steps);
+      words = length (allStepWords (i .steps));
+    }
+
+-- how far the part of each side and the list of steps can be filled; a node has five words, and a step at most 22
 pub record Inside (p : Places) : Type 0 where
-  pub nodes1 : p .nodes1 ≤ 1285
-  pub fives1 : p .nodes1 % 5 ≡ 0
-  pub pool1 : p .pool1 ≤ 1025
-  pub nodes2 : p .nodes2 ≤ 1285
-  pub fives2 : p .nodes2 % 5 ≡ 0
-  pub pool2 : p .pool2 ≤ 1025
+  pub nodes : (k : ℕ) → getD (p .nodes) k 0 ≤ 1285
+  pub fives : (k : ℕ) → getD (p .nodes) k 0 % 5 ≡ 0
+  pub pools : (k : ℕ) → getD (p .pools) k 0 ≤ 1025
   pub steps : p .steps ≤ 1024
   pub stepWords : p .words ≤ 22 * p .steps
-  pub words : p .words ≤ 22528
 
--- the lent lists hold what the lines give
-pub record Holds (i : Input) (p : Places) (l : Lists) : Type 0 where
-  pub inside : Inside p
-  pub rank : p .rank ≡ i .rank
-  pub wrapper : p .wrapper ≡ i .loads .wrapper
-  pub tables : i .loads .tables ≡ table (i .loads) 1 ∷ table (i .loads) 2 ∷ []
-  pub nodes1 : Filled (p .nodes1) (l .nodes1) (table (i .loads) 1 .nodes)
-  pub pool1 : Filled (p .pool1) (l .pool1) (table (i .loads) 1 .pool)
-  pub nodes2 : Filled (p .nodes2) (l .nodes2) (table (i .loads) 2 .nodes)
-  pub pool2 : Filled (p .pool2) (l .pool2) (table (i .loads) 2 .pool)
-  pub steps : p .steps ≡ length (i .steps)
-  pub words : Filled (p .words) (l .steps) (allStepWords (i .steps))
+-- the lent lists, which were `old`, hold what the lines give for each side, and are otherwise as they were
+pub record Holds (i : Input) (old new : Lists) : Type 0 where
+  pub tables : length (i .loads .tables) ≡ length allSides
+  pub inside : Inside (placesOf i)
+  pub lists : new ≡ filled i old
 
--- the answer of a line: at fault where the line gives nothing; else the lists hold what is read with it
-abbrev pub AfterIs : Option Input → After → Lists → Type 0
-AfterIs none a l = a ≡ Fault
-AfterIs (some i) Fault l = ⊥
-AfterIs (some i) (Next p) l = Holds i p l
+-- what is read with a line that gives o; without it where it is at fault
+abbrev pub kept : Input → (o : Option Input) → Input
+kept i none = i
+kept i (some j) = j
 
--- the answer of an input: the number of the line at fault; else the lists hold what is read
-abbrev pub ReadAs : format.Reading → Reading → Lists → Type 0
-ReadAs (fault n) r l = r ≡ answer.Fault n
-ReadAs (whole i) (answer.Fault n) l = ⊥
-ReadAs (whole i) (answer.Whole p) l = Holds i p l
+-- whether a line is taken
+abbrev pub isTaken : Option Input → Bool
+isTaken none = false
+isTaken (some i) = true
 
--- r is what an input is read as
-pub record ReadIs (x : format.Reading) (r : Reading) (l : Lists) : Type 0 where
-  pub is : ReadAs x r l
+-- r is the answer of a line that gives o behind lines that give i, and the lent lists hold what is read then
+pub record AfterIs (i : Input) (o : Option Input) (r : After) (old new : Lists) : Type 0 where
+  pub taken : r .taken ≡ isTaken o
+  pub places : r .places ≡ placesOf (kept i o)
+  pub holds : Holds (kept i o) old new
+
+-- the verdict on an input
+abbrev pub verdictOf : format.Reading → Verdict
+verdictOf (fault n) = Fault n
+verdictOf (whole i) = Whole
+
+-- r is the answer of an input, and the lent lists hold what the lines before the first fault give
+pub record ReadIs (input : List ℕ) (r : Reading) (old new : Lists) : Type 0 where
+  pub verdict : r .verdict ≡ verdictOf (reading input)
+  pub places : r .places ≡ placesOf (readSoFar input)
+  pub holds : Holds (readSoFar input) old new

@@ -6,88 +6,113 @@ ghost use mathlib.Core.Path.{_≡_};
 ghost use mathlib.Core.List.{List, [], _∷_};
 ghost use Prim.Native.Nat.{ℕ};
 ghost use lib.ListN.{length};
-ghost use Rattle.format.specs.Lines.{Input, noInput, readFrom, reading};
-ghost use Rattle.reading.specs.Lists.{Lists, lists, Holds, ReadAs, ReadIs};
+ghost use Rattle.format.specs.Lines.{Input, noInput, readFrom};
+ghost use Rattle.reading.specs.Lists.{lists, placesOf, verdictOf, ReadIs};
 use fields::line_at;
-use lines::After;
 use lines::on_line;
+use sides::Sides;
 
-// How far the lent lists are filled. `steps` counts steps, `words` the words of the list of steps.
+// How far the lent lists are filled: the words of each side's part of them, from side 1 on. `steps` counts steps, `words` the
+// words of the list of steps.
 pub struct Places {
     pub rank: usize,
     pub wrapper: u32,
-    pub nodes1: usize,
-    pub pool1: usize,
-    pub nodes2: usize,
-    pub pool2: usize,
+    pub nodes: [usize; Sides::COUNT],
+    pub pools: [usize; Sides::COUNT],
     pub steps: usize,
     pub words: usize,
 }
 
-// What is read: the number of the first line at fault, or how far the lent lists are filled.
-pub enum Reading {
+// Whether all lines are read, or the number of the first line at fault.
+pub enum Verdict {
     Fault(usize),
-    Whole(Places),
+    Whole,
+}
+
+// What is read, and how far the lent lists are filled; where a line is at fault, with the lines before it.
+pub struct Reading {
+    pub verdict: Verdict,
+    pub places: Places,
 }
 
 impl Places {
+    // The words of a side's part of the list of nodes: 257 nodes of five.
+    pub const SIDE_NODES: usize = 1285;
+
+    // The words of a side's part of the list of pools.
+    pub const SIDE_POOL: usize = 1025;
+
+    // The words of each list: the nodes of all sides, their pools, and 1,024 steps of at most 22.
+    pub const NODES: usize = Places::SIDE_NODES * Sides::COUNT;
+
+    pub const POOLS: usize = Places::SIDE_POOL * Sides::COUNT;
+
+    pub const STEPS: usize = 22528;
+
     // Nothing is read yet.
     fn none() -> Places
-        ensures { λ r. ⌜ ((l : Lists) → Holds noInput r l) ⌝ }
+        ensures { λ r. ⌜ r ≡ placesOf noInput ⌝ }
     {
         Places {
             rank: 0,
             wrapper: 0,
-            nodes1: 0,
-            pool1: 0,
-            nodes2: 0,
-            pool2: 0,
+            nodes: [0; Sides::COUNT],
+            pools: [0; Sides::COUNT],
             steps: 0,
             words: 0,
         }
     }
-
-    // What is read in all, where line n has no newline and so many bytes.
-    fn ended(self, n: usize, bytes: usize) -> Reading
-        ensures { λ r. ⌜ ((i : Input) (l : Lists) (rest : List ℕ) → Holds i self l → length rest ≡ bytes → ReadAs (readFrom n i (rest ∷ [])) r l) ⌝ }
-    {
-        if 0 < bytes {
-            return Reading::Fault(n);
-        }
-        if self.rank == 0 {
-            return Reading::Fault(n);
-        }
-        Reading::Whole(self)
-    }
 }
 
-// Reads a whole input into the lent lists.
+// The verdict on an input's last line n, which has no newline and so many bytes, behind lines of some rank.
+fn ended(rank: usize, n: usize, bytes: usize) -> Verdict
+    ensures { λ r. ⌜ ((i : Input) (rest : List ℕ) → rank ≡ i .rank → length rest ≡ bytes → r ≡ verdictOf (readFrom n i (rest ∷ []))) ⌝ }
+{
+    if 0 < bytes {
+        return Verdict::Fault(n);
+    }
+    if rank == 0 {
+        return Verdict::Fault(n);
+    }
+    Verdict::Whole
+}
+
+// Reads a whole input into the lent lists. Side n's part of the nodes begins at 1285 (n - 1), of the pools at 1025 (n - 1).
 pub fn read(
     input: &[u8],
-    nodes1: &mut [u32; 1285],
-    pool1: &mut [u32; 1025],
-    nodes2: &mut [u32; 1285],
-    pool2: &mut [u32; 1025],
-    steps: &mut [u32; 22528],
+    nodes: &mut [u32; Places::NODES],
+    pools: &mut [u32; Places::POOLS],
+    steps: &mut [u32; Places::STEPS],
 ) -> Reading
-    ensures { λ r. ⌜ ReadIs (reading (now (input .entry))) r (lists (now (nodes1 .exit)) (now (pool1 .exit)) (now (nodes2 .exit)) (now (pool2 .exit)) (now (steps .exit))) ⌝ }
+    ensures { λ r. ⌜ ReadIs (now (input .entry)) r (lists (now (nodes .entry)) (now (pools .entry)) (now (steps .entry))) (lists (now (nodes .exit)) (now (pools .exit)) (now (steps .exit))) ⌝ }
 {
     let len = input.len();
-    if 65536 < len {
-        return Reading::Fault(0);
-    }
     let mut p = Places::none();
+    if 65536 < len {
+        return Reading {
+            verdict: Verdict::Fault(0),
+            places: p,
+        };
+    }
     let mut n: usize = 1;
     let mut at: usize = 0;
     loop {
         let q = bytes::scan::find(input, at, len, 10);
         if q == len {
-            return p.ended(n, len - at);
+            let v = ended(p.rank, n, len - at);
+            return Reading {
+                verdict: v,
+                places: p,
+            };
         }
         let l = line_at(input, at, q);
-        match on_line(l, p, nodes1, pool1, nodes2, pool2, steps) {
-            After::Fault => return Reading::Fault(n),
-            After::Next(next) => p = next,
+        let a = on_line(l, p, nodes, pools, steps);
+        p = a.places;
+        if !a.taken {
+            return Reading {
+                verdict: Verdict::Fault(n),
+                places: p,
+            };
         }
         n += 1;
         at = q + 1;

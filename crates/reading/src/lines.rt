@@ -1,24 +1,34 @@
 // What a line adds to what is read so far.
 ghost use mathlib.Core.Path.{_≡_};
-ghost use mathlib.Core.List.{List, _++_};
-ghost use Prim.Native.Nat.{ℕ, _+_, _-_, _≤_};
-ghost use lib.ListN.{length, take, drop};
-ghost use Rattle.format.specs.Lines.{Input, onW, onN, onV, onS};
-ghost use Rattle.reading.specs.Fields.{wordsOf, viewLine, afterLine};
-ghost use Rattle.reading.specs.Lists.{lists, Inside, Holds, AfterIs};
+ghost use mathlib.Core.List.{List};
+ghost use Prim.Native.Nat.{ℕ, _+_, _-_, _<_, _≤_};
+ghost use lib.Dec.{ltb};
+ghost use lib.ListN.{length, getD, take, drop};
+ghost use lib.Seq.{sets};
+ghost use Rattle.model.specs.Basics.{_&_};
+ghost use Rattle.format.specs.Lines.{Input, between, onW, onN, onV, onS};
+ghost use Rattle.reading.specs.Fields.{wordsOf, viewLine, afterLine, namesSide, namedBy};
+ghost use Rattle.reading.specs.Lists.{Lists, lists, placesOf, Inside, Holds, AfterIs};
 use super::Places;
 use super::fields::Line;
+use sides::Sides;
 
-// What is read with a line more, or that the line is at fault.
-pub(crate) enum After {
-    Fault,
-    Next(Places),
+// What is read with a line more; where the line is at fault, without it.
+pub(crate) struct After {
+    pub(crate) taken: bool,
+    pub(crate) places: Places,
+}
+
+// The place of a side that a line names, from 0 on, or that it names none.
+enum Named {
+    At(usize),
+    Nothing,
 }
 
 // Puts a line's numbers from one place up to another into a list, from a place on.
 fn store(list: &mut [u32], at: usize, l: Line, from: usize, to: usize)
     requires { ⌜ (from ≤ to) × (to ≤ 21) × (at + (to - from) ≤ length (now list)) ⌝ }
-    ensures { λ _. ⌜ take (at + (to - from)) (now (list .exit)) ≡ take at (now (list .entry)) ++ take (to - from) (drop from (l .words)) ⌝ }
+    ensures { λ _. ⌜ now (list .exit) ≡ sets (now (list .entry)) at (take (to - from) (drop from (l .words))) ⌝ }
 {
     let mut k: usize = from;
     let mut j: usize = at;
@@ -29,114 +39,138 @@ fn store(list: &mut [u32], at: usize, l: Line, from: usize, to: usize)
     }
 }
 
+// The place of the side that a line names, where the line has `size` numbers and a rank from 1 to `high` is before it.
+fn side_named(l: Line, rank: usize, high: usize, size: usize) -> Named
+    requires { ⌜ (0 < size) × (size < 21) ⌝ }
+    ensures { λ r. ⌜ r ≡ namedBy (namesSide high size rank (wordsOf l)) (getD (wordsOf l) 0 0) ⌝ }
+{
+    if rank == 0 {
+        return Named::Nothing;
+    }
+    if high < rank {
+        return Named::Nothing;
+    }
+    if l.len != size {
+        return Named::Nothing;
+    }
+    let n = l.words[0] as usize;
+    if n == 0 {
+        return Named::Nothing;
+    }
+    if Sides::COUNT < n {
+        return Named::Nothing;
+    }
+    Named::At(n - 1)
+}
+
 // A W line.
 fn on_w(l: Line, mut p: Places) -> After
-    ensures { λ r. ⌜ ((i : Input) (nodes1 pool1 nodes2 pool2 steps : List ℕ) → Holds i p (lists nodes1 pool1 nodes2 pool2 steps) → AfterIs (onW i (wordsOf l)) r (lists nodes1 pool1 nodes2 pool2 steps)) ⌝ }
+    ensures { λ r. ⌜ ((i : Input) (old new : Lists) → p ≡ placesOf i → Holds i old new → AfterIs i (onW i (wordsOf l)) r old new) ⌝ }
 {
     if p.rank != 0 {
-        return After::Fault;
+        return After {
+            taken: false,
+            places: p,
+        };
     }
     if l.len != 1 {
-        return After::Fault;
+        return After {
+            taken: false,
+            places: p,
+        };
     }
     p.rank = 1;
     p.wrapper = l.words[0];
-    After::Next(p)
+    After {
+        taken: true,
+        places: p,
+    }
 }
 
 // An N line.
-fn on_n(l: Line, mut p: Places, nodes1: &mut [u32; 1285], nodes2: &mut [u32; 1285]) -> After
+fn on_n(l: Line, mut p: Places, nodes: &mut [u32; Places::NODES]) -> After
     requires { ⌜ Inside p ⌝ }
-    ensures { λ r. ⌜ ((i : Input) (pool1 pool2 steps : List ℕ) → Holds i p (lists (now (nodes1 .entry)) pool1 (now (nodes2 .entry)) pool2 steps) → AfterIs (onN i (wordsOf l)) r (lists (now (nodes1 .exit)) pool1 (now (nodes2 .exit)) pool2 steps)) ⌝ }
+    ensures { λ r. ⌜ ((i : Input) (old : Lists) (pools steps : List ℕ) → p ≡ placesOf i → Holds i old (lists (now (nodes .entry)) pools steps) → AfterIs i (onN i (wordsOf l)) r old (lists (now (nodes .exit)) pools steps)) ⌝ }
 {
-    if p.rank == 0 {
-        return After::Fault;
+    let side = side_named(l, p.rank, 2, 6);
+    let Named::At(s) = side else {
+        return After {
+            taken: false,
+            places: p,
+        };
+    };
+    let at = p.nodes[s];
+    if Places::SIDE_NODES <= at {
+        return After {
+            taken: false,
+            places: p,
+        };
     }
-    if 2 < p.rank {
-        return After::Fault;
-    }
-    if l.len != 6 {
-        return After::Fault;
-    }
-    let k = l.words[0];
-    if k == 1 {
-        let at = p.nodes1;
-        if 1285 <= at {
-            return After::Fault;
-        }
-        store(nodes1, at, l, 1, 6);
-        p.rank = 2;
-        p.nodes1 = at + 5;
-        return After::Next(p);
-    }
-    if k != 2 {
-        return After::Fault;
-    }
-    let at = p.nodes2;
-    if 1285 <= at {
-        return After::Fault;
-    }
-    store(nodes2, at, l, 1, 6);
+    store(nodes, Places::SIDE_NODES * s + at, l, 1, 6);
     p.rank = 2;
-    p.nodes2 = at + 5;
-    After::Next(p)
+    p.nodes[s] = at + 5;
+    After {
+        taken: true,
+        places: p,
+    }
 }
 
 // A V line.
-fn on_v(l: Line, mut p: Places, pool1: &mut [u32; 1025], pool2: &mut [u32; 1025]) -> After
+fn on_v(l: Line, mut p: Places, pools: &mut [u32; Places::POOLS]) -> After
     requires { ⌜ Inside p ⌝ }
-    ensures { λ r. ⌜ ((i : Input) (nodes1 nodes2 steps : List ℕ) → Holds i p (lists nodes1 (now (pool1 .entry)) nodes2 (now (pool2 .entry)) steps) → AfterIs (onV i (wordsOf l)) r (lists nodes1 (now (pool1 .exit)) nodes2 (now (pool2 .exit)) steps)) ⌝ }
+    ensures { λ r. ⌜ ((i : Input) (old : Lists) (nodes steps : List ℕ) → p ≡ placesOf i → Holds i old (lists nodes (now (pools .entry)) steps) → AfterIs i (onV i (wordsOf l)) r old (lists nodes (now (pools .exit)) steps)) ⌝ }
 {
-    if p.rank == 0 {
-        return After::Fault;
+    let side = side_named(l, p.rank, 3, 2);
+    let Named::At(s) = side else {
+        return After {
+            taken: false,
+            places: p,
+        };
+    };
+    let at = p.pools[s];
+    if Places::SIDE_POOL <= at {
+        return After {
+            taken: false,
+            places: p,
+        };
     }
-    if 3 < p.rank {
-        return After::Fault;
-    }
-    if l.len != 2 {
-        return After::Fault;
-    }
-    let k = l.words[0];
-    if k == 1 {
-        let at = p.pool1;
-        if 1025 <= at {
-            return After::Fault;
-        }
-        store(pool1, at, l, 1, 2);
-        p.rank = 3;
-        p.pool1 = at + 1;
-        return After::Next(p);
-    }
-    if k != 2 {
-        return After::Fault;
-    }
-    let at = p.pool2;
-    if 1025 <= at {
-        return After::Fault;
-    }
-    store(pool2, at, l, 1, 2);
+    store(pools, Places::SIDE_POOL * s + at, l, 1, 2);
     p.rank = 3;
-    p.pool2 = at + 1;
-    After::Next(p)
+    p.pools[s] = at + 1;
+    After {
+        taken: true,
+        places: p,
+    }
+}
+
+// Whether an S line of so many numbers can stand behind lines of some rank and so many steps.
+fn fits(len: usize, rank: usize, steps: usize) -> bool
+    requires { ⌜ len ≤ 21 ⌝ }
+    ensures { λ r. ⌜ r ≡ between 1 4 rank & (between 4 21 len & ltb steps 1024) ⌝ }
+{
+    if rank == 0 {
+        return false;
+    }
+    if 4 < rank {
+        return false;
+    }
+    if len < 4 {
+        return false;
+    }
+    steps < 1024
 }
 
 // An S line.
-fn on_s(l: Line, mut p: Places, steps: &mut [u32; 22528]) -> After
+fn on_s(l: Line, mut p: Places, steps: &mut [u32; Places::STEPS]) -> After
     requires { ⌜ Inside p × (l .len ≤ 21) ⌝ }
-    ensures { λ r. ⌜ ((i : Input) (nodes1 pool1 nodes2 pool2 : List ℕ) → Holds i p (lists nodes1 pool1 nodes2 pool2 (now (steps .entry))) → AfterIs (onS i (wordsOf l)) r (lists nodes1 pool1 nodes2 pool2 (now (steps .exit)))) ⌝ }
+    ensures { λ r. ⌜ ((i : Input) (old : Lists) (nodes pools : List ℕ) → p ≡ placesOf i → Holds i old (lists nodes pools (now (steps .entry))) → AfterIs i (onS i (wordsOf l)) r old (lists nodes pools (now (steps .exit)))) ⌝ }
 {
-    if p.rank == 0 {
-        return After::Fault;
-    }
-    if 4 < p.rank {
-        return After::Fault;
-    }
     let len = l.len;
-    if len < 4 {
-        return After::Fault;
-    }
-    if 1024 <= p.steps {
-        return After::Fault;
+    if !fits(len, p.rank, p.steps) {
+        return After {
+            taken: false,
+            places: p,
+        };
     }
     let at = p.words;
     let count = at + 4;
@@ -147,37 +181,44 @@ fn on_s(l: Line, mut p: Places, steps: &mut [u32; 22528]) -> After
     p.rank = 4;
     p.steps = p.steps + 1;
     p.words = at + len + 1;
-    After::Next(p)
+    After {
+        taken: true,
+        places: p,
+    }
 }
 
 // A line by its letter.
 pub(crate) fn on_line(
     l: Line,
     p: Places,
-    nodes1: &mut [u32; 1285],
-    pool1: &mut [u32; 1025],
-    nodes2: &mut [u32; 1285],
-    pool2: &mut [u32; 1025],
-    steps: &mut [u32; 22528],
+    nodes: &mut [u32; Places::NODES],
+    pools: &mut [u32; Places::POOLS],
+    steps: &mut [u32; Places::STEPS],
 ) -> After
     requires { ⌜ Inside p ⌝ }
-    ensures { λ r. ⌜ ((i : Input) → Holds i p (lists (now (nodes1 .entry)) (now (pool1 .entry)) (now (nodes2 .entry)) (now (pool2 .entry)) (now (steps .entry))) → AfterIs (afterLine i (viewLine l)) r (lists (now (nodes1 .exit)) (now (pool1 .exit)) (now (nodes2 .exit)) (now (pool2 .exit)) (now (steps .exit)))) ⌝ }
+    ensures { λ r. ⌜ ((i : Input) (old : Lists) → p ≡ placesOf i → Holds i old (lists (now (nodes .entry)) (now (pools .entry)) (now (steps .entry))) → AfterIs i (afterLine i (viewLine l)) r old (lists (now (nodes .exit)) (now (pools .exit)) (now (steps .exit)))) ⌝ }
 {
     if 21 < l.len {
-        return After::Fault;
+        return After {
+            taken: false,
+            places: p,
+        };
     }
     let c = l.letter;
     if c == 87 {
         return on_w(l, p);
     }
     if c == 78 {
-        return on_n(l, p, nodes1, nodes2);
+        return on_n(l, p, nodes);
     }
     if c == 86 {
-        return on_v(l, p, pool1, pool2);
+        return on_v(l, p, pools);
     }
     if c == 83 {
         return on_s(l, p, steps);
     }
-    After::Fault
+    After {
+        taken: false,
+        places: p,
+    }
 }

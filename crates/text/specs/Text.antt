@@ -1,9 +1,9 @@
 -- The answer of `text`, and the lent buffer after it.
 use mathlib.Core.Path.{_≡_}
-use mathlib.Core.List.{List, [], _∷_}
+use mathlib.Core.List.{List}
 use Prim.Native.Nat.{ℕ, _≤_}
 use lib.Dec.{ltb}
-use lib.ListN.{length, take}
+use lib.ListN.{length}
 use Rattle.model.specs.Basics.{choose}
 use Rattle.format.specs.Words.{allStepWords, onto}
 use Rattle.format.specs.Lines.{Input}
@@ -11,17 +11,11 @@ use Rattle.wrappers.specs.Compositions.{composition}
 use Rattle.text.specs.declared.Written.{Written}
 use Rattle.text.specs.declared.Written.the-variants.{Bytes, TooShort}
 
--- some words are what the lines give
-pub record Given (i : Input) (wrapper : ℕ) (nodes1 pool1 nodes2 pool2 steps : List ℕ) : Type 0 where
-  pub loads : composition wrapper (nodes1 ∷ nodes2 ∷ []) (pool1 ∷ pool2 ∷ []) ≡ i .loads
+-- some words are what the lines give: the sides' nodes and pools from side 1 on, and the steps
+pub record Given (i : Input) (wrapper : ℕ) (nodes pools : List (List ℕ)) (steps : List ℕ) : Type 0 where
+  pub loads : composition wrapper nodes pools ≡ i .loads
   pub words : steps ≡ allStepWords (i .steps)
   pub few : length (i .steps) ≤ 1024
-
--- an output of n bytes stands at the start of a page of 206,848
-pub record OnPage (o : List ℕ) (n : ℕ) (page : List ℕ) : Type 0 where
-  pub few : n ≤ 206848
-  pub full : length page ≡ 206848
-  pub text : take n page ≡ o
 
 -- how many bytes are written, or that the buffer is too short for the output
 unfoldable pub writtenOf : (output lent : List ℕ) → Written

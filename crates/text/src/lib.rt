@@ -1,14 +1,19 @@
 // The bench as a function of bytes: an input's lines are read, its tables loaded, its steps run, and the answers written.
 ghost use mathlib.Core.Path.{_≡_};
-ghost use Prim.Native.Nat.{_≤_};
-ghost use lib.ListN.{length, take};
+ghost use mathlib.Core.List.{[], map};
+ghost use Prim.Native.Nat.{ℕ, _*_, _<_, _≤_};
+ghost use lib.ListN.{length, getD, take, drop};
+ghost use Rattle.model.specs.Wrapper.{allSides};
 ghost use Rattle.format.specs.Lines.{Input};
 ghost use Rattle.format.specs.Output.{outputFor, output};
-ghost use Rattle.text.specs.Text.{Given, OnPage, TextIs};
-use reading::Reading;
+ghost use Rattle.writing.specs.Written.{PageIs};
+ghost use Rattle.text.specs.Text.{Given, TextIs};
+use reading::Places;
+use reading::Verdict;
 use reading::read;
 use running::Ran;
 use running::run;
+use sides::Sides;
 use writing::answered;
 use writing::fault;
 use writing::refused;
@@ -19,27 +24,39 @@ pub enum Written {
     TooShort,
 }
 
+// The words of each side: a list has parts of `wide` words, one for each side, and so many of them are filled.
+fn parts<'a>(
+    list: &'a [u32],
+    wide: usize,
+    counts: [usize; Sides::COUNT],
+) -> [&'a [u32]; Sides::COUNT]
+    requires { ⌜ (wide * length allSides ≤ length (now list)) × ((k : ℕ) → getD counts k 0 ≤ wide) ⌝ }
+    ensures { λ r. ⌜ (length (map now r) ≡ length allSides) × ((k : ℕ) → k < length allSides → getD (map now r) k [] ≡ take (getD counts k 0) (drop (wide * k) (now (list .entry)))) ⌝ }
+{
+    let mut all = [&list[0..0]; Sides::COUNT];
+    let mut k: usize = 0;
+    while k < Sides::COUNT {
+        let from = wide * k;
+        let to = from + counts[k];
+        all[k] = &list[from..to];
+        k += 1;
+    }
+    all
+}
+
 // The output for what the lines gave. A list of steps that was read does not break off, and 1,024 answers have room, so that
 // the last two arms are never taken.
-fn run_output<'a>(
+fn run_output(
     wrapper: u32,
-    nodes1: &'a [u32],
-    pool1: &'a [u32],
-    nodes2: &'a [u32],
-    pool2: &'a [u32],
+    nodes: [&[u32]; Sides::COUNT],
+    pools: [&[u32]; Sides::COUNT],
     steps: &[u32],
     page: &mut [u8; 206848],
 ) -> usize
-    ensures { λ r. ⌜ (r ≤ 206848) × (length (now (page .exit)) ≡ 206848) × ((i : Input) → Given i wrapper (now (nodes1 .entry)) (now (pool1 .entry)) (now (nodes2 .entry)) (now (pool2 .entry)) (now (steps .entry)) → take r (now (page .exit)) ≡ outputFor i) ⌝ }
+    ensures { λ r. ⌜ ((i : Input) → Given i wrapper (map now (nodes .entry)) (map now (pools .entry)) (now (steps .entry)) → PageIs (outputFor i) (now (page .entry)) (now (page .exit)) r) ⌝ }
 {
     let mut answers = [0u32; 20480];
-    let ran = run(
-        wrapper,
-        [nodes1, nodes2],
-        [pool1, pool2],
-        steps,
-        &mut answers,
-    );
+    let ran = run(wrapper, nodes, pools, steps, &mut answers);
     match ran {
         Ran::Done(n) => answered(page, &answers, n),
         Ran::Refused(number, side, node) => refused(page, number, side, node),
@@ -48,40 +65,25 @@ fn run_output<'a>(
     }
 }
 
-// The output for an input, at the start of a page that has room for any.
-fn output_on(input: &[u8], page: &mut [u8; 206848]) -> usize
-    ensures { λ r. ⌜ OnPage (output (now (input .entry))) r (now (page .exit)) ⌝ }
+// The output for an input, at the start of a page that has room for any, and how many bytes it has.
+pub fn output_on(input: &[u8], page: &mut [u8; 206848]) -> usize
+    ensures { λ r. ⌜ PageIs (output (now (input .entry))) (now (page .entry)) (now (page .exit)) r ⌝ }
 {
-    let mut nodes1 = [0u32; 1285];
-    let mut pool1 = [0u32; 1025];
-    let mut nodes2 = [0u32; 1285];
-    let mut pool2 = [0u32; 1025];
-    let mut steps = [0u32; 22528];
-    let r = read(
-        input,
-        &mut nodes1,
-        &mut pool1,
-        &mut nodes2,
-        &mut pool2,
-        &mut steps,
-    );
-    match r {
-        Reading::Fault(n) => fault(page, n),
-        Reading::Whole(p) => {
-            let a = p.nodes1;
-            let b = p.pool1;
-            let c = p.nodes2;
-            let d = p.pool2;
+    let mut nodes = [0u32; Places::NODES];
+    let mut pools = [0u32; Places::POOLS];
+    let mut steps = [0u32; Places::STEPS];
+    let r = read(input, &mut nodes, &mut pools, &mut steps);
+    let verdict = r.verdict;
+    match verdict {
+        Verdict::Fault(n) => fault(page, n),
+        Verdict::Whole => {
+            let p = r.places;
+            let a = p.nodes;
+            let b = p.pools;
             let e = p.words;
-            run_output(
-                p.wrapper,
-                &nodes1[..a],
-                &pool1[..b],
-                &nodes2[..c],
-                &pool2[..d],
-                &steps[..e],
-                page,
-            )
+            let ns = parts(&nodes, Places::SIDE_NODES, a);
+            let ps = parts(&pools, Places::SIDE_POOL, b);
+            run_output(p.wrapper, ns, ps, &steps[..e], page)
         },
     }
 }

@@ -1,4 +1,5 @@
-use Rattle.text.proofs.TextLaws.{page-within, page-count, text-short, text-written}
+use Rattle.writing.proofs.WrittenLaws.{page-within}
+use Rattle.text.proofs.TextLaws.{page-count, text-short, text-written}
 use native.Mathlib.Omega.{arith}
 use borrow.Author.Needs.{needs}
 use Rattle.text.proofs.text.Statement.{statement}

@@ -1,66 +1,71 @@
--- Each test that fails is one of the definition's; a word is stored behind the side's others.
+-- A line that names no side, or one whose part is full, is at fault; else a word is stored behind the others of the side.
 use mathlib.Core.Path.{_≡_}
+use Prim.Native.Nat.{_*_}
 use lib.ListN.{length}
-use Rattle.model.specs.Table.{Table}
-use Rattle.reading.proofs.SideLaws.{at-rank-zero, at-rank-high, at-size, at-side, at-room, used-one, used-two, v-gives, v-taken-one, v-taken-two}
+use Rattle.model.specs.Wrapper.{allSides}
+use Rattle.reading.proofs.SideLaws.{no-side, a-side, v-nowhere, v-no-room, v-taken}
 use native.Mathlib.Omega.{arith}
 use borrow.Author.Needs.{needs}
 use Rattle.reading.proofs.lines.on_v.Statement.{statement}
 use Rattle.reading.proofs.lines.on_v.Tie as tie
 
+side-named-requires : tie.Need-side-named-requires
+side-named-requires c κs = search needs
+
+enum-known-side : tie.Need-enum-known-side
+enum-known-side c = search needs
+
+enum-told : tie.Need-enum-told
+enum-told c = search needs
+
 returns : tie.Need-returns
-returns c = let s = c .before .before in let a = s .args in let w : length (a .t1 .words) ≡ 21 = search (needs, s .good) in λ i n1 n2 st h. at-rank-zero 3 2 1025 _ i (a .p) _ h (a .t1 .len) (a .t1 .words) w _ (v-gives i _) (c .if1 .taken)
+returns c = let s = c .before .before .before in let a = s .args in let w : length (a .l .words) ≡ 21 = search (needs, s .good) in λ i old x y e h. v-nowhere i (a .t2) old _ e h (a .l .len) (a .l .words) w (no-side _ _ _ (c .before .before .side-named .ensures) (c .enum-told .given .1))
+
+mul-at : tie.Need-mul-at
+mul-at c = let f = a-side 3 2 _ _ _ _ (c .before .before .before .side-named .ensures) (c .before .side .given .1) in omega (arith, f .place)
+
+element-copy-out-at : tie.Need-element-copy-out-at
+element-copy-out-at c = let f = a-side 3 2 _ _ _ _ (c .before .before .before .side-named .ensures) (c .before .side .given .1) in omega (arith, f .place)
 
 returns-2 : tie.Need-returns-2
-returns-2 c = let s = c .before .before .before .before in let a = s .args in let w : length (a .t1 .words) ≡ 21 = search (needs, s .good) in λ i n1 n2 st h. at-rank-high 3 2 1025 _ i (a .p) _ h (a .t1 .len) (a .t1 .words) w _ (v-gives i _) (search needs)
+returns-2 c = let s = c .before .before .before .before .before .before in let a = s .args in let w : length (a .l .words) ≡ 21 = search (needs, s .good) in let f = a-side 3 2 _ _ _ _ (c .before .before .before .before .before .side-named .ensures) (c .before .before .before .side .given .1) in λ i old x y e h. v-no-room i (a .t2) old _ e h (a .l .len) (a .l .words) w _ f (c .if1 .taken)
 
-returns-3 : tie.Need-returns-3
-returns-3 c = let s = c .before .before .before .before .before in let a = s .args in let w : length (a .t1 .words) ≡ 21 = search (needs, s .good) in λ i n1 n2 st h. at-size 3 2 1025 _ i (a .p) _ h (a .t1 .len) (a .t1 .words) w _ (v-gives i _) (omega arith) (c .if3 .taken)
+mul-store : tie.Need-mul-store
+mul-store c = let f = a-side 3 2 _ _ _ _ (c .before .before .before .before .before .before .side-named .ensures) (c .before .before .before .before .side .given .1) in omega (arith, f .place)
 
-element-copy-out-k : tie.Need-element-copy-out-k
-element-copy-out-k c = search needs
-
-returns-4 : tie.Need-returns-4
-returns-4 c = let s = c .before .before .before .before .before .before .before .before in let a = s .args in let w : length (a .t1 .words) ≡ 21 = search (needs, s .good) in λ i n1 n2 st h. at-room 3 2 1025 _ i (a .p) _ h (a .t1 .len) (a .t1 .words) w _ (v-gives i _) (a .p .pool1) (used-one (i .loads) (λ (t : Table). t .pool) (a .p .pool1) (a .t1 .len) (a .t1 .words) (search needs) (c .before .if4 .taken) (h .pool1 .count)) (search needs)
+add-store : tie.Need-add-store
+add-store c = let f = a-side 3 2 _ _ _ _ (c .before .before .before .before .before .before .side-named .ensures) (c .before .before .before .before .side .given .1) in omega (arith, f .place, c .before .if1 .left)
 
 store-requires : tie.Need-store-requires
-store-requires c κs = search needs
+store-requires c κs = let f = a-side 3 2 _ _ _ _ (c .before .before .before .before .before .before .side-named .ensures) (c .before .before .before .before .side .given .1) in let s = c .before .before .before .before .before .before .before in let n : length (s .args .pools .now) ≡ 1025 * length allSides = search (needs, s .good) in (search needs, search needs, omega (arith, f .place, c .before .if1 .left, n))
 
 add-p : tie.Need-add-p
 add-p c = search needs
 
-returns-5 : tie.Need-returns-5
-returns-5 c = let s = c .before .before .before .before .before .before .before .before .before .before in let a = s .args in let w : length (a .t1 .words) ≡ 21 = search (needs, s .good) in λ i n1 n2 st h. v-taken-one i (a .p) _ h (a .t1 .len) (a .t1 .words) w (c .before .before .before .before .before .before .before .before .if1 .left) _ (search needs) (c .before .before .before .before .before .if3 .left) (c .before .before .before .if4 .taken) (search needs) (c .store .ensures)
+mul-p : tie.Need-mul-p
+mul-p c = let f = a-side 3 2 _ _ _ _ (c .before .before .before .before .before .before .before .side-named .ensures) (c .before .before .before .before .before .side .given .1) in omega (arith, f .place)
 
-returns-6 : tie.Need-returns-6
-returns-6 c = let s = c .before .before .before .before .before .before .before .before in let a = s .args in let w : length (a .t1 .words) ≡ 21 = search (needs, s .good) in λ i n1 n2 st h. at-side 3 2 1025 _ i (a .p) _ h (a .t1 .len) (a .t1 .words) w _ (v-gives i _) (search needs) (c .before .if4 .left) (c .if6 .taken)
+element-write-p : tie.Need-element-write-p
+element-write-p c = let f = a-side 3 2 _ _ _ _ (c .before .before .before .before .before .before .before .side-named .ensures) (c .before .before .before .before .before .side .given .1) in omega (arith, f .place)
 
-returns-7 : tie.Need-returns-7
-returns-7 c = let s = c .before .before .before .before .before .before .before .before .before in let a = s .args in let w : length (a .t1 .words) ≡ 21 = search (needs, s .good) in λ i n1 n2 st h. at-room 3 2 1025 _ i (a .p) _ h (a .t1 .len) (a .t1 .words) w _ (v-gives i _) (a .p .pool2) (used-two (i .loads) (λ (t : Table). t .pool) (a .p .pool2) (a .t1 .len) (a .t1 .words) (search needs) (c .before .if6 .left) (h .pool2 .count)) (search needs)
-
-store-requires-2 : tie.Need-store-requires-2
-store-requires-2 c κs = search needs
-
-add-p-2 : tie.Need-add-p-2
-add-p-2 c = search needs
-
-returns-8 : tie.Need-returns-8
-returns-8 c = let s = c .before .before .before .before .before .before .before .before .before .before .before in let a = s .args in let w : length (a .t1 .words) ≡ 21 = search (needs, s .good) in λ i n1 n2 st h. v-taken-two i (a .p) _ h (a .t1 .len) (a .t1 .words) w (c .before .before .before .before .before .before .before .before .before .if1 .left) _ (search needs) (c .before .before .before .before .before .before .if3 .left) (c .before .before .before .if6 .left) (search needs) (c .store2 .ensures)
+returns-3 : tie.Need-returns-3
+returns-3 c = let s = c .before .before .before .before .before .before .before .before in let a = s .args in let w : length (a .l .words) ≡ 21 = search (needs, s .good) in let f = a-side 3 2 _ _ _ _ (c .before .before .before .before .before .before .before .side-named .ensures) (c .before .before .before .before .before .side .given .1) in λ i old x y e h. v-taken i (a .t2) old _ e h (a .l .len) (a .l .words) w _ f (c .before .before .if1 .left) _ (c .store .ensures)
 
 pub on-v-spec : {M : Type 1} → statement M
 on-v-spec =
     tie.close
     (tie.spec
+    side-named-requires
+    enum-known-side
+    enum-told
     returns
+    mul-at
+    element-copy-out-at
     returns-2
-    returns-3
-    element-copy-out-k
-    returns-4
+    mul-store
+    add-store
     store-requires
     add-p
-    returns-5
-    returns-6
-    returns-7
-    store-requires-2
-    add-p-2
-    returns-8)
+    mul-p
+    element-write-p
+    returns-3)

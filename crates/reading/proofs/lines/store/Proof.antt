@@ -1,15 +1,15 @@
 -- The numbers up to a place stand in the list.
 use mathlib.Core.Path.{_≡_}
-use mathlib.Core.List.{_++_}
 use Prim.Native.Nat.{_≤_, _+_, _-_}
 use lib.ListN.{length, take, drop}
+use lib.Seq.{sets}
 use Rattle.reading.proofs.StoreLaws.{stored-none, stored-more, stored-all}
 use borrow.Author.Needs.{needs}
 use Rattle.reading.proofs.lines.store.Statement.{statement}
 use Rattle.reading.proofs.lines.store.Tie as tie
 
 abbrev Inv-loop : tie.InvT-loop
-Inv-loop list₀ at from to l k₀ j₀ list k j = (from ≤ k) × (k ≤ to) × (j ≡ at + (k - from)) × (length list ≡ length list₀) × (take j list ≡ take at list₀ ++ take (k - from) (drop from (l .words)))
+Inv-loop list₀ at from to l k₀ j₀ list k j = (from ≤ k) × (k ≤ to) × (j ≡ at + (k - from)) × (length list ≡ length list₀) × (list ≡ sets list₀ at (take (k - from) (drop from (l .words))))
 
 abbrev μ-loop : tie.MeasureT-loop
 μ-loop list₀ at from to l k₀ j₀ list k j = to - k
@@ -39,13 +39,13 @@ loop-less : tie.Need-loop-less Inv-loop μ-loop
 loop-less c = search needs
 
 loop-again : tie.Need-loop-again Inv-loop μ-loop
-loop-again c = let l = c .before .before .loop in let s = c .before .before .before in let w : length (s .args .t3 .words) ≡ 21 = search (needs, s .good) in (search needs, search needs, search needs, search needs, stored-more (s .args .at) (s .args .from) (l .j) (l .k) (s .args .list .now) (l .list) (s .args .t3 .words) (l .inv .0) (search needs) (search needs) (l .inv .4))
+loop-again c = let l = c .before .before .loop in let s = c .before .before .before in let w : length (s .args .t3 .words) ≡ 21 = search (needs, s .good) in (search needs, search needs, search needs, search needs, stored-more (s .args .at) (s .args .from) (l .j) (l .k) (s .args .list .now) (l .list) (s .args .t3 .words) (l .inv .0) (search needs) (l .inv .2) (l .inv .4))
 
 same-length : tie.Need-same-length Inv-loop μ-loop
 same-length c = search needs
 
 returns : tie.Need-returns Inv-loop μ-loop
-returns c = let l = c .before .loop in stored-all _ _ _ (l .j) (l .k) _ (l .list) _ (l .inv .2) (l .inv .1) (c .loop-test .left) (l .inv .4)
+returns c = let l = c .before .loop in stored-all _ _ _ (l .k) _ (l .list) _ (l .inv .1) (c .loop-test .left) (l .inv .4)
 
 pub store-spec : {M : Type 1} → statement M
 store-spec =
