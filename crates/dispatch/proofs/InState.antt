@@ -17,8 +17,8 @@ use Rattle.model.specs.Load.{table as tableOf}
 use Rattle.model.specs.WellFormed.{counts, wfCore, wfSide, shelfOf, ready}
 use Rattle.model.specs.Step.{Step, Moved, settled, local, known, refusal, answerOf, sideAfter, Result, step}
 use Rattle.model.specs.Answer.{given}
-use Rattle.model.proofs.Tests.{fst}
-use Rattle.model.proofs.Invariant.{side-wf}
+use Rattle.model.proofs.Basics.Tests.{fst}
+use Rattle.model.proofs.Formed.Invariant.{side-wf}
 use Rattle.values.specs.Env.{viewValue}
 use Rattle.tables.specs.Nodes as slices
 use Rattle.tables.specs.Checks.{Passes}

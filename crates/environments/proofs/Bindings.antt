@@ -11,7 +11,7 @@ use lib.ListN.{length, getD, take, drop, length-append, length-map, length-take,
 use lib.Seq.{take-nil, take-suc, take-all, length-take-le}
 use Rattle.model.specs.Basics.{refuse, done, every}
 use Rattle.model.specs.Values.{Env, Fit, extend, binders, matches}
-use Rattle.model.proofs.Tests.{fst, snd}
+use Rattle.model.proofs.Basics.Tests.{fst, snd}
 use Rattle.values.specs.declared.Part.{Part}
 use Rattle.values.specs.declared.Bound as values
 use Rattle.values.specs.declared.Matched.{Matched}

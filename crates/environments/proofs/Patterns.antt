@@ -10,9 +10,9 @@ use lib.ListN.{length, length-drop, length-take}
 use Rattle.model.specs.Basics.{Res, refuse, done, bind, isDone, orElse, every}
 use Rattle.model.specs.Values.{items, at, isTuple, isName, isPublic, isPatternLeaf, arity, binders, restOf, firstOf, Fit, matches}
 use Rattle.model.specs.Values.{binds as with-bound}
-use Rattle.model.proofs.Tests.{both, bind-done}
-use Rattle.model.proofs.Keeping.{done-inj}
-use Rattle.model.proofs.Items.{clash, items-leaf, items-tuple, items-bad, at-whole, tuple-not-leaf, tuple-not-public}
+use Rattle.model.proofs.Basics.Tests.{both, bind-done}
+use Rattle.model.proofs.Formed.Keeping.{done-inj}
+use Rattle.model.proofs.Basics.Items.{clash, items-leaf, items-tuple, items-bad, at-whole, tuple-not-leaf, tuple-not-public}
 use Rattle.values.proofs.Spans.{items-tail}
 use Rattle.environments.specs.Matching.{patternAt}
 

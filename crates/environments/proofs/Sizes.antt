@@ -13,7 +13,7 @@ use lib.Seq.{take-suc, take-all, getD-set-same, getD-set-other}
 use Rattle.model.specs.Basics.{_or_}
 use Rattle.model.specs.Values.{Env, isPublic, value, extend, substitute}
 use Rattle.model.specs.Table.{Term, nil, par, box, new, out, inp}
-use Rattle.model.proofs.Environments.{Sized, sized-extend, look-append}
+use Rattle.model.proofs.Basics.Environments.{Sized, sized-extend, look-append}
 use Rattle.sides.specs.Environments.{envOf}
 use Rattle.environments.specs.Fits.{Fits}
 use Rattle.environments.specs.Long.{longIn, sizeFor, sizeBy, longBy}

@@ -10,7 +10,7 @@ use lib.Dec.{leb, ltb, eqb}
 use lib.ListN.{length, getD, set, take, drop, length-map, length-take, length-drop}
 use lib.Seq.{length-take-le, getD-take, getD-drop, getD-set-same, getD-set-other}
 use Rattle.model.specs.Values.{value}
-use Rattle.model.proofs.Environments.{Sized}
+use Rattle.model.proofs.Basics.Environments.{Sized}
 use Rattle.values.specs.Env.{tupleOf}
 use Rattle.sides.specs.Layout.{placesOf, viewPlace}
 use Rattle.sides.specs.Environments.{envOf, lastOf, slotValue}

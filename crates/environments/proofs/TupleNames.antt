@@ -8,7 +8,7 @@ use lib.ListN.{length, getD}
 use Rattle.model.specs.Values.{value}
 use Rattle.model.specs.Table.{Table, count, term}
 use Rattle.model.specs.Unfolding.{defined}
-use Rattle.model.proofs.Checked.{sits}
+use Rattle.model.proofs.Basics.Checked.{sits}
 use Rattle.values.specs.Env.{tupleOf}
 use Rattle.tables.specs.Checks.{Passes}
 use Rattle.scopes.specs.FreeUses.{clearAt}

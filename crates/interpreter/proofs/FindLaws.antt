@@ -15,7 +15,7 @@ use Rattle.model.specs.Load.{Composition, wrapperOf}
 use Rattle.model.specs.WellFormed.{ready}
 use Rattle.model.specs.Step.{isArrived}
 use Rattle.model.specs.Stranded.{isStranded, lobbyAsked, rightStranded}
-use Rattle.model.proofs.Tests.{fst, snd, both}
+use Rattle.model.proofs.Basics.Tests.{fst, snd, both}
 use Rattle.sides.specs.declared.Message.{Message}
 use Rattle.sides.specs.declared.Lobby.{Lobby}
 use Rattle.sides.specs.Views.{viewMessage, viewLobby}

@@ -14,7 +14,7 @@ use Rattle.model.specs.Side.{Core, startSide, noSide}
 use Rattle.model.specs.Side.{Side as MSide}
 use Rattle.model.specs.Wrapper.{allSides, hasSide}
 use Rattle.model.specs.Load.{Composition, wrapperOf, start, startOf, Loaded, refused, ok, load}
-use Rattle.model.proofs.Tests.{both}
+use Rattle.model.proofs.Basics.Tests.{both}
 use Rattle.sides.proofs.Lists.{view-push, every-push}
 use Rattle.tables.specs.Nodes as slices
 use Rattle.wrappers.specs.Compositions.{composition}

@@ -17,7 +17,7 @@ use Rattle.model.specs.Load.{Composition, wrapperOf, Setting, Loaded, refused, 
 use Rattle.model.specs.WellFormed.{wfState, ready}
 use Rattle.model.specs.Step.{Step, Moved, settled, local, refusal, Result, step, answerTo, afterStep}
 use Rattle.model.specs.Answer.{given}
-use Rattle.model.proofs.Tests.{fst, snd, both}
+use Rattle.model.proofs.Basics.Tests.{fst, snd, both}
 use Rattle.values.specs.Env.{viewValue}
 use Rattle.sides.proofs.Lists.{map-set}
 use Rattle.wrappers.specs.Compositions.{composition}

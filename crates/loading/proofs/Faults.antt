@@ -17,8 +17,8 @@ use Rattle.model.specs.Side.{withinLimits, emptyContents}
 use Rattle.model.specs.Wrapper.{Wrapper, allSides, isWrapper, hasSide}
 use Rattle.model.specs.Load.{Composition, wrapperOf, noTable, start, Loaded, refused, ok, sideFault, lackFault, loadSides, startOf, load}
 use Rattle.model.specs.Load.{table as tableOf}
-use Rattle.model.proofs.Tests.{both, or-cases}
-use Rattle.model.proofs.Counts.{Added, unfolds-adds}
+use Rattle.model.proofs.Basics.Tests.{both, or-cases}
+use Rattle.model.proofs.Formed.Counts.{Added, unfolds-adds}
 use Rattle.tables.specs.declared.checks.Verdict.{Verdict}
 use Rattle.tables.specs.declared.checks.Verdict.the-variants as verdict
 use Rattle.tables.specs.Checks.{Passes, verdictOf}

@@ -16,10 +16,10 @@ use Rattle.model.specs.Unfolding.{unfolds}
 use Rattle.model.specs.Wrapper.{allSides, filter, described, hasSide}
 use Rattle.model.specs.Load.{Setting, start}
 use Rattle.model.specs.WellFormed.{Counts, countOf, wfSide}
-use Rattle.model.proofs.Tests.{fst, snd, both, or-cases}
-use Rattle.model.proofs.Growing.{core-ok}
-use Rattle.model.proofs.Invariant.{core-short}
-use Rattle.model.proofs.Starts.{start-side}
+use Rattle.model.proofs.Basics.Tests.{fst, snd, both, or-cases}
+use Rattle.model.proofs.Formed.Growing.{core-ok}
+use Rattle.model.proofs.Formed.Invariant.{core-short}
+use Rattle.model.proofs.Formed.Starts.{start-side}
 use Rattle.scopes.proofs.ScopeBound.{passes-checked}
 use Rattle.wrappers.proofs.Described.{has-in}
 use Rattle.sides.specs.declared.Rest.{Rest}

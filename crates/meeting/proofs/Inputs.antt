@@ -9,8 +9,8 @@ use lib.Dec.{eqb}
 use lib.ListN.{length, length-append}
 use Rattle.model.specs.Values.{binders}
 use Rattle.model.specs.Table.{Table, count, kind, field, bound, scope, inp, build, term}
-use Rattle.model.proofs.Terms.{term-at}
-use Rattle.model.proofs.Checked.{is-tree, scope-child}
+use Rattle.model.proofs.Basics.Terms.{term-at}
+use Rattle.model.proofs.Basics.Checked.{is-tree, scope-child}
 use Rattle.tables.specs.Checks.{Passes}
 use Rattle.tables.proofs.WalkLaws.{body}
 use Rattle.scopes.proofs.ScopeBound.{passes-checked}

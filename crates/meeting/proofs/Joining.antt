@@ -14,7 +14,7 @@ use Rattle.model.specs.Side.{Particle, output, input, Core}
 use Rattle.model.specs.Unfolding.{defined}
 use Rattle.model.specs.Load.{Setting}
 use Rattle.model.specs.Step.{meetParticles, settled}
-use Rattle.model.proofs.Environments.{Sized}
+use Rattle.model.proofs.Basics.Environments.{Sized}
 use Rattle.values.specs.declared.Value.{Value}
 use Rattle.values.specs.Env.{viewValue}
 use Rattle.tables.specs.Checks.{Passes}

@@ -15,10 +15,10 @@ use Rattle.model.specs.Unfolding.{tagOf, unfolds, defined, particlesIn, boxesIn
 use Rattle.model.specs.Load.{Setting}
 use Rattle.model.specs.WellFormed.{envAt}
 use Rattle.model.specs.Step.{Moved, silently, withContents, withParticles, tagsFit, without, meetTerm, meetParticles, meet, short, settled}
-use Rattle.model.proofs.Tests.{fst, snd}
-use Rattle.model.proofs.Counts.{unfolds-adds}
-use Rattle.model.proofs.Environments.{Sized}
-use Rattle.model.proofs.MeetingKeeps.{every-without}
+use Rattle.model.proofs.Basics.Tests.{fst, snd}
+use Rattle.model.proofs.Formed.Counts.{unfolds-adds}
+use Rattle.model.proofs.Basics.Environments.{Sized}
+use Rattle.model.proofs.Formed.MeetingKeeps.{every-without}
 use Rattle.steps.proofs.Settling.{pick-past, pick-at, need-true, need-false, no-left, no-right, limits-in, settled-refused, settled-full, settled-within}
 use Rattle.steps.proofs.CoreSteps.{quiet}
 use Rattle.environments.specs.Long.{longIn}

@@ -17,9 +17,9 @@ use Rattle.model.specs.Unfolding.{unfolds, defined, particlesIn, boxesIn, newNa
 use Rattle.model.specs.Load.{Setting}
 use Rattle.model.specs.WellFormed.{wfParticle}
 use Rattle.model.specs.Step.{withContents, withParticles, without, meet, meetParticles, settled}
-use Rattle.model.proofs.Tests.{fst, snd, both, length-gone}
-use Rattle.model.proofs.Growing.{CoreOk, core-ok}
-use Rattle.model.proofs.Environments.{Sized}
+use Rattle.model.proofs.Basics.Tests.{fst, snd, both, length-gone}
+use Rattle.model.proofs.Formed.Growing.{CoreOk, core-ok}
+use Rattle.model.proofs.Basics.Environments.{Sized}
 use Rattle.tables.specs.declared.nodes.Node.{Node}
 use Rattle.tables.specs.Nodes.{table, NodeIs}
 use Rattle.sides.specs.declared.Rest.{Rest}

@@ -14,7 +14,7 @@ use Rattle.reading.specs.declared.Places.{Places}
 use Rattle.reading.specs.declared.lines.After.{After}
 use Rattle.reading.specs.Fields.{viewLine, shortLine, short, afterLine}
 use Rattle.reading.specs.Lists.{Lists, placesOf, Holds, AfterIs}
-use Rattle.model.proofs.Tests.{both}
+use Rattle.model.proofs.Basics.Tests.{both}
 use Rattle.reading.proofs.LineLaws.{struct, view-line, view-none, is-short, is-long}
 use Rattle.reading.proofs.TestLaws.{first-fails, second-fails, above, passes, fails, same-either}
 use Rattle.reading.proofs.AnswerLaws.{is-fault, is-next, notTaken, takenTo, places, first-of, size-of}

@@ -13,7 +13,7 @@ use Rattle.model.specs.Basics.{_&_}
 use Rattle.model.specs.Table.{Table}
 use Rattle.model.specs.Wrapper.{allSides}
 use Rattle.model.specs.Load.{noTable, table}
-use Rattle.model.proofs.Tests.{fst, snd, both}
+use Rattle.model.proofs.Basics.Tests.{fst, snd, both}
 use Rattle.sides.proofs.Lists.{map-set}
 use Rattle.format.specs.Lines.{Input, between, when, withTable, onN, onV}
 use Rattle.reading.specs.declared.Places.{Places}

@@ -12,7 +12,7 @@ use lib.ListN.{length, getD, take, drop, set, length-append, length-drop}
 use lib.Seq.{sets, take-take, length-take-le}
 use Rattle.model.specs.Basics.{_&_}
 use Rattle.model.specs.Step.{Step}
-use Rattle.model.proofs.Tests.{fst, snd}
+use Rattle.model.proofs.Basics.Tests.{fst, snd}
 use Rattle.sides.proofs.Sets.{sets-append}
 use Rattle.format.specs.Words.{stepWords, allStepWords}
 use Rattle.format.specs.Lines.{Input, between, stepOf, onS}

@@ -7,7 +7,7 @@ use borrow.Author.Tests.{le-leb, lt-leb}
 use lib.Dec.{leb}
 use Rattle.model.specs.Basics.{_&_, choose}
 use Rattle.format.specs.Lines.{between, when}
-use Rattle.model.proofs.Tests.{fst, snd, both}
+use Rattle.model.proofs.Basics.Tests.{fst, snd, both}
 
 pub first-fails : (a b : Bool) → a ≡ false → a & b ≡ false
 unfolding _&_

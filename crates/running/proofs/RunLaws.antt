@@ -16,8 +16,8 @@ use Rattle.model.specs.Load.{Composition, Refused, Loaded, refused, ok, load}
 use Rattle.model.specs.WellFormed.{ready}
 use Rattle.model.specs.Step.{Step, step}
 use Rattle.model.specs.Runs.{answers}
-use Rattle.model.proofs.Tests.{some-inj}
-use Rattle.model.proofs.Invariant.{keeps}
+use Rattle.model.proofs.Basics.Tests.{some-inj}
+use Rattle.model.proofs.Formed.Invariant.{keeps}
 use Rattle.format.specs.Words.{before, stepsOf, stepAt, saidWords, givenWords, answerWords, allAnswerWords, tooShort, runFrom, runSteps, runOf}
 use Rattle.format.specs.Words.{Ran as FRan}
 use Rattle.format.proofs.AnswerWords.{answers-many}

@@ -13,8 +13,8 @@ use Rattle.model.specs.Basics.{_&_}
 use Rattle.model.specs.Values.{Env, extend, lookup, value, isNameIn, binders}
 use Rattle.model.specs.Table.{Table, count, term, Term, build}
 use Rattle.model.specs.Unfolding.{defined, tagDefined, anyNames}
-use Rattle.model.proofs.Environments.{Sized, sized-extend, look-append}
-use Rattle.model.proofs.Checked.{Checked, sits, Sits, s-nil, s-par, s-box, s-new, s-out, s-inp}
+use Rattle.model.proofs.Basics.Environments.{Sized, sized-extend, look-append}
+use Rattle.model.proofs.Basics.Checked.{Checked, sits, Sits, s-nil, s-par, s-box, s-new, s-out, s-inp}
 use Rattle.values.specs.declared.Value.{Value}
 use Rattle.values.specs.declared.Env as dec
 use Rattle.values.specs.Env.{viewValue, viewEnv, tupleOf}

@@ -11,7 +11,7 @@ use lib.ListN.{length, getD, drop, set, length-append, length-drop, length-set, 
 use lib.Seq.{drop-length, drop-cons, drop-set-lt, getD-set-same, drop-append-add}
 use Rattle.model.specs.Values.{binders, isPublic}
 use Rattle.model.specs.Table.{Table, count, kind, field, childTimes, bound, scopeUp}
-use Rattle.model.proofs.Checked.{up-acc}
+use Rattle.model.proofs.Basics.Checked.{up-acc}
 use Rattle.tables.specs.declared.nodes.Node.{Node}
 use Rattle.tables.specs.Nodes.{table, NodeIs, patternNames}
 use Rattle.tables.specs.Fields.{useOf, childOf}

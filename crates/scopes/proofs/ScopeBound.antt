@@ -11,10 +11,10 @@ use Rattle.model.specs.Basics.{Res, refuse, done, isDone, choose}
 use Rattle.model.specs.Values.{at}
 use Rattle.model.specs.Table.{Table, count, kind, field, childTimes, Term, build, term, bound, scopeUp, scope}
 use Rattle.model.specs.Checks.{Fault, fault, check1, check2, check3, timesChild, over, overAll}
-use Rattle.model.proofs.Tests.{choose-done, fst, snd, alt}
-use Rattle.model.proofs.Items.{clash}
-use Rattle.model.proofs.Terms.{Child, left, right, in-box, in-new, in-body, term-at}
-use Rattle.model.proofs.Checked.{Checked, checked, is-tree, scope-child, not-found}
+use Rattle.model.proofs.Basics.Tests.{choose-done, fst, snd, alt}
+use Rattle.model.proofs.Basics.Items.{clash}
+use Rattle.model.proofs.Basics.Terms.{Child, left, right, in-box, in-new, in-body, term-at}
+use Rattle.model.proofs.Basics.Checked.{Checked, checked, is-tree, scope-child, not-found}
 use Rattle.tables.specs.Checks.{Passes}
 use Rattle.tables.proofs.CheckLaws.{few}
 use Rattle.scopes.specs.Names.{lastEight}

@@ -10,9 +10,9 @@ use lib.Dec.{leb, eqb}
 use Rattle.model.specs.Table.{Table, count, kind, field, childTimes, Term, nil, par, box, new, out, inp, build, term}
 use Rattle.model.specs.Checks.{check2, check3, timesChild}
 use Rattle.model.specs.Unfolding.{particlesIn, boxesIn, newNamesIn}
-use Rattle.model.proofs.Tests.{fst, snd, alt}
-use Rattle.model.proofs.Terms.{Child, left, right, in-box, in-new, in-body, term-at}
-use Rattle.model.proofs.Checked.{Checked, is-tree, parent-counts, two-le, one-le, split}
+use Rattle.model.proofs.Basics.Tests.{fst, snd, alt}
+use Rattle.model.proofs.Basics.Terms.{Child, left, right, in-box, in-new, in-body, term-at}
+use Rattle.model.proofs.Basics.Checked.{Checked, is-tree, parent-counts, two-le, one-le, split}
 use Rattle.tables.specs.Checks.{Passes}
 use Rattle.scopes.proofs.ScopeBound.{parent, passes-checked, no-fault, count-few}
 

@@ -10,7 +10,7 @@ use lib.Seq.{sets, drop-set-lt}
 use Rattle.model.specs.Basics.{_&_, every}
 use Rattle.model.specs.Side.{Box}
 use Rattle.model.specs.Wrapper.{allSides}
-use Rattle.model.proofs.Tests.{both}
+use Rattle.model.proofs.Basics.Tests.{both}
 use Rattle.values.specs.Env.{viewValue}
 use Rattle.sides.specs.declared.Tag.{Tag}
 use Rattle.sides.specs.declared.Lobby.{Lobby}

@@ -11,7 +11,7 @@ use lib.Dec.{leb}
 use lib.ListN.{length, take, drop, getD, getElem?, set, length-map}
 use lib.Seq.{take-suc-set, take-suc, take-set-lt, drop-append-le, drop-set-lt, drop-drop, getD-drop, take-take, slice, slice-empty, length-take-le}
 use Rattle.model.specs.Basics.{_&_, every, remove}
-use Rattle.model.proofs.Tests.{fst, snd, both, every-append, every-one, every-remove, every-set}
+use Rattle.model.proofs.Basics.Tests.{fst, snd, both, every-append, every-one, every-remove, every-set}
 
 -- a list without its place i, in two parts
 split-suc : {A : Type 0} (l : List A) (i : ℕ) → take i l ++ drop (suc i) l ≡ remove l i

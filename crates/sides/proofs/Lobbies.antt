@@ -6,7 +6,7 @@ use Prim.Native.Nat.{ℕ, _<_, _≤_}
 use native.Mathlib.Omega.{arith}
 use borrow.Author.Tests.{le-leb, leb-true}
 use lib.ListN.{length, getD, getElem?}
-use Rattle.model.proofs.Tests.{fst, snd}
+use Rattle.model.proofs.Basics.Tests.{fst, snd}
 use Rattle.values.specs.declared.Value.{Value}
 use Rattle.sides.specs.Views.{viewMessage, viewLobby, fitsValue, fitsMessage, fitsLobby}
 use Rattle.sides.specs.declared.Message.{Message}

@@ -12,7 +12,7 @@ use lib.ListN.{length, take, drop, getD, set, length-set, length-take, length-dr
 use lib.Seq.{sets, length-sets, length-take-le, getD-set-same, getD-set-other, drop-set-lt}
 use Rattle.model.specs.Basics.{_&_, every, remove}
 use Rattle.model.specs.Side.{Tag, Particle, output, input}
-use Rattle.model.proofs.Tests.{snd, both, every-remove}
+use Rattle.model.proofs.Basics.Tests.{snd, both, every-remove}
 use Rattle.values.specs.Env.{viewValue}
 use Rattle.sides.specs.declared.Tag.{Tag as dTag}
 use Rattle.sides.specs.Views.{viewTag}

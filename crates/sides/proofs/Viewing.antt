@@ -12,7 +12,7 @@ use lib.ListN.{length, take, drop, getD, getElem?, set, length-set, length-drop}
 use lib.Seq.{sets, length-sets, length-take-le}
 use Rattle.model.specs.Basics.{_&_, every}
 use Rattle.model.specs.Side.{output, input}
-use Rattle.model.proofs.Tests.{fst, snd}
+use Rattle.model.proofs.Basics.Tests.{fst, snd}
 use Rattle.sides.specs.declared.Tag.{Tag as dTag}
 use Rattle.sides.specs.declared.Tag.the-variants.{Within, ToParent, FromParent, ToChild, FromChild}
 use Rattle.sides.specs.Views.{viewTag}

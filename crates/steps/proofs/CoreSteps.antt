@@ -15,7 +15,7 @@ use Rattle.model.specs.Unfolding.{addParticle}
 use Rattle.model.specs.Load.{Setting}
 use Rattle.model.specs.Wrapper.{shelves}
 use Rattle.model.specs.Step.{Moved, silent, enters, leaves, silently, withContents, withLobby, withParticles, enter, isDown, isArrived, isLeaving, goDown, isToParent, upFrom, upParticle, up, isToChild, descendParticle, descend, pass, leave, short, settled}
-use Rattle.model.proofs.Tests.{both, every-append, every-one, every-remove, every-set, length-remove}
+use Rattle.model.proofs.Basics.Tests.{both, every-append, every-one, every-remove, every-set, length-remove}
 use Rattle.steps.proofs.Settling.{pick-past, pick-at, need-true, need-false, choose-true, choose-false, no-left, no-right, Within, limits-in, over-particles, over-lobby, over-shelf, settled-refused, settled-full, settled-within}
 
 -- the core after each step

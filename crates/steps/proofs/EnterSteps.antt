@@ -15,7 +15,7 @@ use Rattle.model.specs.Basics.{_&_, _or_, refuse, every, oneOf}
 use Rattle.model.specs.Values.{isValue, isMinted}
 use Rattle.model.specs.Side.{down, takenAt}
 use Rattle.model.specs.Step.{enter, enters, takes, markOf, settled}
-use Rattle.model.proofs.Tests.{fst, snd, both, or-cases}
+use Rattle.model.proofs.Basics.Tests.{fst, snd, both, or-cases}
 use Rattle.values.specs.declared.Value.{Value}
 use Rattle.values.specs.Env.{viewValue, Stores}
 use Rattle.sides.specs.declared.Status.the-variants.{Down}

@@ -17,9 +17,9 @@ use Rattle.model.specs.Wrapper.{filter}
 use Rattle.model.specs.Load.{Setting}
 use Rattle.model.specs.WellFormed.{Counts, wfCore, wfParticle}
 use Rattle.model.specs.Step.{Moved}
-use Rattle.model.proofs.Tests.{fst, snd, both, every-mono}
-use Rattle.model.proofs.Growing.{CoreOk, core-ok}
-use Rattle.model.proofs.Invariant.{core-short, core-limits}
+use Rattle.model.proofs.Basics.Tests.{fst, snd, both, every-mono}
+use Rattle.model.proofs.Formed.Growing.{CoreOk, core-ok}
+use Rattle.model.proofs.Formed.Invariant.{core-short, core-limits}
 use Rattle.values.specs.declared.Value.{Value}
 use Rattle.values.specs.Env.{viewValue, Stores}
 use Rattle.sides.specs.declared.Message.{Message}

@@ -7,7 +7,7 @@ use borrow.Author.Tests.{ne-eqb}
 use lib.ListN.{length, getD, set}
 use Rattle.model.specs.Basics.{_&_, refuse, remove}
 use Rattle.model.specs.Step.{isDown, isArrived, isLeaving, goDown, pass, leave, leaves, withLobby, settled}
-use Rattle.model.proofs.Tests.{both}
+use Rattle.model.proofs.Basics.Tests.{both}
 use Rattle.values.specs.Env.{viewValue}
 use Rattle.sides.specs.declared.Status.the-variants.{Leaving}
 use Rattle.sides.specs.declared.Tag.the-variants.{FromParent}

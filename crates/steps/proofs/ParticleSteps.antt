@@ -11,7 +11,7 @@ use Rattle.model.specs.Side.{output, arrived}
 use Rattle.model.specs.Load.{Setting}
 use Rattle.model.specs.Wrapper.{shelves}
 use Rattle.model.specs.Step.{Moved, isToParent, isToChild, up, upFrom, descend, settled}
-use Rattle.model.proofs.Tests.{both}
+use Rattle.model.proofs.Basics.Tests.{both}
 use Rattle.values.specs.declared.Value.{Value}
 use Rattle.values.specs.Env.{viewValue}
 use Rattle.sides.specs.declared.Status.the-variants.{Arrived}

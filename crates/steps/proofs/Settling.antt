@@ -10,8 +10,8 @@ use lib.ListN.{length, getElem?}
 use Rattle.model.specs.Basics.{_&_, Res, refuse, done, bind, need, choose, every, pick}
 use Rattle.model.specs.Side.{Core, limits}
 use Rattle.model.specs.Step.{Moved, short, settled}
-use Rattle.model.proofs.Tests.{fst, snd, both}
-use Rattle.model.proofs.Invariant.{settled-is}
+use Rattle.model.proofs.Basics.Tests.{fst, snd, both}
+use Rattle.model.proofs.Formed.Invariant.{settled-is}
 
 pub pick-past : {A B : Type 0} (l : List A) (i : ℕ) (f : A → Res B) → length l ≤ i → pick l i f ≡ refuse 10
 unfolding pick

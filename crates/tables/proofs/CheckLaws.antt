@@ -10,8 +10,8 @@ use lib.ListN.{length}
 use Rattle.model.specs.Basics.{_&_, choose, Res, refuse, done, isDone}
 use Rattle.model.specs.Table.{Table, count}
 use Rattle.model.specs.Checks.{Fault, found, fault, check1, overAll, firstBad, check2, check3, check4, check5}
-use Rattle.model.proofs.Tests.{fst, snd}
-use Rattle.model.proofs.Checked.{Checked, no-bad, is-tree}
+use Rattle.model.proofs.Basics.Tests.{fst, snd}
+use Rattle.model.proofs.Basics.Checked.{Checked, no-bad, is-tree}
 use Rattle.tables.specs.declared.checks.Lowest.the-variants.{At, Nowhere}
 use Rattle.tables.specs.declared.checks.Verdict.the-variants.{Passed, Refused}
 use Rattle.tables.specs.Nodes.{table}

@@ -5,7 +5,7 @@ use Prim.Native.Nat.{ℕ, zero, suc, _+_, _-_, _*_, _<_, _≤_}
 use native.Mathlib.Omega.{arith}
 use lib.ListN.{getD}
 use Rattle.model.specs.Table.{Table, count, kind, field, Term, build, term}
-use Rattle.model.proofs.Terms.{Child, left, right, in-box, in-new, in-body, term-at}
+use Rattle.model.proofs.Basics.Terms.{Child, left, right, in-box, in-new, in-body, term-at}
 use Rattle.tables.specs.declared.nodes.Node.{Node}
 use Rattle.tables.specs.Nodes.{table, NodeIs}
 use Rattle.tables.specs.Scope.{Walks}

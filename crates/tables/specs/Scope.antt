@@ -4,7 +4,7 @@ use Prim.Native.Nat.{ℕ, _<_}
 use lib.Dec.{leb}
 use Rattle.model.specs.Table.{Table, count, term}
 use Rattle.model.specs.Checks.{over}
-use Rattle.model.proofs.Terms.{Tree}
+use Rattle.model.proofs.Basics.Terms.{Tree}
 
 -- what a walk from node n is given: children are above their parents and in the table, and so is n
 pub record Walks (t : Table) (n : ℕ) : Type 0 where

@@ -8,7 +8,7 @@ use lib.ListN.{length, length-append}
 use Rattle.model.specs.Basics.{_or_}
 use Rattle.model.specs.Values.{Env, isPublic, lookup, value, extend, substitute}
 use Rattle.model.specs.Table.{Term, nil, par, box, new, out, inp}
-use Rattle.model.proofs.Environments.{Sized, look-append, sized-extend}
+use Rattle.model.proofs.Basics.Environments.{Sized, look-append, sized-extend}
 use Rattle.environments.specs.Long.{longIn}
 
 -- the values of every name have as many words

@@ -12,7 +12,7 @@ use Rattle.model.specs.Table.{Term, nil, par, box, new, out, inp}
 use Rattle.model.specs.Side.{output, input, Contents}
 use Rattle.model.specs.Unfolding.{tagOf, addBox, mint, unfolds}
 use Rattle.model.specs.Step.{short}
-use Rattle.model.proofs.Environments.{Sized, sized-extend}
+use Rattle.model.proofs.Basics.Environments.{Sized, sized-extend}
 use Rattle.tables.proofs.FieldLaws.{and-true}
 use Rattle.environments.specs.Long.{longIn}
 use Rattle.unfolding.proofs.LongLaws.{long-new}

@@ -5,8 +5,8 @@ use Prim.Native.Nat.{ℕ, _+_, _<_, _≤_}
 use native.Mathlib.Omega.{arith}
 use lib.ListN.{length, length-append}
 use Rattle.model.specs.Table.{Table, count, kind, scope, bound}
-use Rattle.model.proofs.Terms.{Child, left, right, in-box, in-new}
-use Rattle.model.proofs.Checked.{scope-child}
+use Rattle.model.proofs.Basics.Terms.{Child, left, right, in-box, in-new}
+use Rattle.model.proofs.Basics.Checked.{scope-child}
 use Rattle.tables.specs.declared.nodes.Node.{Node}
 use Rattle.tables.specs.Nodes.{table, NodeIs}
 use Rattle.tables.specs.Scope.{Walks}

@@ -13,8 +13,8 @@ use Rattle.model.specs.Values.{Env, word, extend, substitute}
 use Rattle.model.specs.Table.{Table, count, field, Term, par, box, new, build, term}
 use Rattle.model.specs.Side.{Particle, Box, input, Contents}
 use Rattle.model.specs.Unfolding.{particlesIn, boxesIn, newNamesIn, addParticle, addBox, unfolds}
-use Rattle.model.proofs.CauseTools.{neither}
-use Rattle.model.proofs.Environments.{Sized}
+use Rattle.model.proofs.Causes.CauseTools.{neither}
+use Rattle.model.proofs.Basics.Environments.{Sized}
 use Rattle.values.proofs.Environments.{env}
 use Rattle.tables.specs.declared.nodes.Node.{Node}
 use Rattle.tables.specs.Nodes.{table, NodeIs}

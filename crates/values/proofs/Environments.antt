@@ -11,7 +11,7 @@ use lib.ListN.{length, getD, take, drop, set, length-append, length-take, length
 use lib.Seq.{take-suc, take-suc-set, take-all, length-take-le, getD-take}
 use Rattle.model.specs.Basics.{_&_, choose}
 use Rattle.model.specs.Values.{Env, lookup, value, word, substitute, extend, binders}
-use Rattle.model.proofs.Environments.{look-append}
+use Rattle.model.proofs.Basics.Environments.{look-append}
 use Rattle.values.specs.declared.Value.{Value}
 use Rattle.values.specs.declared.Env as dec
 use Rattle.values.specs.declared.Part.{Part}

@@ -11,7 +11,7 @@ use lib.ListN.{length, getD, take, drop, length-append, take-append-drop}
 use lib.Seq.{take-suc, take-all}
 use Rattle.model.specs.Basics.{has}
 use Rattle.model.specs.Values.{binders, distinct, isPublic}
-use Rattle.model.proofs.Tests.{and-left, and-right, and-intro, or-true}
+use Rattle.model.proofs.Basics.Tests.{and-left, and-right, and-intro, or-true}
 use Rattle.values.proofs.Lists.{at-i}
 
 pub binders-append : (a b : List ℕ) → binders (a ++ b) ≡ binders a ++ binders b

@@ -11,7 +11,7 @@ use lib.ListN.{length, getD, take, drop, length-drop, drop-of-length-le, length-
 use lib.Seq.{drop-drop, drop-length, take-all, take-take, length-take-le}
 use Rattle.model.specs.Basics.{_&_, Res, refuse, done, orElse}
 use Rattle.model.specs.Values.{items, isName, isTuple, arity, restOf, firstOf, at, isValue, shaped}
-use Rattle.model.proofs.Items.{items-zero, items-leaf, items-tuple, items-bad}
+use Rattle.model.proofs.Basics.Items.{items-zero, items-leaf, items-tuple, items-bad}
 use Rattle.values.proofs.Lists.{at-i}
 use Rattle.values.proofs.Words.{left-false}
 use Rattle.values.specs.Span.{leafOf, found, spanOf, endOf, sizeOf}

@@ -8,7 +8,7 @@ use borrow.Author.Tests.{le-leb, lt-leb, eq-eqb}
 use lib.Dec.{leb, eqb}
 use lib.ListN.{length, take, length-map, length-take}
 use Rattle.model.specs.Basics.{_&_, every}
-use Rattle.model.proofs.Tests.{both}
+use Rattle.model.proofs.Basics.Tests.{both}
 use Rattle.model.specs.Table.{Table}
 use Rattle.model.specs.Side.{Contents, Core, Side, limits}
 use Rattle.model.specs.Wrapper.{allSides, hasSide, shelves, takesAny}

@@ -13,7 +13,7 @@ use Rattle.model.specs.Side.{noSide}
 use Rattle.model.specs.Wrapper.{allSides, described, hasSide}
 use Rattle.model.specs.Load.{Composition, noTable, table}
 use Rattle.model.specs.WellFormed.{countOf, shelfOf, wfSideOf, wfState}
-use Rattle.model.proofs.Tests.{fst, snd}
+use Rattle.model.proofs.Basics.Tests.{fst, snd}
 use Rattle.tables.specs.Nodes as slices
 use Rattle.tables.specs.Checks.{Passes}
 use Rattle.wrappers.specs.Compositions.{tablesOf, composition}

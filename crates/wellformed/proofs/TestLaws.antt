@@ -10,7 +10,7 @@ use lib.Dec.{leb, eqb}
 use lib.ListN.{length, take, drop, getD, drop-of-length-le, List·getD-map}
 use lib.Seq.{drop-cons, getD-take}
 use Rattle.model.specs.Basics.{_&_, every}
-use Rattle.model.proofs.Tests.{fst, snd}
+use Rattle.model.proofs.Basics.Tests.{fst, snd}
 use Rattle.sides.proofs.Lists.{view-length, every-at}
 use Rattle.wellformed.specs.Clauses.{everyFrom}
 

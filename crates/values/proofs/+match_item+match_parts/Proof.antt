@@ -5,7 +5,7 @@ use native.Mathlib.Omega.{arith}
 use borrow.Author.Needs.{needs}
 use borrow.Author.Tests.{leb-true}
 use lib.ListN.{length}
-use Rattle.model.proofs.Tests.{fst}
+use Rattle.model.proofs.Basics.Tests.{fst}
 use Rattle.values.proofs.Lists.{unmap}
 use Rattle.values.proofs.Spans.{end-is}
 use Rattle.values.proofs.Matches.{fit-no, fit-yes, parts-none, parts-more, parts-stop, item-short, item-tuple, item-other, item-over, item-name, item-wild, item-falls}

@@ -5,7 +5,7 @@ use native.Mathlib.Omega.{arith}
 use borrow.Author.Needs.{needs}
 use borrow.Author.Tests.{leb-true}
 use lib.ListN.{length}
-use Rattle.model.proofs.Tests.{fst}
+use Rattle.model.proofs.Basics.Tests.{fst}
 use Rattle.values.specs.Span.{leafOf, spanOf}
 use Rattle.values.proofs.Spans.{span-none, span-short, span-leaf, span-tuple, span-bad}
 use Rattle.values.proofs.item_end.Statement.{statement}

@@ -1,7 +1,7 @@
 use mathlib.Core.Path.{sym, _∙_}
 use mathlib.Core.List.{map}
 use denote.Ref.{now}
-use Rattle.model.proofs.Tests.{fst, snd}
+use Rattle.model.proofs.Basics.Tests.{fst, snd}
 use Rattle.wrappers.specs.Compositions.{composition}
 use Rattle.dispatch.specs.Stepping.{asked}
 use Rattle.interpreter.proofs.StepLaws.{step-none, step-ready, step-unready}

@@ -2,7 +2,7 @@ use mathlib.Core.Path.{_≡_, sym, _∙_}
 use mathlib.Core.List.{map}
 use denote.Ref.{now}
 use lib.ListN.{length}
-use Rattle.model.proofs.Tests.{fst, snd}
+use Rattle.model.proofs.Basics.Tests.{fst, snd}
 use Rattle.values.proofs.Lists.{unmap}
 use Rattle.wrappers.specs.Compositions.{composition}
 use Rattle.loading.proofs.Starting.{has-number}

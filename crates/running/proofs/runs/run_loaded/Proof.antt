@@ -2,7 +2,7 @@ use mathlib.Core.Path.{refl}
 use mathlib.Core.List.{map}
 use denote.Ref.{now}
 use Rattle.model.specs.Load.{Composition}
-use Rattle.model.proofs.Starts.{starts}
+use Rattle.model.proofs.Formed.Starts.{starts}
 use Rattle.wrappers.specs.Compositions.{composition}
 use Rattle.running.proofs.BeginLaws.{zeros-long}
 use Rattle.running.proofs.RunLaws.{put-from}

@@ -1,5 +1,5 @@
 use mathlib.Core.Path.{refl}
-use Rattle.model.proofs.Tests.{both}
+use Rattle.model.proofs.Basics.Tests.{both}
 use borrow.Author.Needs.{needs}
 use Rattle.sides.proofs.Lobby.empty.Statement.{statement}
 use Rattle.sides.proofs.Lobby.empty.Tie as tie

@@ -5,7 +5,7 @@ use borrow.Author.Needs.{needs}
 use lib.Dec.{leb}
 use lib.ListN.{length}
 use Rattle.model.specs.Basics.{_&_, every}
-use Rattle.model.proofs.Tests.{fst, snd}
+use Rattle.model.proofs.Basics.Tests.{fst, snd}
 use Rattle.model.specs.Wrapper.{described, shelves}
 use Rattle.model.specs.WellFormed.{wfMessage, wfContents, wfCore}
 use Rattle.values.proofs.Lists.{unmap}

@@ -1,0 +1,8 @@
+-- Laws of tests, lists, sides by number, terms, environments; what load's checks say.
+pub mod Tests
+pub mod Sides
+pub mod Terms
+pub mod Items
+pub mod Environments
+pub mod Checked
+pub mod Splits

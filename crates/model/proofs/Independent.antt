@@ -1,0 +1,2 @@
+-- Demand 3: a closed group of sides does not depend on the others.
+pub mod Independence
