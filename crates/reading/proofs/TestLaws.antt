@@ -3,12 +3,11 @@ use mathlib.Core.Path.{_≡_, refl}
 use mathlib.Core.Bool.{Bool, true, false}
 use mathlib.Core.Option.{none, some}
 use Prim.Native.Nat.{ℕ, _<_, _≤_}
-use native.Mathlib.Omega.{arith}
-use borrow.Author.Tests.{le-leb, lt-leb, leb-true, leb-false}
+use borrow.Author.Tests.{le-leb, lt-leb}
 use lib.Dec.{leb}
 use Rattle.model.specs.Basics.{_&_, choose}
 use Rattle.format.specs.Lines.{between, when}
-use Rattle.model.proofs.Tests.{fst, snd, both}
+use Rattle.model.proofs.Tests.{both}
 
 pub first-fails : (a b : Bool) → a ≡ false → a & b ≡ false
 unfolding _&_
@@ -47,9 +46,6 @@ unfolding _&_
 three-fail true true c d e = first-fails c d e
 three-fail true false c d e = refl
 three-fail false b c d e = refl
-
-pub all-pass : (a b c d : Bool) → a & (b & c) ≡ true → d ≡ true → a & (b & (c & d)) ≡ true
-all-pass a b c d e f = both a _ (fst a _ e) (both b _ (fst b c (snd a _ e)) (both c d (snd b c (snd a _ e)) f))
 
 pub last-fails : (a b c d : Bool) → d ≡ false → a & (b & (c & d)) ≡ false
 last-fails a b c d e = second-fails a _ (second-fails b _ (second-fails c d e))
