@@ -18,7 +18,8 @@ use Rattle.model.proofs.Basics.Tests.{both}
 use Rattle.reading.proofs.LineLaws.{struct, view-line, view-none, is-short, is-long}
 use Rattle.reading.proofs.TestLaws.{first-fails, second-fails, above, passes, fails, same-either}
 use Rattle.reading.proofs.AnswerLaws.{is-fault, is-next, notTaken, takenTo, places, first-of, size-of}
-use Rattle.reading.proofs.SideLaws.{n-none, v-none, another-size}
+use Rattle.reading.proofs.NamedLaws.{another-size}
+use Rattle.reading.proofs.SideLaws.{n-none, v-none}
 use Rattle.reading.proofs.StepLaws.{s-none}
 
 -- a W line

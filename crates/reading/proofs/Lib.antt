@@ -5,6 +5,7 @@ pub mod LineLaws
 pub mod StoreLaws
 pub mod LaidLaws
 pub mod AnswerLaws
+pub mod NamedLaws
 pub mod SideLaws
 pub mod StepLaws
 pub mod LetterLaws

@@ -7,7 +7,7 @@ use borrow.Author.Tests.{le-leb, lt-leb}
 use lib.Dec.{leb}
 use Rattle.model.specs.Basics.{_&_, choose}
 use Rattle.format.specs.Lines.{between, when}
-use Rattle.model.proofs.Basics.Tests.{fst, snd, both}
+use Rattle.model.proofs.Basics.Tests.{both}
 
 pub first-fails : (a b : Bool) → a ≡ false → a & b ≡ false
 unfolding _&_
@@ -46,9 +46,6 @@ unfolding _&_
 three-fail true true c d e = first-fails c d e
 three-fail true false c d e = refl
 three-fail false b c d e = refl
-
-pub all-pass : (a b c d : Bool) → a & (b & c) ≡ true → d ≡ true → a & (b & (c & d)) ≡ true
-all-pass a b c d e f = both a _ (fst a _ e) (both b _ (fst b c (snd a _ e)) (both c d (snd b c (snd a _ e)) f))
 
 pub last-fails : (a b c d : Bool) → d ≡ false → a & (b & (c & d)) ≡ false
 last-fails a b c d e = second-fails a _ (second-fails b _ (second-fails c d e))

@@ -195,6 +195,12 @@ module _ {bs : List ℕ} {p : Places} {old l : Lists} (w : WholeIs bs p old l) w
   steps-length : length (l .steps) ≡ length (old .steps)
   steps-length = ap (λ (x : Lists). length (x .steps)) (w .holds .lists) ∙ length-sets (old .steps) 0 (allStepWords (w .input .steps))
 
+  pub nodes-room : length (old .nodes) ≡ 1285 * length allSides → 1285 * length allSides ≤ length (l .nodes)
+  nodes-room e = omega (arith, nodes-length, e)
+
+  pub pools-room : length (old .pools) ≡ 1025 * length allSides → 1025 * length allSides ≤ length (l .pools)
+  pools-room e = omega (arith, pools-length, e)
+
   pub nodes-most : (k : ℕ) → getD (p .nodes) k 0 ≤ 1285
   nodes-most = within .nodes
 

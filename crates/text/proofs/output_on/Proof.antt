@@ -3,8 +3,7 @@ use mathlib.Core.Path.{sym, _∙_}
 use Prim.Native.Nat.{ℕ}
 use lib.ListN.{length-replicate}
 use lib.Seq.{length-take-le}
-use Rattle.text.proofs.TextLaws.{fault-output, whole-read, whole-output, nodes-length, pools-length, nodes-most, pools-most, words-within, given-whole, page-of}
-use native.Mathlib.Omega.{arith}
+use Rattle.text.proofs.TextLaws.{fault-output, whole-read, whole-output, nodes-length, pools-length, nodes-room, pools-room, nodes-most, pools-most, words-within, given-whole, page-of}
 use borrow.Author.Needs.{needs}
 use Rattle.text.proofs.output_on.Statement.{statement}
 use Rattle.text.proofs.output_on.Tie as tie
@@ -17,7 +16,7 @@ slice-aggregate-parts c =
 parts-requires : tie.Need-parts-requires
 parts-requires c κs =
     let w = whole-read _ (c .before .before .before .before .before .before .read .ensures) (c .before .before .before .before .enum-told .given .1) in
-    (omega (arith, nodes-length w, length-replicate {A = ℕ} 2570 0), nodes-most w)
+    (nodes-room w (length-replicate {A = ℕ} _ 0), nodes-most w)
 
 slice-aggregate-parts-2 : tie.Need-slice-aggregate-parts-2
 slice-aggregate-parts-2 c =
@@ -27,7 +26,7 @@ slice-aggregate-parts-2 c =
 parts-requires-2 : tie.Need-parts-requires-2
 parts-requires-2 c κs =
     let w = whole-read _ (c .before .before .before .before .before .before .before .before .read .ensures) (c .before .before .before .before .before .before .enum-told .given .1) in
-    (omega (arith, pools-length w, length-replicate {A = ℕ} 2050 0), pools-most w)
+    (pools-room w (length-replicate {A = ℕ} _ 0), pools-most w)
 
 array-share-prefix-steps : tie.Need-array-share-prefix-steps
 array-share-prefix-steps c =

@@ -3,7 +3,8 @@ use mathlib.Core.Path.{_≡_}
 use Prim.Native.Nat.{_*_}
 use lib.ListN.{length}
 use Rattle.model.specs.Wrapper.{allSides}
-use Rattle.reading.proofs.SideLaws.{no-side, a-side, n-nowhere, n-no-room, n-taken}
+use Rattle.reading.proofs.NamedLaws.{no-side, a-side}
+use Rattle.reading.proofs.SideLaws.{n-nowhere, n-no-room, n-taken}
 use native.Mathlib.Omega.{arith}
 use borrow.Author.Needs.{needs}
 use Rattle.reading.proofs.lines.on_n.Statement.{statement}

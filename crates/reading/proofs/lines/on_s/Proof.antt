@@ -39,7 +39,7 @@ element-write-steps : tie.Need-element-write-steps
 element-write-steps c = let s = c .before .before .before .before in let a = s .args in let e = sym (c .before .before .before .fits2 .ensures) ∙ not-false _ (c .before .before .if1 .left) in let f = fits-facts (a .l .len) (a .p .rank) (a .p .steps) e in omega (arith, f .1, s .pre .0 .stepWords)
 
 store-requires-2 : tie.Need-store-requires-2
-store-requires-2 c κs = let s = c .before .before .before .before .before in let a = s .args in let e = sym (c .before .before .before .before .fits2 .ensures) ∙ not-false _ (c .before .before .before .if1 .left) in let f = fits-facts (a .l .len) (a .p .rank) (a .p .steps) e in (f .0, s .pre .1, omega (arith, f .0, f .1, s .pre .1, s .pre .0 .stepWords))
+store-requires-2 c κs = let s = c .before .before .before .before .before in let a = s .args in let e = sym (c .before .before .before .before .fits2 .ensures) ∙ not-false _ (c .before .before .before .if1 .left) in let f = fits-facts (a .l .len) (a .p .rank) (a .p .steps) e in (omega (arith, f .0), omega (arith, s .pre .1), omega (arith, f .0, f .1, s .pre .1, s .pre .0 .stepWords))
 
 add-p : tie.Need-add-p
 add-p c = search needs

@@ -1,7 +1,7 @@
 -- Each test that fails is one of the definition's, and so is each that passes.
 use mathlib.Core.Path.{_≡_}
 use lib.ListN.{length}
-use Rattle.reading.proofs.SideLaws.{by-no-rank, by-rank, by-size, by-zero, by-side, by-all}
+use Rattle.reading.proofs.NamedLaws.{by-no-rank, by-rank, by-size, by-zero, by-side, by-all}
 use borrow.Author.Needs.{needs}
 use Rattle.reading.proofs.lines.side_named.Statement.{statement}
 use Rattle.reading.proofs.lines.side_named.Tie as tie
