@@ -5,9 +5,11 @@ use mathlib.Core.List.{List, [], _∷_, _++_}
 use mathlib.Core.Bool.{Bool, true, false, cond, _||_}
 use Prim.Native.Nat.{ℕ}
 use lib.Dec.{eqb, T, eqb-refl}
-use Rattle.calculus.specs.Syntax.{Val, nm, Pat, Vars, var, Scope, Name, ITag, within, parent, child, Tag, plain, receivedParent, receivedChild, Mode, once, replicated, Proc, nil, par, box, new, out, inp, comp, AllN, AllV, outer, opened, closed, theBound, nameOr, ren, iren, under}
+use Rattle.calculus.specs.Syntax.{Val, nm, Pat, Vars, var, Scope, Name, ITag, within, parent, child, Tag, plain, receivedParent, receivedChild, Mode, once, replicated, Proc, nil, par, box, new}
+use Rattle.calculus.specs.Syntax.{out, inp, comp, AllN, AllV, outer, opened, closed, theBound, nameOr, ren, iren, under}
 use Rattle.calculus.specs.Congruence.{Cong, _≋_, swapped, par-nil, par-comm, par-assoc, new-new, new-par, new-box, rfl, symm, trans, in-par, in-box, in-new, in-inp}
-use Rattle.calculus.specs.Transitions.{Label, tau, send, recv, Participants, lone, joint, In, mem, Fn⊆, Out∉, names, tnames, lnames, beyond, restrict, mv, movable, fixed, InstOk, Step, CommL, CommR, ParL, ParR, Box1, Box2, Box3, Res1, Res2, Struct}
+use Rattle.calculus.specs.Transitions.{Label, tau, send, recv, Participants, lone, joint, In, mem, Fn⊆, Out∉, names, tnames, lnames, beyond, restrict, mv, movable, fixed, InstOk, Step, CommL}
+use Rattle.calculus.specs.Transitions.{CommR, ParL, ParR, Box1, Box2, Box3, Res1, Res2, Struct}
 use Rattle.calculus.specs.Bisimulation.{Bisimulation}
 use Rattle.calculus.proofs.Renaming.{ren-ren, ren-id, ren-agree, AllN-map, AllV-map}
 use Rattle.calculus.proofs.Extrusion.{cong-ren, swap-under, Fresh, bound-fresh, extrude-par, extrude-box, in-news, news-par}
@@ -15,7 +17,8 @@ use Rattle.calculus.proofs.Inversion.{InpInv, ParInv, left, right, comm
 use Rattle.calculus.proofs.Parallels.{beyond-out, fresh-all, apart, recv-of, T-true}
 use Rattle.calculus.proofs.FreeNames.{cong-fn, or-cases, or-left, or-right, or-false-r, no-T, eqb-sym, eqb-true, AllV-names, step-fn, step-source, movable-in}
 use Rattle.calculus.proofs.Swaps.{new-swap, Off}
-use Rattle.calculus.proofs.KnownNames.{fn-more, or-false-l, or-both, bool-no, out-left, out-right, in-more, fresh, opened-fn, beyond-agree, beyond-skip, send-names, data-of, strengthen, known-swap, or-flip, weaken, weaken-recv, recv-asked, Asked}
+use Rattle.calculus.proofs.KnownNames.{fn-more, or-false-l, or-both, bool-no, out-left, out-right, in-more, fresh, opened-fn, beyond-agree, beyond-skip, send-names, data-of, strengthen}
+use Rattle.calculus.proofs.KnownNames.{known-swap, or-flip, weaken, weaken-recv, recv-asked, Asked}
 use Rattle.calculus.proofs.CongruentInstances.{cong-defined, cong-sub}
 
 -- Q does what P does
@@ -223,7 +226,8 @@ rise-out : {M : Type 0} (A : List ℕ) (b t : M) (n x y : ℕ) (v : Val ℕ) (P 
     → restrict (beyond A (y ∷ names v)) (par (out t y (receivedChild n) v) (box b n (new (closed x P)))) ≋ new (closed x (restrict (beyond (x ∷ A) (y ∷ names v)) (par (out t y (receivedChild n) v) (box b n P))))
 unfolding AllN
 rise-out A b t n x y v P hn e =
-    trans (in-news (beyond A (y ∷ names v)) (symm (trans (extrude-par x (out t y (receivedChild n) v) (box b n P) (or-false-l (eqb x y) (mem x (names v)) e, hn, fresh-val x v (or-false-r (eqb x y) (mem x (names v)) e))) (in-par rfl (extrude-box x b n P hn)))))
+    trans (in-news (beyond A (y ∷ names v))
+    (symm (trans (extrude-par x (out t y (receivedChild n) v) (box b n P) (or-false-l (eqb x y) (mem x (names v)) e, hn, fresh-val x v (or-false-r (eqb x y) (mem x (names v)) e))) (in-par rfl (extrude-box x b n P hn)))))
     (join-out A (y ∷ names v) x (par (out t y (receivedChild n) v) (box b n P)) e)
 
 enter-out : {M : Type 0} (A : List ℕ) (b t : M) (n x y : ℕ) (v : Val ℕ) (P : Proc M (var ∷ [])) → eqb x n ≡ false → Out∉ (y ∷ names v) x → Out∉ A x → Fn⊆ (new P) A
@@ -450,7 +454,8 @@ half-half P x z = ren-ren {q = []} (var ∷ []) P (under (nameOr x)) (nameOr z)
     ∙ ap (λ h. ren {r = []} P h) (fun-ext (elim [ inl b ↦ refl | inr y ↦ (elim y [ inl c ↦ refl | inr n ↦ refl ]) ]))
     ∙ sym (ap (λ X. ren {r = []} X (nameOr x)) (ren-ren {q = var ∷ []} (var ∷ var ∷ []) P swapped (under (nameOr z))) ∙ ren-ren {q = []} (var ∷ []) P (λ a. under (nameOr z) (swapped a)) (nameOr x))
 
-turned : {M : Type 0} {A : List ℕ} {S : Proc M []} {l : Label} {w : Participants M} (P : Proc M (var ∷ var ∷ [])) (x z : ℕ) → Step (z ∷ x ∷ A) (opened (half P x) z) l w S → Step (x ∷ z ∷ A) (opened (half (ren {r = var ∷ var ∷ []} P swapped) z) x) l w S
+turned : {M : Type 0} {A : List ℕ} {S : Proc M []} {l : Label} {w : Participants M} (P : Proc M (var ∷ var ∷ [])) (x z : ℕ) → Step (z ∷ x ∷ A) (opened (half P x) z) l w S →
+    Step (x ∷ z ∷ A) (opened (half (ren {r = var ∷ var ∷ []} P swapped) z) x) l w S
 turned {A = A} {S = S} {l = l} {w = w} P x z d = subst (λ X. Step (x ∷ z ∷ A) X l w S) (half-half P x z) (known-swap d)
 
 out-both : (A : List ℕ) (x z : ℕ) → Out∉ A x → Out∉ (x ∷ A) z → Out∉ (z ∷ A) x

@@ -7,7 +7,8 @@ use Prim.Native.Nat.{ℕ, suc, _+_, _≤_}
 use native.Mathlib.Omega.{arith}
 use lib.Dec.{eqb, T, eqb→eq, eqb-refl}
 use Rattle.calculus.specs.Syntax.{Val, var, within, parent, child, Tag, plain, receivedParent, receivedChild, once, replicated, Proc, par, box, new, out, inp, comp, AllN, AllV, AllT, opened, nameOr, ren}
-use Rattle.calculus.specs.Transitions.{Label, tau, send, recv, Participants, lone, joint, In, mem, Fn⊆, Out∉, names, tnames, lnames, beyond, restrict, Step, Out, In1, Repl, CommL, CommR, ParL, ParR, Box1, Box2, Box3, Res1, Res2, Struct}
+use Rattle.calculus.specs.Transitions.{Label, tau, send, recv, Participants, lone, joint, In, mem, Fn⊆, Out∉, names, tnames, lnames, beyond, restrict, Step, Out, In1, Repl, CommL, CommR, ParL}
+use Rattle.calculus.specs.Transitions.{ParR, Box1, Box2, Box3, Res1, Res2, Struct}
 use Rattle.calculus.proofs.Renaming.{ren-id, ren-agree, tren-id, tren-agree, vren-id, vren-agree, AllN-map, AllN-ren, AllV-map, AllT-map}
 use Rattle.calculus.proofs.Parallels.{Each, each-names}
 use Rattle.calculus.proofs.Equivariance.{lren, step-ren}
@@ -94,7 +95,8 @@ data-of x o v z k = ⊎-elim (λ a. or-left (eqb z x) (mem z (tnames o ++ names 
 
 shown-drop : (A B : List ℕ) (x : ℕ) (l : Label) → Out∉ (lnames l) x → Shown (x ∷ A) (x ∷ B) l → Shown A B l
 shown-drop A B x tau e h = tt
-shown-drop A B x (send y o v) e h = λ z k j. ⊎-elim (λ a. absurd (no-T (mem x (y ∷ tnames o ++ names v)) e (subst (λ q. T (mem q (y ∷ tnames o ++ names v))) (eqb→eq z x a) k))) (λ b. b) (or-cases (eqb z x) (mem z A) (h z k (in-more B x z j)))
+shown-drop A B x (send y o v) e h = λ z k j. ⊎-elim (λ a. absurd (no-T (mem x (y ∷ tnames o ++ names v)) e (subst (λ q. T (mem q (y ∷ tnames o ++ names v))) (eqb→eq z x a) k))) (λ b. b)
+    (or-cases (eqb z x) (mem z A) (h z k (in-more B x z j)))
 shown-drop A B x (recv y o v) e h = tt
 
 pub send-names : {M : Type 0} {B : List ℕ} {P P' : Proc M []} {l : Label} {w : Participants M} → Step B P l w P' → (A : List ℕ) → Fn⊆ P A → Shown A B l
@@ -277,14 +279,18 @@ AllT-both A B (receivedChild n) h k = (h, k)
 asked-drop : (A : List ℕ) (x : ℕ) (l : Label) → Out∉ (lnames l) x → Asked (x ∷ A) l → Asked A l
 asked-drop A x tau e h = tt
 asked-drop A x (send y o v) e h = tt
-asked-drop A x (recv y (plain i) v) e h =
-    (drop-name y (or-left (eqb y y) (mem y (tnames (plain i) ++ names v)) (eqb-refl y)) (h .0), AllT-map (plain i) (λ z k. drop-name z (or-right (eqb z y) (mem z (tnames (plain i) ++ names v)) (mem-left z (tnames (plain i)) (names v) (k .0))) (k .1)) (AllT-both (λ z. T (mem z (tnames (plain i)))) (In (x ∷ A)) (plain i) (AllT-names (plain i)) (h .1)))
+asked-drop A x (recv y (plain i) v) e h = (
+  drop-name y (or-left (eqb y y) (mem y (tnames (plain i) ++ names v)) (eqb-refl y)) (h .0),
+  AllT-map (plain i) (λ z k. drop-name z (or-right (eqb z y) (mem z (tnames (plain i) ++ names v)) (mem-left z (tnames (plain i)) (names v) (k .0))) (k .1))
+      (AllT-both (λ z. T (mem z (tnames (plain i)))) (In (x ∷ A)) (plain i) (AllT-names (plain i)) (h .1)),
+)
   where
     drop-name : (z : ℕ) → T (mem z (y ∷ tnames (plain i) ++ names v)) → In (x ∷ A) z → In A z
     drop-name z k j = ⊎-elim (λ a. absurd (no-T (mem x (y ∷ tnames (plain i) ++ names v)) e (subst (λ q. T (mem q (y ∷ tnames (plain i) ++ names v))) (eqb→eq z x a) k))) (λ b. b) (or-cases (eqb z x) (mem z A) j)
 asked-drop A x (recv y receivedParent v) e h = absurd h
 asked-drop A x (recv y (receivedChild n) v) e h =
-    ⊎-elim (λ a. absurd (no-T (mem x (y ∷ n ∷ names v)) e (subst (λ q. T (mem q (y ∷ n ∷ names v))) (eqb→eq n x a) (or-right (eqb n y) (mem n (n ∷ names v)) (or-left (eqb n n) (mem n (names v)) (eqb-refl n)))))) (λ b. b) (or-cases (eqb n x) (mem n A) h)
+    ⊎-elim (λ a. absurd (no-T (mem x (y ∷ n ∷ names v)) e
+    (subst (λ q. T (mem q (y ∷ n ∷ names v))) (eqb→eq n x a) (or-right (eqb n y) (mem n (n ∷ names v)) (or-left (eqb n n) (mem n (names v)) (eqb-refl n)))))) (λ b. b) (or-cases (eqb n x) (mem n A) h)
 
 pub recv-asked : {M : Type 0} {B : List ℕ} {P P' : Proc M []} {l : Label} {w : Participants M} → Step B P l w P' → (A : List ℕ) → Fn⊆ P A → Asked A l
 unfolding AllN

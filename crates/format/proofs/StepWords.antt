@@ -125,5 +125,6 @@ pub words-steps : (xs : List Step) → stepsOf (allStepWords xs) ≡ some xs
 unfolding stepsAfter before
 words-steps [] = refl
 words-steps (x ∷ xs) =
-    ap (before (record { kind = x .kind; side = x .side; i = x .i; j = x .j; words = take (length (x .words)) (x .words ++ allStepWords xs) })) (after-drop (x .words ++ allStepWords xs) (length (x .words)) (omega (arith, length-append (x .words) (allStepWords xs))) ∙ ap stepsOf (drop-append-seam (x .words) (allStepWords xs)) ∙ words-steps xs)
+    ap (before (record { kind = x .kind; side = x .side; i = x .i; j = x .j; words = take (length (x .words)) (x .words ++ allStepWords xs) }))
+    (after-drop (x .words ++ allStepWords xs) (length (x .words)) (omega (arith, length-append (x .words) (allStepWords xs))) ∙ ap stepsOf (drop-append-seam (x .words) (allStepWords xs)) ∙ words-steps xs)
     ∙ ap (λ (y : Step). some (y ∷ xs)) (same-step refl refl refl refl (take-append-seam (x .words) (allStepWords xs)))

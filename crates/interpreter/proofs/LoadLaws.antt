@@ -21,20 +21,17 @@ use Rattle.wrappers.specs.Compositions.{composition}
 use Rattle.sides.specs.declared.Rest.{Rest}
 use Rattle.sides.specs.declared.Side.{Side}
 use Rattle.sides.specs.declared.State.{State}
-use Rattle.sides.specs.Sides.{fitsSide, viewSide, viewState, fitsArrays, stateOf, Nothing}
+use Rattle.sides.specs.Sides.{SideIs, fitsSide, viewSide, viewState, fitsArrays, stateOf}
 use Rattle.loading.specs.declared.Outcome.{Outcome}
 use Rattle.loading.specs.declared.Outcome.the-variants.{Ok, Refused}
 use Rattle.loading.specs.Loading.{outcomeOf}
 use Rattle.loading.specs.Starting.{Startable, StartIs}
 use Rattle.loading.proofs.Faults.{taken, table-at, side-number, map-at}
-use Rattle.interpreter.specs.Loaded.{SideIs, StateIs, AllStartable, stateLoaded, LoadIs}
+use Rattle.interpreter.specs.Loaded.{StateIs, AllStartable, stateLoaded, LoadIs}
 
 -- a side by its core and its marks
 same-side : {a b : Core} {x y : List Bool} → a ≡ b → x ≡ y → _≡_ {A = MSide} (record { core = a; left = x }) (record { core = b; left = y })
 same-side p q = rw (p, q)
-
-pub nothing-there : (o : Rest) (w : List ℕ) (m : List Bool) → Nothing o → m ≡ replicate (256 * length allSides) false → SideIs noSide (record { words = w; rest = o; left = m })
-nothing-there o w m h e = record { view = same-side (h .core w) e; fits = h .fits w }
 
 pub start-there : (n : ℕ) (t : Table) (o : Rest) (w : List ℕ) (m : List Bool) → StartIs n t w o → m ≡ replicate (256 * length allSides) false → SideIs (startSide (start n t)) (record { words = w; rest = o; left = m })
 start-there n t o w m h e = record { view = same-side (h .core) e; fits = h .arrays }

@@ -6,21 +6,15 @@ use mathlib.Core.Option.{some}
 use Prim.Native.Nat.{ℕ}
 use Rattle.model.specs.Basics.{has}
 use Rattle.model.specs.Side.{noSide}
-use Rattle.model.specs.Side.{Side as MSide, State as MState}
+use Rattle.model.specs.Side.{State as MState}
 use Rattle.model.specs.Wrapper.{allSides, hasSide}
 use Rattle.model.specs.Load.{Composition, wrapperOf, Loaded, refused, ok}
 use Rattle.model.specs.Load.{table as tableOf}
-use Rattle.sides.specs.declared.Side.{Side}
 use Rattle.sides.specs.declared.State.{State}
-use Rattle.sides.specs.Sides.{viewSide, viewState, fitsSide, fitsArrays, stateOf}
+use Rattle.sides.specs.Sides.{viewState, fitsArrays, stateOf}
 use Rattle.loading.specs.Loading.{outcomeOf}
 use Rattle.loading.specs.Starting.{Startable}
 use Rattle.interpreter.specs.declared.LoadAnswer.{LoadAnswer}
-
--- r is the side o, every count within its array
-pub record SideIs (o : MSide) (r : Side) : Type 0 where
-  pub view : viewSide r ≡ o
-  pub fits : fitsSide (r .words) (r .rest) ≡ true
 
 -- r is the state s, every count within its array
 pub record StateIs (s : MState) (r : State) : Type 0 where

@@ -7,37 +7,25 @@ ghost use Rattle.model.specs.Wrapper.{allSides, described, hasSide};
 ghost use Rattle.model.specs.Load.{start, startOf, load};
 ghost use Rattle.tables.specs.Nodes.{table};
 ghost use Rattle.wrappers.specs.Compositions.{composition};
+ghost use Rattle.sides.specs.Sides.{SideIs};
 ghost use Rattle.loading.specs.Starting.{Startable};
-ghost use Rattle.interpreter.specs.Loaded.{SideIs, StateIs, AllStartable, LoadIs};
+ghost use Rattle.interpreter.specs.Loaded.{StateIs, AllStartable, LoadIs};
 use crate::LoadAnswer;
 use loading::Outcome;
 use loading::load_verdict;
 use loading::number_of;
 use loading::start_of;
-use sides::Rest;
 use sides::Rows;
 use sides::Side;
 use sides::Sides;
 use sides::State;
 use wrappers::has_side;
 
-// A side that has nothing.
-fn empty_side() -> Side
-    ensures { λ r. ⌜ SideIs noSide r ⌝ }
-{
-    let rest = Rest::empty();
-    Side {
-        words: [0; Rows::WORDS],
-        rest,
-        left: [false; Sides::MARKS],
-    }
-}
-
 // No side has anything.
 fn empty_state() -> State
     ensures { λ r. ⌜ StateIs (record { sides = map (λ n. noSide) allSides }) r ⌝ }
 {
-    let o = empty_side();
+    let o = Side::empty();
     State {
         sides: [o; Sides::COUNT],
     }
@@ -65,7 +53,7 @@ fn side_at(wrapper: u32, nodes: &[u32], pool: &[u32], n: u32) -> Side
     if has_side(wrapper, n) {
         return start_side(nodes, pool, n);
     }
-    empty_side()
+    Side::empty()
 }
 
 // Every side at its start.

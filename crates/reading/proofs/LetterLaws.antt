@@ -39,7 +39,8 @@ module _ (i : Input) (p : Places) (old l : Lists) (at : p ≡ placesOf i) (h : H
   unfolding onW
   w-taken e q =
       is-next i _ _ old l _ (passes _ _ (both _ _ (eq-eqb (i .rank) 0 (sym rank-is ∙ e)) (eq-eqb (length (take len ws)) 1 (omega (arith, size-of len ws full)))))
-      (ap (λ (x : Places). places 1 (getD ws 0 0) (x .nodes) (x .pools) (x .steps) (x .words)) at ∙ ap (λ (w : ℕ). places 1 w (placesOf i .nodes) (placesOf i .pools) (placesOf i .steps) (placesOf i .words)) (sym (first-of len ws (omega arith))))
+      (ap (λ (x : Places). places 1 (getD ws 0 0) (x .nodes) (x .pools) (x .steps) (x .words)) at
+      ∙ ap (λ (w : ℕ). places 1 w (placesOf i .nodes) (placesOf i .pools) (placesOf i .steps) (placesOf i .words)) (sym (first-of len ws (omega arith))))
       (record {
         tables = h .tables;
         inside = record { nodes = h .inside .nodes; fives = h .inside .fives; pools = h .inside .pools; steps = h .inside .steps; stepWords = h .inside .stepWords };

@@ -152,7 +152,8 @@ module _ (s : List ℕ) (at to q n : ℕ) (i : Input) (up : at ≤ to) (fits : t
   unfolding slice
   size e = rw e (length-slice at to s fits)
 
-  pub no-newline : q ≡ to → (v : Verdict) (p : Places) (old l : Lists) → p ≡ placesOf i → Holds i old l → ((j : Input) (rest : List ℕ) → p .rank ≡ j .rank → length rest ≡ to - at → v ≡ verdictOf (readFrom n j (rest ∷ []))) → ReadIs s (record { verdict = v; places = p }) old l
+  pub no-newline : q ≡ to → (v : Verdict) (p : Places) (old l : Lists) → p ≡ placesOf i → Holds i old l →
+      ((j : Input) (rest : List ℕ) → p .rank ≡ j .rank → length rest ≡ to - at → v ≡ verdictOf (readFrom n j (rest ∷ []))) → ReadIs s (record { verdict = v; places = p }) old l
   no-newline e v p old l g h f =
       let last = part.last newline s at to q up fits found e in
       answered s v p i old l

@@ -186,7 +186,8 @@ module _ (i : Input) (p : Places) (old l : Lists) (at : p ≡ placesOf i) (h : H
         let size : length vs ≡ 5 = omega (arith, f .sized, length-drop 1 (take len ws)) in
         let room : getD (placesOf i .nodes) s 0 < 1285 = subst (λ (x : Places). getD (x .nodes) s 0 < 1285) at m in
         let put : new ≡ sets (l .nodes) (1285 * s + getD (placesOf i .nodes) s 0) vs =
-        e ∙ ap (λ (x : Places). sets (l .nodes) (1285 * s + getD (x .nodes) s 0) (take 5 (drop 1 ws))) at ∙ ap (sets (l .nodes) (1285 * s + getD (placesOf i .nodes) s 0)) (others-of len 5 ws (omega (arith, f .sized, size-of len ws full))) in
+        e ∙ ap (λ (x : Places). sets (l .nodes) (1285 * s + getD (x .nodes) s 0) (take 5 (drop 1 ws))) at
+        ∙ ap (sets (l .nodes) (1285 * s + getD (placesOf i .nodes) s 0)) (others-of len 5 ws (omega (arith, f .sized, size-of len ws full))) in
         is-next i _ _ old _ (putTable 2 i s t)
         (n-some i (take len ws) s (subst (λ (x : Places). Names 2 6 (x .rank) (take len ws) s) at f) (omega (arith, n-count, m)))
         (ap (λ (x : Places). nodesMore x s) at ∙ same-places _ _ _ _ _ _ _ _ _ _ (counts (λ (x : Table). x .nodes) ts s refl t vs refl 5 size) (ap (map length) (sym (map-set-same (λ (x : Table). x .pool) ts s t noTable refl))) refl refl)
@@ -208,7 +209,8 @@ module _ (i : Input) (p : Places) (old l : Lists) (at : p ≡ placesOf i) (h : H
         let size : length vs ≡ 1 = omega (arith, f .sized, length-drop 1 (take len ws)) in
         let room : getD (placesOf i .pools) s 0 < 1025 = subst (λ (x : Places). getD (x .pools) s 0 < 1025) at m in
         let put : new ≡ sets (l .pools) (1025 * s + getD (placesOf i .pools) s 0) vs =
-        e ∙ ap (λ (x : Places). sets (l .pools) (1025 * s + getD (x .pools) s 0) (take 1 (drop 1 ws))) at ∙ ap (sets (l .pools) (1025 * s + getD (placesOf i .pools) s 0)) (others-of len 1 ws (omega (arith, f .sized, size-of len ws full))) in
+        e ∙ ap (λ (x : Places). sets (l .pools) (1025 * s + getD (x .pools) s 0) (take 1 (drop 1 ws))) at
+        ∙ ap (sets (l .pools) (1025 * s + getD (placesOf i .pools) s 0)) (others-of len 1 ws (omega (arith, f .sized, size-of len ws full))) in
         is-next i _ _ old _ (putTable 3 i s t)
         (v-some i (take len ws) s (subst (λ (x : Places). Names 3 2 (x .rank) (take len ws) s) at f) (omega (arith, v-count, m)))
         (ap (λ (x : Places). poolMore x s) at ∙ same-places _ _ _ _ _ _ _ _ _ _ (ap (map length) (sym (map-set-same (λ (x : Table). x .nodes) ts s t noTable refl))) (counts (λ (x : Table). x .pool) ts s refl t vs refl 1 size) refl refl)

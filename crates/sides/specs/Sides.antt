@@ -38,6 +38,11 @@ sideOf l o m = record { core = coreOf l o; left = m }
 abbrev pub viewSide : Side → MSide
 viewSide s = sideOf (s .words) (s .rest) (s .left)
 
+-- r is the side o, every count within its array
+pub record SideIs (o : MSide) (r : Side) : Type 0 where
+  pub view : viewSide r ≡ o
+  pub fits : fitsSide (r .words) (r .rest) ≡ true
+
 -- all sides
 abbrev pub viewState : State → MState
 viewState s = record { sides = map viewSide (s .sides) }

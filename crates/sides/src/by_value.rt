@@ -1,10 +1,27 @@
-// The rest of a side: empty, or with one of its parts put anew.
+// A side that is empty; the rest of a side with one of its parts put anew.
 ghost use mathlib.Core.Path.{_≡_};
-ghost use Rattle.sides.specs.Sides.{Nothing};
+ghost use Rattle.model.specs.Side.{noSide};
+ghost use Rattle.sides.specs.Sides.{Nothing, SideIs};
 ghost use Rattle.sides.specs.Puts.{putParticles, putShelved, putLobby, putTaken};
 use crate::Lobby;
 use crate::Rest;
+use crate::Rows;
+use crate::Side;
 use crate::Sides;
+
+impl Side {
+    // A side that the wrapper lacks: nothing is there.
+    pub fn empty() -> Self
+        ensures { λ r. ⌜ SideIs noSide r ⌝ }
+    {
+        let rest = Rest::empty();
+        Side {
+            words: [0; Rows::WORDS],
+            rest,
+            left: [false; Sides::MARKS],
+        }
+    }
+}
 
 impl Rest {
     // Nothing is there, whatever the words are.

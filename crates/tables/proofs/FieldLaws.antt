@@ -27,7 +27,8 @@ and-true false = refl
 -- where unused fields pass the test, or the kind is one of the seven
 module _ (f : ℕ → ℕ → Bool) (ns pool : List ℕ) (n : ℕ) (x : Node) (i : NodeIs ns n x) where
   by-kind : (k a b c d : ℕ) → (leb k 6 ≡ true) ⊎ ((w : ℕ) → f 0 w ≡ true) →
-      everyField f (table ns pool) n 1 (uses k) ≡ f (getD (uses k) 0 0) (field (table ns pool) n 1) & (f (getD (uses k) 1 0) (field (table ns pool) n 2) & (f (getD (uses k) 2 0) (field (table ns pool) n 3) & (f (getD (uses k) 3 0) (field (table ns pool) n 4) & true)))
+      everyField f (table ns pool) n 1 (uses k) ≡ f (getD (uses k) 0 0) (field (table ns pool) n 1) &
+      (f (getD (uses k) 1 0) (field (table ns pool) n 2) & (f (getD (uses k) 2 0) (field (table ns pool) n 3) & (f (getD (uses k) 3 0) (field (table ns pool) n 4) & true)))
   unfolding _&_
   by-kind zero a b c d o = refl
   by-kind (suc zero) a b c d o = refl
@@ -141,7 +142,8 @@ node-counted old c0 c1 c2 c3 x p q r s = record {
 -- HOW OFTEN A NODE IS A CHILD
 module _ (ns pool : List ℕ) (n : ℕ) (x : Node) (i : NodeIs ns n x) (m : ℕ) where
   child-kind : (k : ℕ) → childFields (table ns pool) m n 1 (uses k) ≡
-      childBy (getD (uses k) 0 0) (field (table ns pool) n 1) m + (childBy (getD (uses k) 1 0) (field (table ns pool) n 2) m + (childBy (getD (uses k) 2 0) (field (table ns pool) n 3) m + childBy (getD (uses k) 3 0) (field (table ns pool) n 4) m))
+      childBy (getD (uses k) 0 0) (field (table ns pool) n 1) m +
+      (childBy (getD (uses k) 1 0) (field (table ns pool) n 2) m + (childBy (getD (uses k) 2 0) (field (table ns pool) n 3) m + childBy (getD (uses k) 3 0) (field (table ns pool) n 4) m))
   child-kind zero = refl
   child-kind (suc zero) = refl
   child-kind (suc (suc zero)) = refl

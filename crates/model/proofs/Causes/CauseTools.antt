@@ -97,7 +97,8 @@ every-later f [] m q = q
 every-later f (x ∷ l) m q = fail-right _ _ (every-later f l m q)
 
 -- LIMITS
-pub limit-cases : (u : Core) {R : Type 0} → limits u ≡ false → (32 < length (u .contents .particles) → R) → (16 < length (u .contents .boxes) → R) → (256 < u .contents .minted → R) → (16 < length (u .lobby) → R) → (32 < length (u .shelf) → R) → R
+pub limit-cases : (u : Core) {R : Type 0} → limits u ≡ false → (32 < length (u .contents .particles) → R) → (16 < length (u .contents .boxes) → R) → (256 < u .contents .minted → R) →
+    (16 < length (u .lobby) → R) → (32 < length (u .shelf) → R) → R
 unfolding limits
 limit-cases u q a c d l s = ⊎-elim
     (λ h. ⊎-elim (λ h. a (leb-false _ _ h)) (λ h. ⊎-elim (λ h. c (leb-false _ _ h)) (λ h. d (leb-false _ _ h)) (one-fails _ _ h)) (one-fails _ _ h))
@@ -129,17 +130,23 @@ places w n h = go (eqb w 1) (eqb w 2) refl refl h
   where
     go : (t u : Bool) → eqb w 1 ≡ t → eqb w 2 ≡ u → has n (cond t (described 1) (cond u (described 2) (described 0)) .sides) ≡ true → ((w ≡ 1) × (n ≡ 1)) ⊎ (((w ≡ 2) × (n ≡ 1)) ⊎ ((w ≡ 2) × (n ≡ 2)))
     go true u p q h = inl (eqb-true w 1 p, ⊎-elim (λ q. eqb-true n 1 q) (λ q. absurd (false≢true q)) (or-cases (eqb n 1) false h))
-    go false true p q h = ⊎-elim (λ r. inr (inl (eqb-true w 2 q, eqb-true n 1 r))) (λ r. ⊎-elim (λ t. inr (inr (eqb-true w 2 q, eqb-true n 2 t))) (λ t. absurd (false≢true t)) (or-cases (eqb n 2) false r)) (or-cases (eqb n 1) (has n (2 ∷ [])) h)
+    go false true p q h = ⊎-elim (λ r. inr (inl (eqb-true w 2 q, eqb-true n 1 r)))
+        (λ r. ⊎-elim (λ t. inr (inr (eqb-true w 2 q, eqb-true n 2 t))) (λ t. absurd (false≢true t)) (or-cases (eqb n 2) false r)) (or-cases (eqb n 1) (has n (2 ∷ [])) h)
     go false false p q h = absurd (false≢true h)
 
 -- unfolding adds particles behind those that are there
 pub unfolds-behind : (i : ℕ) (a : Term) (ρ : Env) (b : ℕ) (P Q : List Particle) (B : List Box) (m : ℕ)
-    → unfolds i a ρ b (record { particles = P ++ Q; boxes = B; minted = m }) ≡ record { particles = P ++ unfolds i a ρ b (record { particles = Q; boxes = B; minted = m }) .particles; boxes = unfolds i a ρ b (record { particles = Q; boxes = B; minted = m }) .boxes; minted = unfolds i a ρ b (record { particles = Q; boxes = B; minted = m }) .minted }
+    → unfolds i a ρ b (record { particles = P ++ Q; boxes = B; minted = m }) ≡ record {
+      particles = P ++ unfolds i a ρ b (record { particles = Q; boxes = B; minted = m }) .particles;
+      boxes = unfolds i a ρ b (record { particles = Q; boxes = B; minted = m }) .boxes;
+      minted = unfolds i a ρ b (record { particles = Q; boxes = B; minted = m }) .minted;
+    }
 unfolding unfolds
 unfolds-behind i (nil n) ρ b P Q B m = refl
 unfolds-behind i (par n l r) ρ b P Q B m =
     ap (unfolds i r ρ b) (unfolds-behind i l ρ b P Q B m)
-    ∙ unfolds-behind i r ρ b P (unfolds i l ρ b (record { particles = Q; boxes = B; minted = m }) .particles) (unfolds i l ρ b (record { particles = Q; boxes = B; minted = m }) .boxes) (unfolds i l ρ b (record { particles = Q; boxes = B; minted = m }) .minted)
+    ∙ unfolds-behind i r ρ b P (unfolds i l ρ b (record { particles = Q; boxes = B; minted = m }) .particles) (unfolds i l ρ b (record { particles = Q; boxes = B; minted = m }) .boxes)
+    (unfolds i l ρ b (record { particles = Q; boxes = B; minted = m }) .minted)
 unfolds-behind i (box n x a) ρ b P Q B m = unfolds-behind i a ρ (length B) P Q (B ++ (record { name = word ρ x; parent = b } ∷ [])) m
 unfolds-behind i (new n x a) ρ b P Q B m = unfolds-behind i a (extend ρ (x ∷ []) (((65536 * i + m) ∷ []) ∷ [])) b P Q B (m + 1)
 unfolds-behind i (out n c g v) ρ b P Q B m = ap (λ (l : List Particle). record { particles = l; boxes = B; minted = m }) (assoc P Q (output b (word ρ c) (tagOf ρ g) (substitute ρ v)))

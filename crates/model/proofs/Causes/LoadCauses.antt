@@ -17,7 +17,8 @@ use Rattle.model.specs.Checks.{everyField, fieldsOk, check1, check2, che
 use Rattle.model.specs.Side.{withinLimits, emptyContents}
 use Rattle.model.specs.Unfolding.{particlesIn, boxesIn, newNamesIn}
 use Rattle.model.specs.Load.{start, sideFault}
-use Rattle.model.specs.Causes.{Used, wordsAt, leafOf, Broken, TableCause, words, no-nodes, many-nodes, long-pool, unknown-kind, unused-field, child-low, child-out, not-once, name-high, tag-high, bad-item, repeated, bound-names, start-particles, start-boxes, start-minted}
+use Rattle.model.specs.Causes.{Used, wordsAt, leafOf, Broken, TableCause, words, no-nodes, many-nodes, long-pool, unknown-kind, unused-field, child-low, child-out, not-once, name-high}
+use Rattle.model.specs.Causes.{tag-high, bad-item, repeated, bound-names, start-particles, start-boxes, start-minted}
 use Rattle.model.proofs.Basics.Tests.{fst, snd, one-fails}
 use Rattle.model.proofs.Basics.Items.{clash}
 use Rattle.model.proofs.Formed.Counts.{unfolds-adds}
@@ -42,7 +43,8 @@ first-bad f (suc k) i q e = go (f i) refl (first-bad f k (i + 1) q)
     done-is : {a c : ℕ} → _≡_ {A = Res ℕ} (done a) (done c) → a ≡ c
     done-is e = cc
 
-    go : (b : Bool) → f i ≡ b → (firstBad f k (i + 1) ≡ done q → (i + 1 ≤ q) × (q < i + 1 + k) × (f q ≡ false) × ((j : ℕ) → i + 1 ≤ j → j < q → f j ≡ true)) → (i ≤ q) × (q < i + suc k) × (f q ≡ false) × ((j : ℕ) → i ≤ j → j < q → f j ≡ true)
+    go : (b : Bool) → f i ≡ b → (firstBad f k (i + 1) ≡ done q → (i + 1 ≤ q) × (q < i + 1 + k) × (f q ≡ false) × ((j : ℕ) → i + 1 ≤ j → j < q → f j ≡ true)) →
+        (i ≤ q) × (q < i + suc k) × (f q ≡ false) × ((j : ℕ) → i ≤ j → j < q → f j ≡ true)
     go false p ih = let z = done-is (rw (p, firstBad) at e) in (omega (arith, z), omega (arith, z), subst (λ (y : ℕ). f y ≡ false) z p, (λ j l u. absurd (omega (arith, z))))
     go true p ih = let (a, c, d, r) = ih (rw (p, firstBad) at e) in (omega (arith, a), omega (arith, c), d, (λ j l u. ⊎-elim (λ z. subst (λ (y : ℕ). f y ≡ true) z p) (λ z. r j (omega (arith, z)) u) (eq-or-lt-of-le l)))
 
@@ -82,7 +84,9 @@ module _ (t : Table) (Q : Fault → Type 0) (Z : Type 0) where
       some-nodes : check1 t ≡ true → 0 < count t
       some-nodes a = leb-true 1 (count t) (fst _ _ (snd _ _ a))
 
-      on : (u : Bool) → check1 t ≡ u → At Q Z (choose u (found (firstBad (check2 t) (count t) 0) 2 (found (firstBad (check3 t) (count t) 0) 3 (found (firstBad (check4 t) (count t) 0) 4 (found (firstBad (check5 t) (count t) 0) 5 (found (overAll t) 6 (refuse 0)))))) (done (mk 1 0)))
+      on : (u : Bool) → check1 t ≡ u →
+          At Q Z (choose u (found (firstBad (check2 t) (count t) 0) 2
+          (found (firstBad (check3 t) (count t) 0) 3 (found (firstBad (check4 t) (count t) 0) 4 (found (firstBad (check5 t) (count t) 0) 5 (found (overAll t) 6 (refuse 0)))))) (done (mk 1 0)))
       on false a = q1 a
       on true a = found-at (check2 t) 2 _ (q2 a) λ c2. found-at (check3 t) 3 _ (q3 c2) λ c3. found-at (check4 t) 4 _ (q4 c2 c3) λ c4. found-at (check5 t) 5 _ (q5 c2 c3 c4) λ c5.
           six a (record { c2 = c2; c3 = c3; c4 = c4; c5 = c5; some = some-nodes a })
@@ -165,7 +169,8 @@ broken-at leaf pool p h = rw (broken-refused leaf (drop p pool) h, at)
 row-5 : (t : Table) (p : ℕ) → p < count t → check5 t p ≡ false → TableCause t 5 p
 unfolding check5 patternOk
 row-5 t p l q = let (k, u, g, y) = fields-fail _ t p 1 (uses (kind t p)) q in
-    ⊎-elim (λ z. let w = implies-fail (eqb u 4) _ z in let d = not-done (at isPublic (t .pool) (field t p (1 + k))) (w .1) in bad-item k 4 (used-as t p k u 4 l g (w .0), inl refl) (at-broken isPublic (t .pool) (field t p (1 + k)) (d .0) (d .1)))
+    ⊎-elim (λ z. let w = implies-fail (eqb u 4) _ z in let d = not-done (at isPublic (t .pool) (field t p (1 + k))) (w .1) in
+    bad-item k 4 (used-as t p k u 4 l g (w .0), inl refl) (at-broken isPublic (t .pool) (field t p (1 + k)) (d .0) (d .1)))
     (λ z. let w = implies-fail (eqb u 5) _ z in pattern (at isPatternLeaf (t .pool) (field t p (1 + k))) k (used-as t p k u 5 l g (w .0)) refl (w .1)) (one-fails _ _ y)
   where
     pattern : (r : Res (List ℕ)) (k : ℕ) → Used t p k 5 → at isPatternLeaf (t .pool) (field t p (1 + k)) ≡ r → patternOk (t .pool) (field t p (1 + k)) ≡ false → TableCause t 5 p
@@ -199,7 +204,8 @@ side-at : (n : ℕ) (t : Table) (Q : Fault → Type 0) (Z : Type 0) → At Q ((w
 unfolding sideFault
 side-at n t Q Z h = go (fault t) (withinLimits (start n t)) refl h
   where
-    go : (r : Res Fault) (c : Bool) → withinLimits (start n t) ≡ c → At Q ((withinLimits (start n t) ≡ true → Z) × (withinLimits (start n t) ≡ false → Q (mk 7 0))) r → At Q Z (elim r as (λ r. Res Fault) [ done f ↦ done f | refuse e ↦ elim c as (λ c. Res Fault) [ true ↦ refuse 0 | false ↦ done (mk 7 0) ] ])
+    go : (r : Res Fault) (c : Bool) → withinLimits (start n t) ≡ c → At Q ((withinLimits (start n t) ≡ true → Z) × (withinLimits (start n t) ≡ false → Q (mk 7 0))) r →
+        At Q Z (elim r as (λ r. Res Fault) [ done f ↦ done f | refuse e ↦ elim c as (λ c. Res Fault) [ true ↦ refuse 0 | false ↦ done (mk 7 0) ] ])
     go (done f) c e h = h
     go (refuse k) true e h = h .0 e
     go (refuse k) false e h = h .1 e
@@ -232,15 +238,18 @@ module _ (n : ℕ) (t : Table) where
 
   low-2 : (p : ℕ) → p < count t → check2 t p ≡ false → At (Lex 2 p) ⊥ (sideFault n t)
   low-2 p l e = side-at n t (Lex 2 p) ⊥ (fault-at t (Lex 2 p) _ (λ q. inl (omega arith)) (λ a q f. inr (refl, not-after (check2 t) q p (f .2) e))
-      (λ c2 q f. absurd (false≢true (sym e ∙ c2 p l))) (λ c2 c3 q f. absurd (false≢true (sym e ∙ c2 p l))) (λ c2 c3 c4 q f. absurd (false≢true (sym e ∙ c2 p l))) (λ a c o. absurd (false≢true (sym e ∙ c .c2 p l))) (λ a c o. absurd (false≢true (sym e ∙ c .c2 p l))))
+      (λ c2 q f. absurd (false≢true (sym e ∙ c2 p l))) (λ c2 c3 q f. absurd (false≢true (sym e ∙ c2 p l))) (λ c2 c3 c4 q f. absurd (false≢true (sym e ∙ c2 p l)))
+      (λ a c o. absurd (false≢true (sym e ∙ c .c2 p l))) (λ a c o. absurd (false≢true (sym e ∙ c .c2 p l))))
 
   low-3 : (p : ℕ) → p < count t → check3 t p ≡ false → At (Lex 3 p) ⊥ (sideFault n t)
   low-3 p l e = side-at n t (Lex 3 p) ⊥ (fault-at t (Lex 3 p) _ (λ q. inl (omega arith)) (λ a q f. inl (omega arith))
-      (λ c2 q f. inr (refl, not-after (check3 t) q p (f .2) e)) (λ c2 c3 q f. absurd (false≢true (sym e ∙ c3 p l))) (λ c2 c3 c4 q f. absurd (false≢true (sym e ∙ c3 p l))) (λ a c o. absurd (false≢true (sym e ∙ c .c3 p l))) (λ a c o. absurd (false≢true (sym e ∙ c .c3 p l))))
+      (λ c2 q f. inr (refl, not-after (check3 t) q p (f .2) e)) (λ c2 c3 q f. absurd (false≢true (sym e ∙ c3 p l))) (λ c2 c3 c4 q f. absurd (false≢true (sym e ∙ c3 p l)))
+      (λ a c o. absurd (false≢true (sym e ∙ c .c3 p l))) (λ a c o. absurd (false≢true (sym e ∙ c .c3 p l))))
 
   low-4 : (p : ℕ) → p < count t → check4 t p ≡ false → At (Lex 4 p) ⊥ (sideFault n t)
   low-4 p l e = side-at n t (Lex 4 p) ⊥ (fault-at t (Lex 4 p) _ (λ q. inl (omega arith)) (λ a q f. inl (omega arith))
-      (λ c2 q f. inl (omega arith)) (λ c2 c3 q f. inr (refl, not-after (check4 t) q p (f .2) e)) (λ c2 c3 c4 q f. absurd (false≢true (sym e ∙ c4 p l))) (λ a c o. absurd (false≢true (sym e ∙ c .c4 p l))) (λ a c o. absurd (false≢true (sym e ∙ c .c4 p l))))
+      (λ c2 q f. inl (omega arith)) (λ c2 c3 q f. inr (refl, not-after (check4 t) q p (f .2) e)) (λ c2 c3 c4 q f. absurd (false≢true (sym e ∙ c4 p l)))
+      (λ a c o. absurd (false≢true (sym e ∙ c .c4 p l))) (λ a c o. absurd (false≢true (sym e ∙ c .c4 p l))))
 
   low-5 : (p : ℕ) → p < count t → check5 t p ≡ false → At (Lex 5 p) ⊥ (sideFault n t)
   low-5 p l e = side-at n t (Lex 5 p) ⊥ (fault-at t (Lex 5 p) _ (λ q. inl (omega arith)) (λ a q f. inl (omega arith))
@@ -259,13 +268,15 @@ module _ (n : ℕ) (t : Table) where
   unfolding check5
   item-4 p f u h q e =
       let broken : Broken isPublic (wordsAt t p f) = subst (λ (z : ℕ). Broken (leafOf z) (wordsAt t p f)) e q in
-      fails-field (λ u w. implies (eqb u 4) (isDone (at isPublic (t .pool) w)) & implies (eqb u 5) (patternOk (t .pool) w)) t p f 4 (subst (Used t p f) e h) (fail-left _ _ (ap isDone (broken-at isPublic (t .pool) (field t p (1 + f)) broken)))
+      fails-field (λ u w. implies (eqb u 4) (isDone (at isPublic (t .pool) w)) & implies (eqb u 5) (patternOk (t .pool) w)) t p f 4 (subst (Used t p f) e h)
+      (fail-left _ _ (ap isDone (broken-at isPublic (t .pool) (field t p (1 + f)) broken)))
 
   item-5 : (p f u : ℕ) → Used t p f u → Broken (leafOf u) (wordsAt t p f) → u ≡ 5 → check5 t p ≡ false
   unfolding check5 patternOk
   item-5 p f u h q e =
       let broken : Broken isPatternLeaf (wordsAt t p f) = subst (λ (z : ℕ). Broken (leafOf z) (wordsAt t p f)) e q in
-      fails-field (λ u w. implies (eqb u 4) (isDone (at isPublic (t .pool) w)) & implies (eqb u 5) (patternOk (t .pool) w)) t p f 5 (subst (Used t p f) e h) (fail-right _ _ (rw (broken-at isPatternLeaf (t .pool) (field t p (1 + f)) broken, patternOk)))
+      fails-field (λ u w. implies (eqb u 4) (isDone (at isPublic (t .pool) w)) & implies (eqb u 5) (patternOk (t .pool) w)) t p f 5 (subst (Used t p f) e h)
+      (fail-right _ _ (rw (broken-at isPatternLeaf (t .pool) (field t p (1 + f)) broken, patternOk)))
 
   pub side-low : (k p : ℕ) → TableCause t k p → At (Lex k p) ⊥ (sideFault n t)
   unfolding check1 check2 check3 check4 check5 patternOk _or_

@@ -51,7 +51,11 @@ module _ (b : Composition) where
       sides (refuse e) (refuse e′) s h = h
 
       go : (t : Bool) → isWrapper (b .wrapper) ≡ t → (s : State)
-          → Lo Q Z (elim t as (λ t. Loaded) [ true ↦ elim (res 1) as (λ r. Loaded) [ done f ↦ refused (at-n 1 f) | refuse e ↦ elim (res 2) as (λ r. Loaded) [ done f ↦ refused (at-n 2 f) | refuse e ↦ ok s ] ] | false ↦ refused (record { number = 1; side = 0; node = 0 }) ])
+          → Lo Q Z (elim t as (λ t. Loaded) [
+            | true ↦ elim (res 1) as
+                (λ r. Loaded) [ done f ↦ refused (at-n 1 f) | refuse e ↦ elim (res 2) as (λ r. Loaded) [ done f ↦ refused (at-n 2 f) | refuse e ↦ ok s ] ]
+            | false ↦ refused (record { number = 1; side = 0; node = 0 })
+          ])
       go true e s = sides (res 1) (res 2) s (g e)
       go false e s = f e
 
@@ -144,7 +148,9 @@ module _ (b : Composition) where
   -- the two orders
   not-both : (k n p : ℕ) (r : Refused) → NotAfter k n p r → Before n k p (r .side) (r .number) (r .node) → ⊥
   not-both k n p r a c = ⊎-elim (λ x. ⊎-elim (λ y. omega arith) (λ y. let z = y .0 in omega arith) c)
-      (λ x. let u = x .0 in ⊎-elim (λ y. omega arith) (λ y. ⊎-elim (λ z. ⊎-elim (λ w. omega arith) (λ w. let v = w .0 in omega arith) (x .1)) (λ z. let v = z .0 in let t = z .1 in ⊎-elim (λ w. omega arith) (λ w. let m = w .1 in omega arith) (x .1)) (y .1)) c) a
+      (λ x. let u = x .0 in
+      ⊎-elim (λ y. omega arith)
+      (λ y. ⊎-elim (λ z. ⊎-elim (λ w. omega arith) (λ w. let v = w .0 in omega arith) (x .1)) (λ z. let v = z .0 in let t = z .1 in ⊎-elim (λ w. omega arith) (λ w. let m = w .1 in omega arith) (x .1)) (y .1)) c) a
 
   first-or-same : (r r′ : Refused) → NotAfter (r .number) (r .side) (r .node) r′ → Before (r′ .side) (r′ .number) (r′ .node) (r .side) (r .number) (r .node) ⊎ (r′ ≡ r)
   first-or-same r r′ a = ⊎-elim (λ x. inl (inl x)) (λ x. ⊎-elim (λ y. inl (inr (x .0, inl y))) (λ y. ⊎-elim (λ z. inr (all-same (x .0) (y .0) z)) (λ z. inl (inr (x .0, inr (y .0, z)))) (eq-or-lt-of-le (y .1))) (x .1)) a

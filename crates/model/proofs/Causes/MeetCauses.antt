@@ -17,7 +17,9 @@ use Rattle.model.specs.Unfolding.{tagOf, unfolds, defined, particlesIn, 
 use Rattle.model.specs.Load.{Composition, wrapperOf, table, setting}
 use Rattle.model.specs.WellFormed.{envAt, ready}
 use Rattle.model.specs.Step.{Step, Moved, silent, short, withContents, withParticles, without, tagsFit, meetTerm, meetParticles, meet, inner, local, settled}
-use Rattle.model.specs.Causes.{Meeting, inForce, bindings, unfolded, gone, Fitting, both-within, parent, child, Can, can-enter, can-down, can-up, can-descend, can-meet, can-pass, can-leave, can-take, Row10, no-particle-i, no-particle-j, value-words, malformed, empty, over-16, bad-word, Row17, particles-down, particles-meet, boxes, minted, lobby, lobby-up, shelf, StepCause, by-10, by-11, by-12, by-13, by-14, by-15, by-16, by-17}
+use Rattle.model.specs.Causes.{Meeting, inForce, bindings, unfolded, gone, Fitting, both-within, parent, child, Can, can-enter, can-down, can-up, can-descend, can-meet, can-pass, can-leave}
+use Rattle.model.specs.Causes.{can-take, Row10, no-particle-i, no-particle-j, value-words, malformed, empty, over-16, bad-word, Row17, particles-down, particles-meet, boxes, minted, lobby}
+use Rattle.model.specs.Causes.{lobby-up, shelf, StepCause, by-10, by-11, by-12, by-13, by-14, by-15, by-16, by-17}
 use Rattle.model.proofs.Basics.Tests.{fst, snd, both, some-inj, append-nil, length-gone}
 use Rattle.model.proofs.Basics.Splits.{get-pick, get-length}
 use Rattle.model.proofs.Basics.Items.{clash}
@@ -96,10 +98,23 @@ module _ (b : Composition) (s : State) (n i j : ℕ) (ws : List ℕ) (e : ready 
   then-do m = bind (matches (m .pat) 1 (m .val)) λ f. need (defined (m .body) (bindings b s x5 m f)) 15 (done (record { label = silent; val = []; core = withContents core (then-at m f) }))
 
   differ : M → i ≡ j → ⊥
-  differ m q = let z : output (m .at) (m .chan) (m .tag) (m .val) ≡ input (m .box) (m .node) (m .vals) = some-inj (sym (m .output-i) ∙ subst (λ (k : ℕ). getElem? parts k ≡ some (input (m .box) (m .node) (m .vals))) (sym q) (m .input-j)) in subst IsOut z tt
+  differ m q = let z : output (m .at) (m .chan) (m .tag) (m .val) ≡ input (m .box) (m .node) (m .vals) = some-inj
+      (sym (m .output-i) ∙ subst (λ (k : ℕ). getElem? parts k ≡ some (input (m .box) (m .node) (m .vals))) (sym q) (m .input-j)) in subst IsOut z tt
 
   tens-5 : ws ≡ [] → i < length parts → j < length parts → Tens b s n i j ws 5
-  tens-5 w p q = record { low = omega arith; high = omega arith; message = λ q. absurd (false≢true q); particle-i = λ _. p; box-j = λ q. absurd (false≢true q); particle-j = λ _. q; place = λ q. absurd (false≢true q); i0 = λ q. absurd (false≢true q); j0 = λ q. absurd (false≢true q); words0 = λ _. w; taker = λ q. absurd (omega arith) }
+  tens-5 w p q = record {
+    low = omega arith;
+    high = omega arith;
+    message = λ q. absurd (false≢true q);
+    particle-i = λ _. p;
+    box-j = λ q. absurd (false≢true q);
+    particle-j = λ _. q;
+    place = λ q. absurd (false≢true q);
+    i0 = λ q. absurd (false≢true q);
+    j0 = λ q. absurd (false≢true q);
+    words0 = λ _. w;
+    taker = λ q. absurd (omega arith);
+  }
 
   abbrev test : (a c : ℕ) (g : Tag) (a′ : ℕ) (ρ : Env) (c′ g′ : ℕ) → Bool
   test a c g a′ ρ c′ g′ = eqb a a′ & (eqb c (word ρ c′) & tagsFit g (tagOf ρ g′))
@@ -120,9 +135,11 @@ module _ (b : Composition) (s : State) (n i j : ℕ) (ws : List ℕ) (e : ready 
 
   -- two meetings of one step are one
   test-same : (m m′ : M) → test (m .at) (m .chan) (m .tag) (m .box) (inForce b s x5 m) (m .inChan) (m .inTag) ≡ test (m′ .at) (m′ .chan) (m′ .tag) (m′ .box) (inForce b s x5 m′) (m′ .inChan) (m′ .inTag)
-  test-same m m′ = go (m .at) (m .chan) (m .tag) (m .val) (m .box) (m .node) (m .vals) (m .number) (m .again) (m .inChan) (m .inTag) (m .pat) (m .body) (some-inj (sym (m .output-i) ∙ m′ .output-i)) (some-inj (sym (m .input-j) ∙ m′ .input-j)) (m .at-node)
+  test-same m m′ = go (m .at) (m .chan) (m .tag) (m .val) (m .box) (m .node) (m .vals) (m .number) (m .again) (m .inChan) (m .inTag) (m .pat) (m .body) (some-inj (sym (m .output-i) ∙ m′ .output-i))
+      (some-inj (sym (m .input-j) ∙ m′ .input-j)) (m .at-node)
     where
-      go : (a c : ℕ) (g : Tag) (v : List ℕ) (a′ k : ℕ) (vs : List (List ℕ)) (q : ℕ) (r : Bool) (c′ g′ : ℕ) (p : List ℕ) (d : Term) → output a c g v ≡ output (m′ .at) (m′ .chan) (m′ .tag) (m′ .val) → input a′ k vs ≡ input (m′ .box) (m′ .node) (m′ .vals)
+      go : (a c : ℕ) (g : Tag) (v : List ℕ) (a′ k : ℕ) (vs : List (List ℕ)) (q : ℕ) (r : Bool) (c′ g′ : ℕ) (p : List ℕ) (d : Term) → output a c g v ≡ output (m′ .at) (m′ .chan) (m′ .tag) (m′ .val) →
+          input a′ k vs ≡ input (m′ .box) (m′ .node) (m′ .vals)
           → term (table b n) k ≡ inp q r c′ g′ p d → test a c g a′ (tab k vs) c′ g′ ≡ test (m′ .at) (m′ .chan) (m′ .tag) (m′ .box) (tab (m′ .node) (m′ .vals)) (m′ .inChan) (m′ .inTag)
       go a c g v a′ k vs q r c′ g′ p d u w t =
           let k1 : a ≡ m′ .at = cc in
@@ -184,7 +201,9 @@ module _ (b : Composition) (s : State) (n i j : ℕ) (ws : List ℕ) (e : ready 
   via : (m : M) (D : ℕ → Type 0) (P : Moved → Type 0) → D 10 → D 13 → Caused D P (then-do m) → Caused D P (L b s n i j ws e h 5)
   unfolding local inner choose meet meetParticles meetTerm
   via m D P a c k = need-c D P _ 10 _ (λ q. a) λ w.
-      subst (Caused D P) (sym (get-pick parts i _ (output (m .at) (m .chan) (m .tag) (m .val)) (m .output-i) ∙ get-pick parts j _ (input (m .box) (m .node) (m .vals)) (m .input-j) ∙ ap (meetTerm (setting b n) core i j (m .at) (m .chan) (m .tag) (m .val) (m .box) (tab (m .node) (m .vals))) (m .at-node)))
+      subst (Caused D P) (sym
+      (get-pick parts i _ (output (m .at) (m .chan) (m .tag) (m .val)) (m .output-i) ∙ get-pick parts j _ (input (m .box) (m .node) (m .vals)) (m .input-j)
+      ∙ ap (meetTerm (setting b n) core i j (m .at) (m .chan) (m .tag) (m .val) (m .box) (tab (m .node) (m .vals))) (m .at-node)))
       (need-c D P (test (m .at) (m .chan) (m .tag) (m .box) (inForce b s x5 m) (m .inChan) (m .inTag)) 13 _ (λ q. c) (λ q. k))
 
   -- THE CONTENTS AFTER: the particles left, and behind them what has unfolded
@@ -211,9 +230,12 @@ module _ (b : Composition) (s : State) (n i j : ℕ) (ws : List ℕ) (e : ready 
       by-16 {f = f} {at = a} {ch = c} {g = t} {v = v} m k d (g ∙ ap some y) l
 
   after-long : (m : M) (f : Fit) (k a c : ℕ) (g : Tag) (v : List ℕ) → getElem? (unfolded b s x5 m f) k ≡ some (output a c g v) → 16 < length v → every short (then-at m f .particles) ≡ false
-  after-long m f k a c g v q l = subst (λ (y : List Particle). every short y ≡ false) (sym (behind m f)) (every-later short (left-parts m) (unfolded b s x5 m f) (fails-every short (unfolded b s x5 m f) k (output a c g v) q (lt-leb (length v) 16 l)))
+  after-long m f k a c g v q l = subst (λ (y : List Particle). every short y ≡ false) (sym (behind m f))
+      (every-later short (left-parts m) (unfolded b s x5 m f) (fails-every short (unfolded b s x5 m f) k (output a c g v) q (lt-leb (length v) 16 l)))
 
-  sizes : (m : M) (f : Fit) → (length (then-at m f .particles) + gone (m .again) ≡ length parts + particlesIn (m .body)) × (length (then-at m f .boxes) ≡ length (core .contents .boxes) + boxesIn (m .body)) × (then-at m f .minted ≡ core .contents .minted + newNamesIn (m .body))
+  sizes : (m : M) (f : Fit) →
+      (length (then-at m f .particles) + gone (m .again) ≡ length parts + particlesIn (m .body)) × (length (then-at m f .boxes) ≡ length (core .contents .boxes) + boxesIn (m .body)) ×
+      (then-at m f .minted ≡ core .contents .minted + newNamesIn (m .body))
   sizes m f =
       let ad = unfolds-adds n (m .body) (bindings b s x5 m f) (m .at) (withParticles (core .contents) (without (m .again) parts i j)) in
       let lw = length-without (m .again) parts i j (get-length parts i (output (m .at) (m .chan) (m .tag) (m .val)) (m .output-i)) (get-length parts j (input (m .box) (m .node) (m .vals)) (m .input-j)) (differ m) in

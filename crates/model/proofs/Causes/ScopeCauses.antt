@@ -103,7 +103,9 @@ module _ (t : Table) (c : Checked t) where
   deep-build p l (suc zero) e ih h =
       let a : N (field t p 1) ≡ N p = more-at p (field t p 1) 1 l e left ∙ ap (λ (z : ℕ). N p + z) (bound-0 p (inl e)) ∙ plus-0 (N p) in
       let d : N (field t p 2) ≡ N p = more-at p (field t p 2) 1 l e right ∙ ap (λ (z : ℕ). N p + z) (bound-0 p (inl e)) ∙ plus-0 (N p) in
-      min-found Deep _ _ (head-deep p l) (min-found Deep _ _ (subst (λ (z : ℕ). over z (term t (field t p 1)) < 256 → Deep (over z (term t (field t p 1)))) a (ih _ left)) (subst (λ (z : ℕ). over z (term t (field t p 2)) < 256 → Deep (over z (term t (field t p 2)))) d (ih _ right))) h
+      min-found Deep _ _ (head-deep p l)
+      (min-found Deep _ _ (subst (λ (z : ℕ). over z (term t (field t p 1)) < 256 → Deep (over z (term t (field t p 1)))) a (ih _ left))
+      (subst (λ (z : ℕ). over z (term t (field t p 2)) < 256 → Deep (over z (term t (field t p 2)))) d (ih _ right))) h
     where
       plus-0 : (z : ℕ) → z + 0 ≡ z
       plus-0 z = omega arith

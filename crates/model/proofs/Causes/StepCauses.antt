@@ -15,8 +15,11 @@ use Rattle.model.specs.Wrapper.{Route, described, hasSide, shelves}
 use Rattle.model.specs.Side.{Core, Tag, within, toParent, fromParent, toChild, fromChild, Particle, output, input, Box, Status, down, arrived, leaving, Message, State, limits, side, hasTaken}
 use Rattle.model.specs.Load.{Composition, wrapperOf, setting, load, isOk, refused, Refused}
 use Rattle.model.specs.WellFormed.{shelfOf, ready, counts, wfParticle, wfMessage, wfValue}
-use Rattle.model.specs.Step.{Step, Moved, short, known, withLobby, withContents, withParticles, isDown, isArrived, isLeaving, isToParent, isToChild, enter, goDown, upFrom, upParticle, up, descendParticle, descend, pass, leave, takes, routeTo, inner, local}
-use Rattle.model.specs.Causes.{Kind, Can, can-enter, can-down, can-up, can-descend, can-meet, can-pass, can-leave, can-take, ToShelf, Row10, tables, state, no-kind, no-side, no-message, no-particle-i, no-box-j, no-particle-j, no-shelf-place, unused-i, unused-j, value-words, kind-8-filter, kind-8-side-1, Row11, malformed, empty, over-16, bad-word, Row17, particles-down, particles-meet, boxes, minted, lobby, lobby-up, shelf, StepCause, by-10, by-11, by-12, by-13, by-14, by-15, by-16, by-17}
+use Rattle.model.specs.Step.{Step, Moved, short, known, withLobby, withContents, withParticles, isDown, isArrived, isLeaving, isToParent, isToChild, enter, goDown, upFrom, upParticle, up}
+use Rattle.model.specs.Step.{descendParticle, descend, pass, leave, takes, routeTo, inner, local}
+use Rattle.model.specs.Causes.{Kind, Can, can-enter, can-down, can-up, can-descend, can-meet, can-pass, can-leave, can-take, ToShelf, Row10, tables, state, no-kind, no-side, no-message}
+use Rattle.model.specs.Causes.{no-particle-i, no-box-j, no-particle-j, no-shelf-place, unused-i, unused-j, value-words, kind-8-filter, kind-8-side-1, Row11, malformed, empty, over-16, bad-word}
+use Rattle.model.specs.Causes.{Row17, particles-down, particles-meet, boxes, minted, lobby, lobby-up, shelf, StepCause, by-10, by-11, by-12, by-13, by-14, by-15, by-16, by-17}
 use Rattle.model.proofs.Basics.Tests.{fst, snd, both, alt, get-every, every-append, every-one, every-remove, every-set, some-inj, length-remove, one-fails}
 use Rattle.model.proofs.Basics.Splits.{get-length}
 use Rattle.model.proofs.Basics.Items.{clash}
@@ -173,13 +176,49 @@ module _ (b : Composition) (s : State) (n i j : ℕ) (ws : List ℕ) where
         go p t = subst Tens (sym p) t
 
         by-2 : Tens 2
-        by-2 = record { low = omega arith; high = omega arith; message = λ _. get-length (K .lobby) i m g; particle-i = λ q. absurd (false≢true q); box-j = λ q. absurd (false≢true q); particle-j = λ q. absurd (false≢true q); place = λ q. absurd (false≢true q); i0 = λ q. absurd (false≢true q); j0 = λ _. z; words0 = λ _. w; taker = λ q. absurd (omega arith) }
+        by-2 = record {
+          low = omega arith;
+          high = omega arith;
+          message = λ _. get-length (K .lobby) i m g;
+          particle-i = λ q. absurd (false≢true q);
+          box-j = λ q. absurd (false≢true q);
+          particle-j = λ q. absurd (false≢true q);
+          place = λ q. absurd (false≢true q);
+          i0 = λ q. absurd (false≢true q);
+          j0 = λ _. z;
+          words0 = λ _. w;
+          taker = λ q. absurd (omega arith);
+        }
 
         by-6 : Tens 6
-        by-6 = record { low = omega arith; high = omega arith; message = λ _. get-length (K .lobby) i m g; particle-i = λ q. absurd (false≢true q); box-j = λ q. absurd (false≢true q); particle-j = λ q. absurd (false≢true q); place = λ q. absurd (false≢true q); i0 = λ q. absurd (false≢true q); j0 = λ _. z; words0 = λ _. w; taker = λ q. absurd (omega arith) }
+        by-6 = record {
+          low = omega arith;
+          high = omega arith;
+          message = λ _. get-length (K .lobby) i m g;
+          particle-i = λ q. absurd (false≢true q);
+          box-j = λ q. absurd (false≢true q);
+          particle-j = λ q. absurd (false≢true q);
+          place = λ q. absurd (false≢true q);
+          i0 = λ q. absurd (false≢true q);
+          j0 = λ _. z;
+          words0 = λ _. w;
+          taker = λ q. absurd (omega arith);
+        }
 
         by-7 : Tens 7
-        by-7 = record { low = omega arith; high = omega arith; message = λ _. get-length (K .lobby) i m g; particle-i = λ q. absurd (false≢true q); box-j = λ q. absurd (false≢true q); particle-j = λ q. absurd (false≢true q); place = λ q. absurd (false≢true q); i0 = λ q. absurd (false≢true q); j0 = λ _. z; words0 = λ _. w; taker = λ q. absurd (omega arith) }
+        by-7 = record {
+          low = omega arith;
+          high = omega arith;
+          message = λ _. get-length (K .lobby) i m g;
+          particle-i = λ q. absurd (false≢true q);
+          box-j = λ q. absurd (false≢true q);
+          particle-j = λ q. absurd (false≢true q);
+          place = λ q. absurd (false≢true q);
+          i0 = λ q. absurd (false≢true q);
+          j0 = λ _. z;
+          words0 = λ _. w;
+          taker = λ q. absurd (omega arith);
+        }
 
     full-2 : (m : Message) → limits (after-2 m) ≡ false → Row17 b s (X 2)
     full-2 m q = limit-cases (after-2 m) q
@@ -214,7 +253,8 @@ module _ (b : Composition) (s : State) (n i j : ℕ) (ws : List ℕ) where
         pick-c (Low 2) (Good 2) (K .lobby) i _ (λ q. low-10 2 (no-message refl q)) λ m g.
         let t = tens-2 (no-words ws w) (eqb-true j 0 z) m g 2 (inl refl) in
         need-c (Low 2) (Good 2) _ 13 _ (λ q. low-13 2 t (λ y. omega arith) (can-2 m g q)) λ q.
-        good 2 _ (λ y. omega arith) (above-13 2 t (λ y. omega arith)) (can-down refl g (is-down (m .status) q)) (every-append short (K .contents .particles) _ parts-short (every-one short (output 0 (m .chan) fromParent (m .val)) (message-short m g))) (full-2 m) (not-full-2 m)
+        good 2 _ (λ y. omega arith) (above-13 2 t (λ y. omega arith)) (can-down refl g (is-down (m .status) q))
+        (every-append short (K .contents .particles) _ parts-short (every-one short (output 0 (m .chan) fromParent (m .val)) (message-short m g))) (full-2 m) (not-full-2 m)
 
     -- KIND 6
     none-17 : (k : ℕ) → (k ≡ 2 → ⊥) → (k ≡ 3 → ⊥) → (k ≡ 5 → ⊥) → (Kind (1 ∷ 8 ∷ []) (X k) → ⊥) → Row17 b s (X k) → ⊥
@@ -287,7 +327,19 @@ module _ (b : Composition) (s : State) (n i j : ℕ) (ws : List ℕ) where
     after-1 = withLobby K (K .lobby ++ (record { status = down; chan = 0; val = ws } ∷ []))
 
     tens-1 : i ≡ 0 → j ≡ 0 → Tens 1
-    tens-1 p q = record { low = omega arith; high = omega arith; message = λ q. absurd (false≢true q); particle-i = λ q. absurd (false≢true q); box-j = λ q. absurd (false≢true q); particle-j = λ q. absurd (false≢true q); place = λ q. absurd (false≢true q); i0 = λ _. p; j0 = λ _. q; words0 = λ q. absurd (false≢true q); taker = λ q. absurd (omega arith) }
+    tens-1 p q = record {
+      low = omega arith;
+      high = omega arith;
+      message = λ q. absurd (false≢true q);
+      particle-i = λ q. absurd (false≢true q);
+      box-j = λ q. absurd (false≢true q);
+      particle-j = λ q. absurd (false≢true q);
+      place = λ q. absurd (false≢true q);
+      i0 = λ _. p;
+      j0 = λ _. q;
+      words0 = λ q. absurd (false≢true q);
+      taker = λ q. absurd (omega arith);
+    }
 
     no-value : isValue ws ≡ false → Row11 (X 1)
     unfolding isValue
@@ -379,7 +431,19 @@ module _ (b : Composition) (s : State) (n i j : ℕ) (ws : List ℕ) where
     shelf-to ch t = both _ _ (where-shelves (t .0) (t .1)) (eq-eqb ch 2 (t .2))
 
     tens-3 : ws ≡ [] → j ≡ 0 → (p : Particle) → getElem? (K .contents .particles) i ≡ some p → Tens 3
-    tens-3 w z p g = record { low = omega arith; high = omega arith; message = λ q. absurd (false≢true q); particle-i = λ _. get-length (K .contents .particles) i p g; box-j = λ q. absurd (false≢true q); particle-j = λ q. absurd (false≢true q); place = λ q. absurd (false≢true q); i0 = λ q. absurd (false≢true q); j0 = λ _. z; words0 = λ _. w; taker = λ q. absurd (omega arith) }
+    tens-3 w z p g = record {
+      low = omega arith;
+      high = omega arith;
+      message = λ q. absurd (false≢true q);
+      particle-i = λ _. get-length (K .contents .particles) i p g;
+      box-j = λ q. absurd (false≢true q);
+      particle-j = λ q. absurd (false≢true q);
+      place = λ q. absurd (false≢true q);
+      i0 = λ q. absurd (false≢true q);
+      j0 = λ _. z;
+      words0 = λ _. w;
+      taker = λ q. absurd (omega arith);
+    }
 
     boxOf : Particle → ℕ
     boxOf (output a c g v) = a
@@ -500,7 +564,19 @@ module _ (b : Composition) (s : State) (n i j : ℕ) (ws : List ℕ) where
 
     -- KIND 4
     tens-4 : ws ≡ [] → (p : Particle) → getElem? (K .contents .particles) i ≡ some p → (c : Box) → getElem? (K .contents .boxes) j ≡ some c → Tens 4
-    tens-4 w p g c gc = record { low = omega arith; high = omega arith; message = λ q. absurd (false≢true q); particle-i = λ _. get-length (K .contents .particles) i p g; box-j = λ _. get-length (K .contents .boxes) j c gc; particle-j = λ q. absurd (false≢true q); place = λ q. absurd (false≢true q); i0 = λ q. absurd (false≢true q); j0 = λ q. absurd (false≢true q); words0 = λ _. w; taker = λ q. absurd (omega arith) }
+    tens-4 w p g c gc = record {
+      low = omega arith;
+      high = omega arith;
+      message = λ q. absurd (false≢true q);
+      particle-i = λ _. get-length (K .contents .particles) i p g;
+      box-j = λ _. get-length (K .contents .boxes) j c gc;
+      particle-j = λ q. absurd (false≢true q);
+      place = λ q. absurd (false≢true q);
+      i0 = λ q. absurd (false≢true q);
+      j0 = λ q. absurd (false≢true q);
+      words0 = λ _. w;
+      taker = λ q. absurd (omega arith);
+    }
 
     is-child : (g : Tag) (m : ℕ) → isToChild g m ≡ true → g ≡ toChild m
     is-child within m q = absurd (false≢true q)
@@ -532,7 +608,8 @@ module _ (b : Composition) (s : State) (n i j : ℕ) (ws : List ℕ) where
     unfolding descendParticle fits-4 boxOf mark _&_
     descend-part t (output a c g v) q x gx = need-c (Low 4) (Good 4) _ 13 _ (λ z. low-13 4 t (λ y. omega arith) (can-4 (output a c g v) q x gx z))
         (λ z. good 4 _ (λ y. omega arith) (above-13 4 t (λ y. omega arith))
-        (can-descend refl (subst (λ (y : Tag). getElem? (K .contents .particles) i ≡ some (output a c y v)) (is-child g (x .name) (snd (eqb (x .parent) a) _ (snd (not (eqb j 0)) _ z))) q) gx (eqb-false j 0 (not-true′ (eqb j 0) (fst (not (eqb j 0)) _ z))) (eqb-true (x .parent) a (fst (eqb (x .parent) a) _ (snd (not (eqb j 0)) _ z))) refl)
+        (can-descend refl (subst (λ (y : Tag). getElem? (K .contents .particles) i ≡ some (output a c y v)) (is-child g (x .name) (snd (eqb (x .parent) a) _ (snd (not (eqb j 0)) _ z))) q) gx
+        (eqb-false j 0 (not-true′ (eqb j 0) (fst (not (eqb j 0)) _ z))) (eqb-true (x .parent) a (fst (eqb (x .parent) a) _ (snd (not (eqb j 0)) _ z))) refl)
         (every-set short (K .contents .particles) i (output j c fromParent v) parts-short (part-fact a c g v q .1))
         (λ y. absurd (roomy _ (subst (λ (z : ℕ). z ≤ 32) (sym (length-set (K .contents .particles) i _)) few-parts) few-boxes few-minted (o .few-lobby) (o .few-shelf) y))
         (λ y. absurd (none-17 4 (λ y. omega arith) (λ y. omega arith) (λ y. omega arith) (λ y. false≢true y) y)))
@@ -581,7 +658,19 @@ module _ (b : Composition) (s : State) (n i j : ℕ) (ws : List ℕ) where
         on-j false p z q = absurd (clash q)
 
     tens-8 : ws ≡ [] → (b .wrapper ≡ 2) × (n ≡ 2) × (j ≡ 0) → (v : List ℕ) → getElem? (side s 1 .core .shelf) i ≡ some v → Tens 8
-    tens-8 w z v g = record { low = omega arith; high = omega arith; message = λ q. absurd (false≢true q); particle-i = λ q. absurd (false≢true q); box-j = λ q. absurd (false≢true q); particle-j = λ q. absurd (false≢true q); place = λ _. get-length (side s 1 .core .shelf) i v g; i0 = λ q. absurd (false≢true q); j0 = λ _. z .2; words0 = λ _. w; taker = λ _. ((λ q. let y = z .0 in omega arith), (λ q. let y = z .1 in omega arith)) }
+    tens-8 w z v g = record {
+      low = omega arith;
+      high = omega arith;
+      message = λ q. absurd (false≢true q);
+      particle-i = λ q. absurd (false≢true q);
+      box-j = λ q. absurd (false≢true q);
+      particle-j = λ q. absurd (false≢true q);
+      place = λ _. get-length (side s 1 .core .shelf) i v g;
+      i0 = λ q. absurd (false≢true q);
+      j0 = λ _. z .2;
+      words0 = λ _. w;
+      taker = λ _. ((λ q. let y = z .0 in omega arith), (λ q. let y = z .1 in omega arith));
+    }
 
     can-8 : not (hasTaken K 1 i) ≡ false → Can b s (X 8) → ⊥
     can-8 q (can-take k a) = false≢true (sym a ∙ not-false′ (hasTaken K 1 i) q)

@@ -56,7 +56,8 @@ module _ (b : Composition) (s : State) (e : ready b s ≡ true) where
       go true q = subst At (sym (eqb-true k 0 q)) (λ o h to. complete-forward b s e R v i j x g y m p P σ ne o h f ok to) o h to
       go false q = complete-meeting b s e v k i j x g y m p P σ ne o h f ok to (eqb-false k 0 q)
 
-  by-move : {N R : Proc Mark []} {w : Participants Mark} → Move (All b s) (confOf b s .boxes) sel (wf-all b s e) (atoms-at (confOf b s .items) (items-atoms ids b s e)) (fn-sel b s e) N tau w → (v : Inv b s R tau w) → v .next ≡ N → Completed b s tau w R
+  by-move : {N R : Proc Mark []} {w : Participants Mark} → Move (All b s) (confOf b s .boxes) sel (wf-all b s e) (atoms-at (confOf b s .items) (items-atoms ids b s e)) (fn-sel b s e) N tau w →
+      (v : Inv b s R tau w) → v .next ≡ N → Completed b s tau w R
   by-move {R = R} (meets {t = t} {u = z} k i j x g y m p P σ ne o h f ok eq) v q = meeting t z R v k i j x g y m p P σ ne o h f ok (to-next eq q)
   by-move (rising c i x u has get eq) v q = complete-rising b s e v c i x u has get (to-next eq q)
   by-move (descending c i x u has get eq) v q = complete-descending b s e c v i x u has get (to-next eq q)

@@ -78,7 +78,8 @@ down-there c kn sh s j m g p =
     get-pick (s .lobby) j (λ m. need (isDown (m .status)) 13 (silently (withLobby (withContents s (addParticle (s .contents) (output 0 (m .chan) fromParent (m .val)))) (remove (s .lobby) j)))) m g
     ∙ ap (λ (x : SPlace). need (isDown x) 13 (silently (withLobby (withContents s (addParticle (s .contents) (output 0 (m .chan) fromParent (m .val)))) (remove (s .lobby) j)))) p
 
-into-there : (c : Setting) (kn : ℕ → Bool) (sh : ℕ → List (List ℕ)) (s : Core) (j n β ch : ℕ) (v : List ℕ) (x : Box) → getElem? (s .contents .particles) j ≡ some (output β ch (toChild (x .name)) v) → getElem? (s .contents .boxes) n ≡ some x → eqb n 0 ≡ false → x .parent ≡ β
+into-there : (c : Setting) (kn : ℕ → Bool) (sh : ℕ → List (List ℕ)) (s : Core) (j n β ch : ℕ) (v : List ℕ) (x : Box) → getElem? (s .contents .particles) j ≡ some (output β ch (toChild (x .name)) v) →
+    getElem? (s .contents .boxes) n ≡ some x → eqb n 0 ≡ false → x .parent ≡ β
     → local c kn sh s (into-step (c .side) j n) ≡ silently (withContents s (withParticles (s .contents) (set (s .contents .particles) j (output n ch fromParent v))))
 unfolding local inner choose need descends descendParticle
 into-there c kn sh s j n β ch v x g gx z pb =
@@ -88,7 +89,8 @@ into-there c kn sh s j n β ch v x g gx z pb =
     (both (not (eqb n 0)) (eqb (x .parent) β & eqb (x .name) (x .name)) (ap not z) (both (eqb (x .parent) β) (eqb (x .name) (x .name)) (eq-eqb (x .parent) β pb) (eq-eqb (x .name) (x .name) refl)))
 
 -- a message that is bound for a child is on its way down
-msg-down : (w : Wrapper) (side j : ℕ) (m : Message) (t : Mark) (x n : ℕ) (u : Val ℕ) → pout t x (plain (ichild n)) u ≡ msgProc ids w side j (m .status) (m .chan) (m .val) → (m .status ≡ down) × (t ≡ lobby side j) × (x ≡ m .chan) × (n ≡ ownName side) × (u ≡ valOf (m .val))
+msg-down : (w : Wrapper) (side j : ℕ) (m : Message) (t : Mark) (x n : ℕ) (u : Val ℕ) → pout t x (plain (ichild n)) u ≡ msgProc ids w side j (m .status) (m .chan) (m .val) →
+    (m .status ≡ down) × (t ≡ lobby side j) × (x ≡ m .chan) × (n ≡ ownName side) × (u ≡ valOf (m .val))
 msg-down w side j m t x n u q = go (m .status) q
   where
     go : (p : SPlace) → pout t x (plain (ichild n)) u ≡ msgProc ids w side j p (m .chan) (m .val) → (p ≡ down) × (t ≡ lobby side j) × (x ≡ m .chan) × (n ≡ ownName side) × (u ≡ valOf (m .val))
@@ -106,8 +108,10 @@ module _ (b : Composition) (s : State) (e : ready b s ≡ true) where
     unfolding wfMessage wfValue isValue
     goes-down j m g d gone bag =
         silent-met b s e vw ac v (down-step (vw .c .side) j) refl q (down-there (vw .c) (known s) (shelfOf s) (vw .core) j m g d)
-        (every-append short (vw .core .contents .particles) (p ∷ []) (all-short b s e vw) (every-one short p (fst _ _ (fst _ _ (fst _ _ (get-every (wfMessage (shelves (vw .c .wrapper) (vw .c .side)) (counts s)) (vw .core .lobby) j m (vw .ok .lobby) g)))))) refl refl J n
-        (λ l. bag-trans bag (bag-trans (bag-cons _ (bag-eq gone)) (bag-trans (add-part (wrapperOf b) (vw .c .side) (vw .c .table) (vw .C) (vw .D) (vw .core) (remove (vw .core .lobby) j) (vw .core .contents .particles) p) (bag-eq (sym (vw .items-next q (vw .left) refl refl))))))
+        (every-append short (vw .core .contents .particles) (p ∷ []) (all-short b s e vw)
+        (every-one short p (fst _ _ (fst _ _ (fst _ _ (get-every (wfMessage (shelves (vw .c .wrapper) (vw .c .side)) (counts s)) (vw .core .lobby) j m (vw .ok .lobby) g)))))) refl refl J n
+        (λ l. bag-trans bag (bag-trans (bag-cons _ (bag-eq gone))
+        (bag-trans (add-part (wrapperOf b) (vw .c .side) (vw .c .table) (vw .C) (vw .D) (vw .core) (remove (vw .core .lobby) j) (vw .core .contents .particles) p) (bag-eq (sym (vw .items-next q (vw .left) refl refl))))))
         (λ l. by-17 (down-full refl (full (leb 32 (length (vw .core .contents .particles))) refl l)))
       where
         p : Particle
@@ -120,7 +124,8 @@ module _ (b : Composition) (s : State) (e : ready b s ≡ true) where
         full true h l = subst (λ (k : Core). 32 ≤ length (k .contents .particles)) (sym (ac .core-is)) (leb-true 32 (length (vw .core .contents .particles)) h)
         full false h l =
             let a = leb-false 32 (length (vw .core .contents .particles)) h in
-            absurd (false≢true (sym l ∙ limits-of q (omega (arith, one-more (vw .core .contents .particles) p)) (few-boxes b s e vw) (few-minted b s e vw) (omega (arith, vw .ok .few-lobby, length-remove (vw .core .lobby) j)) (vw .ok .few-shelf)))
+            absurd (false≢true (sym l
+            ∙ limits-of q (omega (arith, one-more (vw .core .contents .particles) p)) (few-boxes b s e vw) (few-minted b s e vw) (omega (arith, vw .ok .few-lobby, length-remove (vw .core .lobby) j)) (vw .ok .few-shelf)))
 
     -- a particle into a box beside it
     goes-into : (j i β ch : ℕ) (u : List ℕ) (x : Box) → getElem? (vw .core .contents .particles) j ≡ some (output β ch (toChild (x .name)) u) → getElem? (vw .core .contents .boxes) i ≡ some x → eqb i 0 ≡ false → x .parent ≡ β
@@ -179,6 +184,7 @@ module _ (b : Composition) (s : State) (e : ready b s ≡ true) where
           subst₂ (λ (y z : Mark). Completed b s tau (joint y z) R) (sym (sp .mark-is)) (sym (k .mark-is))
           (complete-at b s e (into-step (vw .c .side) j (k .j)) descend (λ z. omega arith) (λ z. omega arith) (λ y ay. into-place ay (vw .c .side) j (k .j) refl)
           (goes-into vw ac v (item (c .site) (pout t x receivedParent u) ∷ (a .X ++ item (c .parent) pnil ∷ a .Y)) n (ritems forget (a .X) ++ ritems forget (a .Y)) j (k .j) (sp .place) (sp .chan) (sp .val) (k .box)
-          (g ∙ ap some (sp .is ∙ ap (λ (y : STag). output (sp .place) (sp .chan) y (sp .val)) (tag-into (c .name) (sp .tag) (sp .tag-is) ∙ ap toChild (k .name-is)))) (k .get) (k .later) (k .parent-is) (λ q. put-back (a .X) (a .Y) _ _ (put q))
+          (g ∙ ap some (sp .is ∙ ap (λ (y : STag). output (sp .place) (sp .chan) y (sp .val)) (tag-into (c .name) (sp .tag) (sp .tag-is) ∙ ap toChild (k .name-is)))) (k .get) (k .later) (k .parent-is)
+          (λ q. put-back (a .X) (a .Y) _ _ (put q))
           (bag-trans (moved-bag (item (c .site) (pout t x receivedParent u)) (a .X) (c .parent) (a .Y))
           (bag-eq (λ z. item (k .site-is z) (pout tt (sp .chan-is z) receivedParent (sp .val-is z)) ∷ (ritems forget (a .X) ++ ritems forget (a .Y)))))))

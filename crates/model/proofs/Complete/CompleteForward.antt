@@ -1,4 +1,6 @@
--- Demand 2, second half, for the silent transitions in the environment: an output and an input that both stand there are an arrived message on `out` and the side's forwarder (pass), or a shelf item and the forwarder of `mid` (take); the step there leads where the transition leads, or a take is refused: 17.
+-- Demand 2, second half, for the silent transitions in the environment: an output and an input that both stand there are an arrived
+-- message on `out` and the side's forwarder (pass), or a shelf item and the forwarder of `mid` (take); the step there leads where the
+-- transition leads, or a take is refused: 17.
 use mathlib.Core.Path.{_≡_, refl, sym, ap, ap₂, _∙_, subst}
 use mathlib.Core.Bool.{Bool, true, false, not, cond, _||_, false≢true, Bool-set}
 use mathlib.Core.List.{List, [], _∷_, _++_, append-assoc}
@@ -74,9 +76,11 @@ shelf-at gone q n (u ∷ l) X i Y e = go (gone n) refl X e (λ X e. shelf-at gon
           (r .left gone′ (subst (λ (z : ℕ). gone′ z ≡ true) (omega arith) g) (λ x ne a d. h x (λ z. ne (omega (arith, z))) (omega arith) (omega arith)));
     }
 
-    go : (c : Bool) → gone n ≡ c → (X : List (Item Mark)) → cond c [] (shelfItem ids q n u ∷ []) ++ shelfItems ids gone q (suc n) l ≡ X ++ i ∷ Y → ((X : List (Item Mark)) → shelfItems ids gone q (suc n) l ≡ X ++ i ∷ Y → ShelfAt gone q (suc n) l X i Y) → ShelfAt gone q n (u ∷ l) X i Y
+    go : (c : Bool) → gone n ≡ c → (X : List (Item Mark)) → cond c [] (shelfItem ids q n u ∷ []) ++ shelfItems ids gone q (suc n) l ≡ X ++ i ∷ Y →
+        ((X : List (Item Mark)) → shelfItems ids gone q (suc n) l ≡ X ++ i ∷ Y → ShelfAt gone q (suc n) l X i Y) → ShelfAt gone q n (u ∷ l) X i Y
     go true p X e ih = more true p X (ih X e) X refl
-    go false p (y ∷ X) e ih = more false p X (ih X (tail-eq e)) (y ∷ X) (ap (λ (z : Item Mark). ritem forget z ∷ ritems forget X) (sym (head-eq e)) ∙ ap (λ (z : List (Item (Unit {0}))). z ++ ritems forget X) (shelf-marks ids forget (λ x. false) q n (u ∷ [])))
+    go false p (y ∷ X) e ih = more false p X (ih X (tail-eq e)) (y ∷ X)
+        (ap (λ (z : Item Mark). ritem forget z ∷ ritems forget X) (sym (head-eq e)) ∙ ap (λ (z : List (Item (Unit {0}))). z ++ ritems forget X) (shelf-marks ids forget (λ x. false) q n (u ∷ [])))
     go false p [] e ih = record {
       j = 0;
       v = u;
@@ -153,7 +157,8 @@ passage-step (pass {side = side} {i = i}) σ j e = let p : side ≡ σ = cc in l
 passage-step leave σ j e = absurd (let z : _≡_ {A = ℕ} 0 1 = cc in omega arith)
 passage-step (take n q) σ j e = absurd (let z : _≡_ {A = ℕ} 0 1 = cc in omega arith)
 
-taking-step : (w : ℕ) {k : Step} {p : Participants Mark} → At (described w) k p → (n : ℕ) (r : Route) → getElem? (described w .routes) n ≡ some r → (i : ℕ) → p ≡ joint (shelf (r .source) i) (taker (r .source) (r .receiver)) → k ≡ take-step r i
+taking-step : (w : ℕ) {k : Step} {p : Participants Mark} → At (described w) k p → (n : ℕ) (r : Route) → getElem? (described w .routes) n ≡ some r → (i : ℕ) →
+    p ≡ joint (shelf (r .source) i) (taker (r .source) (r .receiver)) → k ≡ take-step r i
 taking-step w enter n r g i e = absurd (let z : _≡_ {A = ℕ} 0 1 = cc in omega arith)
 taking-step w goDown n r g i e = absurd (let z : _≡_ {A = ℕ} 0 1 = cc in omega arith)
 taking-step w goUp n r g i e = absurd (let z : _≡_ {A = ℕ} 0 1 = cc in omega arith)
@@ -297,7 +302,8 @@ module _ (b : Composition) (s : State) (e : ready b s ≡ true) (R : Proc Mark [
       after-take = took-state b s e σ is-side (r .j) r found i v
 
       is-taken : local (setting b σ) (known s) (shelfOf s) (side s σ .core) (take-step r i) ≡ done (taken (r .source) (side s σ .core) i v)
-      is-taken = take-local (setting b σ) (known s) (shelfOf s) (side s σ .core) r i found ∙ takes-there (r .source) (shelfOf s (r .source)) (side s σ .core) i v get (not-taken s σ (r .source) i (pos b s e σ is-side) (lt b s e σ is-side) free)
+      is-taken = take-local (setting b σ) (known s) (shelfOf s) (side s σ .core) r i found
+          ∙ takes-there (r .source) (shelfOf s (r .source)) (side s σ .core) i v get (not-taken s σ (r .source) i (pos b s e σ is-side) (lt b s e σ is-side) free)
 
       module _ (vv : Inv b s R tau (joint (shelf (r .source) i) (taker (r .source) σ))) (J : List (Item Mark)) (n : fill (confOf b s .boxes) (at J) ≋ vv .next) (bag : Bag (ritems forget J) (ritems forget (confOf b after-take .items))) where
         abbrev moved : Moved
@@ -386,7 +392,10 @@ module _ (b : Composition) (s : State) (e : ready b s ≡ true) (R : Proc Mark [
           (takes-on k r rg (a .j) (a .v) (a .get) (subst (λ (z : ℕ). isGone s m z ≡ false) at0 (a .free)) (inv-at who vv) (X' ++ item 0 Q ∷ Y') n
           (bag-trans (sent-on v P Q got X Y X' Y' is (taker m σ) 2 (ichild (ownName m)) 2 (ichild (ownName σ)) q)
           (bag-trans (bag-eq (ap₂ (λ (y : Val ℕ) (z : List (Item (Unit {0}))). item 0 (pout tt 2 (plain (ichild (ownName σ))) y) ∷ z) (ap valIn (what-eq (a .is)))
-          (sym (ritems-app forget X Y) ∙ ap (ritems forget) (ap₂ (λ (y z : List (Item Mark)). y ++ z) ex ey ∙ regroup (forwarders ids (wrapperOf b)) (bySide (shelfOn b s) (at-side b s (r .source) source-side .X)) X1 Y1 (bySide (shelfOn b s) (at-side b s (r .source) source-side .Y)) (bySide (ownOf b s) (wrapperOf b .sides)) (own-now b s e σ h)))))
+          (sym (ritems-app forget X Y)
+          ∙ ap (ritems forget) (ap₂ (λ (y z : List (Item Mark)). y ++ z) ex ey
+          ∙ regroup (forwarders ids (wrapperOf b)) (bySide (shelfOn b s) (at-side b s (r .source) source-side .X)) X1 Y1 (bySide (shelfOn b s) (at-side b s (r .source) source-side .Y))
+          (bySide (ownOf b s) (wrapperOf b .sides)) (own-now b s e σ h)))))
           (taken-bag b s e σ h (r .j) r fr (a .j) (a .v) (a .get) on))))
         where
           regroup : (f x p q y o : List (Item Mark)) {o′ : List (Item Mark)} → o ≡ o′ → (f ++ (x ++ p)) ++ (q ++ (y ++ o)) ≡ f ++ ((x ++ ((p ++ q) ++ y)) ++ o′)
@@ -406,7 +415,8 @@ module _ (b : Composition) (s : State) (e : ready b s ≡ true) (R : Proc Mark [
           (shelf-at (isGone s (r .source)) (r .source) 0 (shelfOf s (r .source)) X1 (item 0 (pout t x (comp (plain g)) v)) Y1 sp)
 
     by-shelf : (m : ℕ) (h : hasSide (wrapperOf b) m ≡ true) (X1 Y1 : List (Item Mark)) → shelfOn b s m ≡ X1 ++ item 0 (pout t x (comp (plain g)) v) ∷ Y1
-        → X ≡ forwarders ids (wrapperOf b) ++ (bySide (shelfOn b s) (at-side b s m h .X) ++ X1) → Y ≡ Y1 ++ (bySide (shelfOn b s) (at-side b s m h .Y) ++ bySide (ownOf b s) (wrapperOf b .sides)) → Input b s P → Completed b s tau (joint t u) R
+        → X ≡ forwarders ids (wrapperOf b) ++ (bySide (shelfOn b s) (at-side b s m h .X) ++ X1) → Y ≡ Y1 ++ (bySide (shelfOn b s) (at-side b s m h .Y) ++ bySide (ownOf b s) (wrapperOf b .sides)) →
+        Input b s P → Completed b s tau (joint t u) R
     by-shelf m h X1 Y1 sp ex ey inp = go (shelf-at (isGone s m) m 0 (side s m .core .shelf) X1 (item 0 (pout t x (comp (plain g)) v)) Y1 sp) inp
       where
         go : ShelfAt (isGone s m) m 0 (side s m .core .shelf) X1 (item 0 (pout t x (comp (plain g)) v)) Y1 → Input b s P → Completed b s tau (joint t u) R

@@ -155,7 +155,10 @@ module _ (b : Composition) (s : State) (e : ready b s ≡ true) where
       outcome true p true q = in-room p q (added (vw .c) (counts s) (vw .core) (vw .ok) (record { status = down; chan = 0; val = ws }) (vw .core .taken) moved refl)
 
       finish : Completed b s l (joint u (enterer (vw .c .side))) R
-      finish = ((asked, enter, asks-in refl refl), λ k atk ask. subst Outcome (sym (entry-step atk u (vw .c .side) refl ∙ ap (enter-step (vw .c .side)) (asks-words ask))) (outcome (isValue ws) refl (every (λ w. not (isMinted w) or known s w) ws) refl))
+      finish = (
+        (asked, enter, asks-in refl refl),
+        λ k atk ask. subst Outcome (sym (entry-step atk u (vw .c .side) refl ∙ ap (enter-step (vw .c .side)) (asks-words ask))) (outcome (isValue ws) refl (every (λ w. not (isMinted w) or known s w) ws) refl),
+      )
 
     -- COMPLETE, for what the environment says
     pub complete-in : {w : Participants Mark} → Trans (knownOf s) (process (confOf b s)) (recv x o v) w R → Completed b s (recv x o v) w R
@@ -169,7 +172,8 @@ module _ (b : Composition) (s : State) (e : ready b s ≡ true) where
             let who : w ≡ joint (r .u) (enterer (vw .c .side)) = r .who ∙ ap (λ (A : Proc Mark []). joint (r .u) (markIn A)) (n .is) in
             subst (λ (y : Participants Mark). Completed b s l y R) (sym who)
             (finish vw (n .an) (r .u) (inv-at who vv) (a .X) (a .Y) (a .is ∙ ap (λ (A : Proc Mark []). a .X ++ item 0 A ∷ a .Y) (n .is))
-            (trans (symm (subst (λ (A : Proc Mark []). fill (confOf b s .boxes) (upd (λ k. parallel (select (confOf b s .items) k)) 0 (parallel (set (select (confOf b s .items) 0) (r .i) (r .Q)))) ≋ fill (confOf b s .boxes) (at (a .X ++ item 0 A ∷ a .Y)))
+            (trans (symm (subst (λ (A : Proc Mark []). fill (confOf b s .boxes)
+            (upd (λ k. parallel (select (confOf b s .items) k)) 0 (parallel (set (select (confOf b s .items) 0) (r .i) (r .Q)))) ≋ fill (confOf b s .boxes) (at (a .X ++ item 0 A ∷ a .Y)))
             (forwarded (r .P) (enterer (vw .c .side)) (wrapperOf b .inlet (vw .c .side)) iparent 0 (ichild (ownName (vw .c .side))) (n .is) (vren v (vv .perm .to)) (r .Q) (r .got))
             (one-changed (confOf b s .boxes) (confOf b s .items) 0 (r .i) (r .P) (r .Q) a))) (r .to))
             (n .on) (n .tagged))

@@ -156,7 +156,8 @@ module _ (b : Composition) (s : State) (e : ready b s ≡ true) where
               is-q = a .is-j;
               J = λ Q'. r .X ++ item (siteOf side k) pnil ∷ (r .Y ++ item (siteOf side k) Q' ∷ r .Z);
               changed = λ Q'. two-changed bs I (siteOf side k) (set (set (sel (siteOf side k)) i pnil) j Q') (r .X) (r .Y) (r .Z) P Q pnil Q' (r .is) (r .put pnil Q');
-              bag = λ again Q B h. before-bag (wrapperOf b) side Tb (vw .C) (vw .D) (vw .core) again (siteOf side k) Q B (a .p) (a .q) (a .i) (a .j) h (a .before) (pair-of (wrapperOf b) side Tb (vw .C) (vw .D) (vw .core) (ori .awayC) (ori .awayD) pos w a);
+              bag = λ again Q B h. before-bag (wrapperOf b) side Tb (vw .C) (vw .D) (vw .core) again (siteOf side k) Q B (a .p) (a .q) (a .i) (a .j) h (a .before)
+                  (pair-of (wrapperOf b) side Tb (vw .C) (vw .D) (vw .core) (ori .awayC) (ori .awayD) pos w a);
             }
         go false ge =
             let lt : j < i = (let z = ltb-false i j ge in omega (arith, z, ne)) in
@@ -174,7 +175,8 @@ module _ (b : Composition) (s : State) (e : ready b s ≡ true) where
               is-q = a .is-i;
               J = λ Q'. r .X ++ item (siteOf side k) Q' ∷ (r .Y ++ item (siteOf side k) pnil ∷ r .Z);
               changed = λ Q'. two-changed bs I (siteOf side k) (set (set (sel (siteOf side k)) i pnil) j Q') (r .X) (r .Y) (r .Z) Q P Q' pnil (r .is) (set-swap (sel (siteOf side k)) i j pnil Q' ne ∙ r .put Q' pnil);
-              bag = λ again Q B h. behind-bag (wrapperOf b) side Tb (vw .C) (vw .D) (vw .core) again (siteOf side k) Q B (a .q) (a .p) (a .j) (a .i) h (a .before) (pair-of (wrapperOf b) side Tb (vw .C) (vw .D) (vw .core) (ori .awayC) (ori .awayD) pos w a);
+              bag = λ again Q B h. behind-bag (wrapperOf b) side Tb (vw .C) (vw .D) (vw .core) again (siteOf side k) Q B (a .q) (a .p) (a .j) (a .i) h (a .before)
+                  (pair-of (wrapperOf b) side Tb (vw .C) (vw .D) (vw .core) (ori .awayC) (ori .awayD) pos w a);
             }
 
     zero-in : In (All b s) 0
@@ -249,11 +251,15 @@ module _ (b : Composition) (s : State) (e : ready b s ≡ true) where
         fits = subst (λ (z : Val ℕ). match (shape (patOf (node .pat))) z ≡ some (taken .3)) (ap valIn out-is) (taken .4)
 
         mb' : MatchedBack (node .pat) v (taken .3)
-        mb' = mb b s e vw ori own reach ac (c .i') (c .j') β ch g v n vs gp gq node (part-ok (c .i') (output β ch g v) gp) (part-ok (c .j') (input β n vs) gq) (taken .3) fits (taken .5) (taken .1 ∙ ap chanIn out-is) (taken .2 ∙ ap tagIn out-is)
+        mb' = mb b s e vw ori own reach ac (c .i') (c .j') β ch g v n vs gp gq node (part-ok (c .i') (output β ch g v) gp) (part-ok (c .j') (input β n vs) gq) (taken .3) fits (taken .5)
+            (taken .1 ∙ ap chanIn out-is) (taken .2 ∙ ap tagIn out-is)
 
         body-now : inst body (taken .3) ≡ proc [] (part side (c .j')) (codeOf (node .body)) (envOf (extend (envAt Tb n vs) (binders (node .pat)) (mb' .fit .bound)))
         unfolding mb'
-        body-now = ap (inst body) (sym (same-σ b s e vw ori own reach ac (c .i') (c .j') β ch g v n vs gp gq node (part-ok (c .i') (output β ch g v) gp) (part-ok (c .j') (input β n vs) gq) (taken .3) fits (taken .5) (taken .1 ∙ ap chanIn out-is) (taken .2 ∙ ap tagIn out-is))) ∙ body-is b s e vw ori own reach (c .i') (c .j') β ch g v n vs gp gq node (part-ok (c .i') (output β ch g v) gp) (part-ok (c .j') (input β n vs) gq) (mb' .fit) (mb' .is)
+        body-now = ap (inst body)
+            (sym (same-σ b s e vw ori own reach ac (c .i') (c .j') β ch g v n vs gp gq node (part-ok (c .i') (output β ch g v) gp) (part-ok (c .j') (input β n vs) gq) (taken .3) fits (taken .5)
+            (taken .1 ∙ ap chanIn out-is) (taken .2 ∙ ap tagIn out-is)))
+            ∙ body-is b s e vw ori own reach (c .i') (c .j') β ch g v n vs gp gq node (part-ok (c .i') (output β ch g v) gp) (part-ok (c .j') (input β n vs) gq) (mb' .fit) (mb' .is)
 
         waits° : ritem forget (item (siteOf side k) waits) ≡ plainP Tb side (c .q)
         waits° = ap (λ (z : ℕ). ritem forget (item z waits)) (site-eq q-is) ∙ ap (ritem forget) (sym waits-is) ∙ plain-part Tb side (c .j') (input β n vs) ∙ ap (plainP Tb side) (sym eq)
@@ -266,11 +272,13 @@ module _ (b : Composition) (s : State) (e : ready b s ≡ true) where
 
         bag-now : Bag (ritems forget J') (item (siteOf side β) (proc [] tt (codeOf (node .body)) (envOf (extend (envAt Tb n vs) (binders (node .pat)) (mb' .fit .bound)))) ∷ aim (without (node .again) parts (c .i') (c .j')))
         bag-now = bag-trans (c .bag (node .again) waits (inst body (taken .3)) waits°)
-            (bag-eq (ap₂ (λ (z : ℕ) (P : Proc (Unit {0}) []). item z P ∷ aim (without (node .again) parts (c .i') (c .j'))) (site-eq p-is) (ap (remark forget) body-now ∙ remark-proc forget [] (part side (c .j')) (codeOf (node .body)) (envOf (extend (envAt Tb n vs) (binders (node .pat)) (mb' .fit .bound))))))
+            (bag-eq (ap₂ (λ (z : ℕ) (P : Proc (Unit {0}) []). item z P ∷ aim (without (node .again) parts (c .i') (c .j'))) (site-eq p-is)
+            (ap (remark forget) body-now ∙ remark-proc forget [] (part side (c .j')) (codeOf (node .body)) (envOf (extend (envAt Tb n vs) (binders (node .pat)) (mb' .fit .bound))))))
 
         answer-here : Met b s tau R (meet-step (vw .c .side) (c .i') (c .j')) ⊎ ((a : ℕ) × (step b s (meet-step (vw .c .side) (c .i') (c .j')) .answer ≡ refusal a side) × Excused b s (meet-step (vw .c .side) (c .i') (c .j')) tau a)
         unfolding mb' vv'
-        answer-here = answered b s e vw ori own reach ac (c .i') (c .j') β ch g v n vs gp gq node (part-ok (c .i') (output β ch g v) gp) (part-ok (c .j') (input β n vs) gq) (taken .3) fits (taken .5) (taken .1 ∙ ap chanIn out-is) (taken .2 ∙ ap tagIn out-is) R vv' J' leads bag-now
+        answer-here = answered b s e vw ori own reach ac (c .i') (c .j') β ch g v n vs gp gq node (part-ok (c .i') (output β ch g v) gp) (part-ok (c .j') (input β n vs) gq) (taken .3) fits (taken .5)
+            (taken .1 ∙ ap chanIn out-is) (taken .2 ∙ ap tagIn out-is) R vv' J' leads bag-now
 
         with-node : Completed b s tau (joint t u) R
         with-node = (
@@ -334,5 +342,6 @@ module _ (b : Composition) (s : State) (e : ready b s ≡ true) where
     -- COMPLETE, for the meetings in the boxes: what `meets` gives, at a site that is not the environment
     pub complete-meeting : (site i j : ℕ) (x : ℕ) (g : ITag ℕ) (v : Val ℕ) (m : Mode) (p : Pat) (P : Proc Mark (p ∷ [])) (σ : Vars p → Val ℕ) → i ≢ j → getElem? (select (confOf b s .items) site) i ≡ some (pout t x (comp (plain g)) v)
         → getElem? (select (confOf b s .items) site) j ≡ some (pinp m u x g p P) → match p v ≡ some σ → InstOk P σ
-        → fill (confOf b s .boxes) (upd (λ k. parallel (select (confOf b s .items) k)) site (parallel (set (set (select (confOf b s .items) site) i pnil) j (after m u x g p P σ)))) ≋ vv .next → (site ≡ 0 → ⊥) → Completed b s tau (joint t u) R
+        → fill (confOf b s .boxes) (upd (λ k. parallel (select (confOf b s .items) k)) site (parallel (set (set (select (confOf b s .items) site) i pnil) j (after m u x g p P σ)))) ≋ vv .next →
+        (site ≡ 0 → ⊥) → Completed b s tau (joint t u) R
     complete-meeting site i j x g v m p P σ ne gi gj fi ok to nz = by-site site nz (record { i = i; j = j; x = x; g = g; v = v; m = m; p = p; P = P; σ = σ; ne = ne; get-i = gi; get-j = gj; fits = fi; ok = ok; to = to })

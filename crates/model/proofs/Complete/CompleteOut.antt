@@ -69,7 +69,8 @@ leaving-step σ j = record { kind = 7; side = σ; i = j; j = 0; words = [] }
 leaves-there : (c : Setting) (kn : ℕ → Bool) (sh : ℕ → List (List ℕ)) (s : Core) (j : ℕ) (m : Message) → getElem? (s .lobby) j ≡ some m → m .status ≡ leaving
     → local c kn sh s (leaving-step (c .side) j) ≡ done (record { label = leaves; val = m .val; core = record { contents = s .contents; lobby = remove (s .lobby) j; shelf = s .shelf; taken = s .taken } })
 unfolding local inner choose need leave
-leaves-there c kn sh s j m g p = get-pick (s .lobby) j _ m g ∙ ap (λ (x : SPlace). need (isLeaving x) 13 (done (record { label = leaves; val = m .val; core = record { contents = s .contents; lobby = remove (s .lobby) j; shelf = s .shelf; taken = s .taken } }))) p
+leaves-there c kn sh s j m g p = get-pick (s .lobby) j _ m g
+    ∙ ap (λ (x : SPlace). need (isLeaving x) 13 (done (record { label = leaves; val = m .val; core = record { contents = s .contents; lobby = remove (s .lobby) j; shelf = s .shelf; taken = s .taken } }))) p
 
 module _ (b : Composition) (s : State) (e : ready b s ≡ true) where
   -- a leaving message of a side
@@ -125,12 +126,14 @@ module _ (b : Composition) (s : State) (e : ready b s ≡ true) where
         N' = minus (newOf b s) (wrapperOf b .outlet (vw .c .side) ∷ names (valOf (m .val)))
 
         new-is : newOf b (vw .next k0 (markAll (vw .left) (m .val))) ≡ N'
-        new-is = new-left b s (vw .next k0 (markAll (vw .left) (m .val))) (wrapperOf b .outlet (vw .c .side)) (m .val) (few b s e) (outwards-low b s e vw) (shaped-items (m .val) v-shaped) (shaped-words (m .val) v-shaped) (vw .minted-next k0 (markAll (vw .left) (m .val)) refl) (vw .known-next k0 (m .val))
+        new-is = new-left b s (vw .next k0 (markAll (vw .left) (m .val))) (wrapperOf b .outlet (vw .c .side)) (m .val) (few b s e) (outwards-low b s e vw) (shaped-items (m .val) v-shaped)
+            (shaped-words (m .val) v-shaped) (vw .minted-next k0 (markAll (vw .left) (m .val)) refl) (vw .known-next k0 (m .val))
 
         leads : plainly (ren {r = []} R (v .perm .to)) ≋ plainly (process (confOf b (vw .next k0 (markAll (vw .left) (m .val)))))
         leads = trans (remark-cong forget (target-of v)) (trans (remark-cong forget (subst (λ (y : Label). restrict (minus (newOf b s) (lnames y)) (v .next) ≋ restrict N' (fill (confOf b s .boxes) (at J))) (sym el) (in-news N' (symm n))))
             (subst (λ (P : Proc Mark []). plainly (restrict N' (fill (confOf b s .boxes) (at J))) ≋ plainly P)
-            (ap₂ (λ (N : List ℕ) (B : List (Place Mark)). restrict N (fill B (at (confOf b (vw .next k0 (markAll (vw .left) (m .val))) .items)))) (sym new-is) (sym (vw .boxes-next k0 (markAll (vw .left) (m .val)) refl)) ∙ sym (process-of (vw .next k0 (markAll (vw .left) (m .val)))))
+            (ap₂ (λ (N : List ℕ) (B : List (Place Mark)). restrict N (fill B (at (confOf b (vw .next k0 (markAll (vw .left) (m .val))) .items)))) (sym new-is)
+            (sym (vw .boxes-next k0 (markAll (vw .left) (m .val)) refl)) ∙ sym (process-of (vw .next k0 (markAll (vw .left) (m .val)))))
             (same-bags N' (confOf b s .boxes) J (confOf b (vw .next k0 (markAll (vw .left) (m .val))) .items) (bag-trans bag (bag-eq (sym (vw .items-next k0 (markAll (vw .left) (m .val)) refl refl)))))))
 
   -- an output of a side's lobby that the environment may take is a leaving one
@@ -144,11 +147,13 @@ module _ (b : Composition) (s : State) (e : ready b s ≡ true) where
       go leaving q = (refl, ap markIn q, ap chanIn q, ap tagIn q, ap valIn q)
 
   -- what stands in the environment besides the lobbies sends nothing that the environment may take
-  shelf-no : (gone : ℕ → Bool) (side : ℕ) → hasSide (wrapperOf b) side ≡ true → (n : ℕ) (l : List (List ℕ)) (X : List (Item Mark)) (t : Mark) (x : ℕ) (o : Tag ℕ) (v : Val ℕ) (Y : List (Item Mark)) → AllT o (In (knownOf s)) → shelfItems ids gone side n l ≡ X ++ item 0 (pout t x o v) ∷ Y → ⊥
+  shelf-no : (gone : ℕ → Bool) (side : ℕ) → hasSide (wrapperOf b) side ≡ true → (n : ℕ) (l : List (List ℕ)) (X : List (Item Mark)) (t : Mark) (x : ℕ) (o : Tag ℕ) (v : Val ℕ) (Y : List (Item Mark)) →
+      AllT o (In (knownOf s)) → shelfItems ids gone side n l ≡ X ++ item 0 (pout t x o v) ∷ Y → ⊥
   shelf-no gone side wh n [] X t x o v Y h q = not-empty X (item 0 (pout t x o v)) Y q
   shelf-no gone side wh n (u ∷ l) X t x o v Y h q = go (gone n) X q (λ X q. shelf-no gone side wh (suc n) l X t x o v Y h q)
     where
-      go : (c : Bool) (X : List (Item Mark)) → cond c [] (shelfItem ids side n u ∷ []) ++ shelfItems ids gone side (suc n) l ≡ X ++ item 0 (pout t x o v) ∷ Y → ((X : List (Item Mark)) → shelfItems ids gone side (suc n) l ≡ X ++ item 0 (pout t x o v) ∷ Y → ⊥) → ⊥
+      go : (c : Bool) (X : List (Item Mark)) → cond c [] (shelfItem ids side n u ∷ []) ++ shelfItems ids gone side (suc n) l ≡ X ++ item 0 (pout t x o v) ∷ Y →
+          ((X : List (Item Mark)) → shelfItems ids gone side (suc n) l ≡ X ++ item 0 (pout t x o v) ∷ Y → ⊥) → ⊥
       go true X q ih = ih X q
       go false [] q ih = let eo : receivedChild (ownName side) ≡ o = ap (λ (z : Item Mark). tagIn (z .what)) (head-eq q) in own-unknown b s side wh (subst (λ (z : Tag ℕ). AllT z (In (knownOf s))) (sym eo) h)
       go false (y ∷ X) q ih = ih X (tail-eq q)
@@ -162,7 +167,8 @@ module _ (b : Composition) (s : State) (e : ready b s ≡ true) where
     l = send x o v
 
     finish : (vw : View b s) → Answers b s vw
-        → (t : Mark) (vv : Inv b s R l (lone t)) (x' : ℕ) (o' : Tag ℕ) (v' : Val ℕ) → lren l (vv .perm .to) ≡ send x' o' v' → AllT o' (In (knownOf s)) → (i : ℕ) (a : ItemAt (confOf b s .items) 0 i (pout t x' o' v')) → fill (confOf b s .boxes) (at (a .X ++ item 0 pnil ∷ a .Y)) ≋ vv .next
+        → (t : Mark) (vv : Inv b s R l (lone t)) (x' : ℕ) (o' : Tag ℕ) (v' : Val ℕ) → lren l (vv .perm .to) ≡ send x' o' v' → AllT o' (In (knownOf s)) →
+        (i : ℕ) (a : ItemAt (confOf b s .items) 0 i (pout t x' o' v')) → fill (confOf b s .boxes) (at (a .X ++ item 0 pnil ∷ a .Y)) ≋ vv .next
         → (j : ℕ) (m : Message) → getElem? (vw .core .lobby) j ≡ some m → item 0 (pout t x' o' v') ≡ msgItem ids (wrapperOf b) (vw .c .side) j m
         → ritems forget (a .X) ++ ritems forget (a .Y) ≡ target (wrapperOf b) (vw .c .side) (vw .c .table) (vw .C) (vw .D) (vw .core) (remove (vw .core .lobby) j) (vw .core .contents .particles) → Completed b s l (lone t) R
     finish vw answers t vv x' o' v' el tg i a n j m g is gone =
@@ -183,7 +189,8 @@ module _ (b : Composition) (s : State) (e : ready b s ≡ true) where
     Mv N y w = Move (All b s) (confOf b s .boxes) (λ k. select (confOf b s .items) k) (wf-all b s e) (atoms-at (confOf b s .items) (items-atoms ids b s e)) (fn-sel b s e) N y w
 
     send-inv : {N : Proc Mark []} {x' : ℕ} {o' : Tag ℕ} {v' : Val ℕ} {w : Participants Mark} → Mv N (send x' o' v') w
-        → (t : Mark) × (i : ℕ) × (w ≡ lone t) × (getElem? (select (confOf b s .items) 0) i ≡ some (pout t x' o' v')) × (fill (confOf b s .boxes) (upd (λ k. parallel (select (confOf b s .items) k)) 0 (parallel (set (select (confOf b s .items) 0) i pnil))) ≋ N)
+        → (t : Mark) × (i : ℕ) × (w ≡ lone t) × (getElem? (select (confOf b s .items) 0) i ≡ some (pout t x' o' v')) ×
+        (fill (confOf b s .boxes) (upd (λ k. parallel (select (confOf b s .items) k)) 0 (parallel (set (select (confOf b s .items) 0) i pnil))) ≋ N)
     send-inv (sends {t = t} i get eq) = (t, i, refl, get, eq)
 
     sent : (x' : ℕ) (o' : Tag ℕ) (v' : Val ℕ) (t : Mark) (vv : Inv b s R l (lone t)) (i : ℕ) → getElem? (select (confOf b s .items) 0) i ≡ some (pout t x' o' v')

@@ -37,7 +37,8 @@ use Rattle.model.proofs.Complete.StateInversion.{item-at, ItemAt}
 use Rattle.model.proofs.Complete.ItemPlaces.{one-moved}
 use Rattle.model.proofs.Complete.Completing.{Completed, Answers, site-eq}
 use Rattle.model.proofs.Complete.ItemOwners.{Stands, forwarder, shelved, message, particle, stands-of}
-use Rattle.model.proofs.Complete.ItemSides.{sent-part, no-forwarder, not-shelved, tag-up, limits-of, site-pos, box-of, moved-bag, put-back, one-more, few-parts, few-boxes, few-minted, all-short, val-short, Outcome, complete-at, silent-met}
+use Rattle.model.proofs.Complete.ItemSides.{sent-part, no-forwarder, not-shelved, tag-up, limits-of, site-pos, box-of, moved-bag, put-back, one-more, few-parts, few-boxes, few-minted}
+use Rattle.model.proofs.Complete.ItemSides.{all-short, val-short, Outcome, complete-at, silent-met}
 
 abbrev up-step : ℕ → ℕ → Step
 up-step σ j = record { kind = 3; side = σ; i = j; j = 0; words = [] }
@@ -103,7 +104,8 @@ module _ (b : Composition) (s : State) (e : ready b s ≡ true) where
     out-lobby g h bag =
         silent-met b s e vw ac v (up-step (vw .c .side) j) refl q (up-there (vw .c) (known s) (shelfOf s) (vw .core) j 0 ch u g ∙ to-lobby (vw .c) (vw .core) j ch u h)
         (every-remove short (vw .core .contents .particles) j (all-short b s e vw)) refl refl J n
-        (λ l. bag-trans bag (bag-trans (bag-cons _ (bag-eq gone)) (bag-trans (add-msg (wrapperOf b) (vw .c .side) (vw .c .table) (vw .C) (vw .D) (vw .core) (vw .core .lobby) msg (remove (vw .core .contents .particles) j)) (bag-eq (sym (vw .items-next q (vw .left) refl refl))))))
+        (λ l. bag-trans bag (bag-trans (bag-cons _ (bag-eq gone))
+        (bag-trans (add-msg (wrapperOf b) (vw .c .side) (vw .c .table) (vw .C) (vw .D) (vw .core) (vw .core .lobby) msg (remove (vw .core .contents .particles) j)) (bag-eq (sym (vw .items-next q (vw .left) refl refl))))))
         (λ l. by-17 (up-full refl (here-part g) not-shelf (full (leb 16 (length (vw .core .lobby))) refl l)))
       where
         msg : Message
@@ -128,7 +130,8 @@ module _ (b : Composition) (s : State) (e : ready b s ≡ true) where
     out-shelf g h bag =
         silent-met b s e vw ac v (up-step (vw .c .side) j) refl q (up-there (vw .c) (known s) (shelfOf s) (vw .core) j 0 ch u g ∙ to-shelf (vw .c) (vw .core) j ch u h)
         (every-remove short (vw .core .contents .particles) j (all-short b s e vw)) refl refl J n
-        (λ l. bag-trans bag (bag-trans (bag-eq (ap₂ (λ (x : ℕ) (r : List (Item (Unit {0}))). item 0 (pout tt x (receivedChild (ownName (vw .c .side))) (valOf u)) ∷ r) (eqb-true ch 2 (snd _ _ h)) gone)) (vw .shelve q (vw .left) u refl refl (vw .free (room l)))))
+        (λ l. bag-trans bag (bag-trans
+        (bag-eq (ap₂ (λ (x : ℕ) (r : List (Item (Unit {0}))). item 0 (pout tt x (receivedChild (ownName (vw .c .side))) (valOf u)) ∷ r) (eqb-true ch 2 (snd _ _ h)) gone)) (vw .shelve q (vw .left) u refl refl (vw .free (room l)))))
         (λ l. by-17 (shelf-full refl (here-part g) is-shelf (full (leb 32 (length (vw .core .shelf))) refl l)))
       where
         q : Core
@@ -169,7 +172,8 @@ module _ (b : Composition) (s : State) (e : ready b s ≡ true) where
         go true h = out-shelf g h bag
         go false h = out-lobby g h bag
     rises (suc β) x g gx bag =
-        out-box β x g gx (subst (λ (t : Bool). Bag (ritems forget J) (item (cond t 0 (siteOf (vw .c .side) (x .parent))) (pout tt ch (receivedChild (cond t (ownName (vw .c .side)) (x .name))) (valOf u)) ∷ rest)) (ne-eqb (suc β) 0 (λ z. omega arith)) bag)
+        out-box β x g gx (subst
+        (λ (t : Bool). Bag (ritems forget J) (item (cond t 0 (siteOf (vw .c .side) (x .parent))) (pout tt ch (receivedChild (cond t (ownName (vw .c .side)) (x .name))) (valOf u)) ∷ rest)) (ne-eqb (suc β) 0 (λ z. omega arith)) bag)
 
   abbrev sel : ℕ → List (Proc Mark [])
   sel k = select (confOf b s .items) k
@@ -193,7 +197,8 @@ module _ (b : Composition) (s : State) (e : ready b s ≡ true) where
       go a n (shelved σ h X1 Y1 q ex ey) = absurd (not-shelved b s σ X1 Y1 (c .site) t x iparent u q)
       go a n (message vw ac j m g is gone put) = absurd (site-pos b s c has (site-eq is))
       go a n (particle vw ac j p g is gone put) =
-          let sp = sent-part (vw .c .table) (vw .checked) (counts s) (length (vw .core .contents .boxes)) (vw .c .side) j (c .site) t x (plain iparent) u p (get-every (wfParticle (vw .c .table) (counts s) (length (vw .core .contents .boxes))) (vw .core .contents .particles) j p (vw .ok .contents .particles) g) is in
+          let sp = sent-part (vw .c .table) (vw .checked) (counts s) (length (vw .core .contents .boxes)) (vw .c .side) j (c .site) t x (plain iparent) u p
+          (get-every (wfParticle (vw .c .table) (counts s) (length (vw .core .contents .boxes))) (vw .core .contents .particles) j p (vw .ok .contents .particles) g) is in
           let bx = box-of b s e vw ac c has (sp .place) (sp .site-is) in
           let cp : c .parent ≡ placeOf ids (vw .c .side) (sp .place) (bx .0) .parent = ap (λ (d : Place Mark). d .parent) (bx .2) in
           let cn : c .name ≡ placeOf ids (vw .c .side) (sp .place) (bx .0) .name = ap (λ (d : Place Mark). d .name) (bx .2) in

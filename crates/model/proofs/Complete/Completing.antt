@@ -119,7 +119,8 @@ received (pout t x o v) u = none
 received (pinp m t x i p P) u = on-some (λ (σ : Vars p → Val ℕ). after m t x i p P σ) (match p u)
 
 -- what a forwarder is after a value has come to it: it stays, and sends the value on
-pub forwarded : (P : Proc Mark []) (t : Mark) (x : ℕ) (i : ITag ℕ) (z : ℕ) (o : ITag ℕ) → P ≡ forward [] t inert x i z o → (v : Val ℕ) (Q : Proc Mark []) → received P v ≡ some Q → Q ≡ ppar (forward [] t inert x i z o) (pout inert z (plain o) v)
+pub forwarded : (P : Proc Mark []) (t : Mark) (x : ℕ) (i : ITag ℕ) (z : ℕ) (o : ITag ℕ) → P ≡ forward [] t inert x i z o → (v : Val ℕ) (Q : Proc Mark []) → received P v ≡ some Q →
+    Q ≡ ppar (forward [] t inert x i z o) (pout inert z (plain o) v)
 unfolding sub
 forwarded P t x i z o e v Q r = some-inj (sym r ∙ ap (λ (A : Proc Mark []). received A v) e ∙ go o)
   where

@@ -66,7 +66,8 @@ look-any (m ∷ ns) x d h = look-any ns x (cond (eqb m x) (0 ∷ []) d) (go (eqb
     go false q (inr k) = inr k
 
 back-pat : (ρ : Env) (s : Scope) (π : CEnv s) (p : List ℕ) → items isPatternLeaf 5 p 1 ≡ done [] → Sized ρ → NamesBack ρ s π → NamesBack (extend ρ (binders p) (anyNames (binders p))) (shape (patOf p) ∷ s) (underPat (patOf p) π)
-back-pat ρ s π p ip l h x pu e = subst (λ (v : List ℕ). ltb (getD v 0 0) 4000000 ≡ true) (sym (look-append (ρ .names) (ρ .vals) (binders p) (anyNames (binders p)) x (x ∷ []) l)) (look-any (binders p) x (value ρ x) (go (find (patOf p) x) (find-has p x ip) e))
+back-pat ρ s π p ip l h x pu e = subst (λ (v : List ℕ). ltb (getD v 0 0) 4000000 ≡ true) (sym (look-append (ρ .names) (ρ .vals) (binders p) (anyNames (binders p)) x (x ∷ []) l))
+    (look-any (binders p) x (value ρ x) (go (find (patOf p) x) (find-has p x ip) e))
   where
     go : {B : Type 0} (o : Option B) → isSome o ≡ has x (binders p) → IsName (boundOr o (π x)) → (has x (binders p) ≡ true) ⊎ (ltb (getD (value ρ x) 0 0) 4000000 ≡ true)
     go (some b) q n = inl (sym q)

@@ -128,7 +128,8 @@ module _ (w : Wrapper) (side : ℕ) (T : Table) (C D : List (Item Mark)) (s : Co
       third (in-second X3 p q) =
           let r = numbered-at forget (partItem ids T side) (plainP T side) (plain-part T side) 0 (s .contents .particles) X3 i X2 p in
           let xs : ritems forget X ≡ ritems forget C ++ (map (plainM w side) (s .lobby) ++ ritems forget X3) =
-          ap (ritems forget) (ex ∙ ap (λ (z : List (Item Mark)). C ++ z) q) ∙ ritems-app forget C (L ++ X3) ∙ ap (λ (z : List (Item (Unit {0}))). ritems forget C ++ z) (ritems-app forget L X3 ∙ ap (λ (z : List (Item (Unit {0}))). z ++ ritems forget X3) L°) in
+          ap (ritems forget) (ex ∙ ap (λ (z : List (Item Mark)). C ++ z) q) ∙ ritems-app forget C (L ++ X3)
+          ∙ ap (λ (z : List (Item (Unit {0}))). ritems forget C ++ z) (ritems-app forget L X3 ∙ ap (λ (z : List (Item (Unit {0}))). z ++ ritems forget X3) L°) in
           let ys : ritems forget Y ≡ ritems forget X2 ++ ritems forget D = ap (ritems forget) ey ∙ ritems-app forget X2 D in
           particle (r .j) (r .x) (r .get) (r .is ∙ ap (λ (n : ℕ). partItem ids T side n (r .x)) (omega arith))
           (ap₂ (λ (a c : List (Item (Unit {0}))). a ++ c) xs ys ∙ shuffle-p (ritems forget C) (map (plainM w side) (s .lobby)) (ritems forget X3) (ritems forget X2) (ritems forget D)
@@ -152,11 +153,13 @@ module _ {M : Type 0} (bs : List (Place M)) (I : List (Item M)) where
   one-changed b i P Q a = fill-cong bs (upd content b (parallel (set (select I b) i Q))) (at (a .X ++ item b Q ∷ a .Y)) (λ k. go k (eqb k b) refl)
     where
       go : (k : ℕ) (c : Bool) → eqb k b ≡ c → upd content b (parallel (set (select I b) i Q)) k ≋ at (a .X ++ item b Q ∷ a .Y) k
-      go k true q = subst₂ (λ (Y Z : Proc M []). Y ≋ Z) (sym (upd-same content b k (parallel (set (select I b) i Q)) q)) (ap (λ (z : ℕ). at (a .X ++ item b Q ∷ a .Y) z) (sym (eqb-true q))) (subst (λ (l : List (Proc M [])). parallel l ≋ at (a .X ++ item b Q ∷ a .Y) b) (sym (a .put Q)) rfl)
+      go k true q = subst₂ (λ (Y Z : Proc M []). Y ≋ Z) (sym (upd-same content b k (parallel (set (select I b) i Q)) q)) (ap (λ (z : ℕ). at (a .X ++ item b Q ∷ a .Y) z) (sym (eqb-true q)))
+          (subst (λ (l : List (Proc M [])). parallel l ≋ at (a .X ++ item b Q ∷ a .Y) b) (sym (a .put Q)) rfl)
       go k false q = subst₂ (λ (Y Z : Proc M []). Y ≋ Z) (sym (upd-other content b k (parallel (set (select I b) i Q)) q)) (ap parallel (off (a .X) (a .Y) b k P Q (a .is) q)) rfl
 
   -- one item changed, and another added at another site
-  pub one-moved : (b c i : ℕ) (P Q R : Proc M []) (a : ItemAt I b i P) → eqb c b ≡ false → eqb b c ≡ false → fill bs (upd (upd content b (parallel (set (select I b) i Q))) c (ppar R (content c))) ≋ fill bs (at (item c R ∷ (a .X ++ item b Q ∷ a .Y)))
+  pub one-moved : (b c i : ℕ) (P Q R : Proc M []) (a : ItemAt I b i P) → eqb c b ≡ false → eqb b c ≡ false →
+      fill bs (upd (upd content b (parallel (set (select I b) i Q))) c (ppar R (content c))) ≋ fill bs (at (item c R ∷ (a .X ++ item b Q ∷ a .Y)))
   one-moved b c i P Q R a n n' = fill-cong bs F (at (item c R ∷ (a .X ++ item b Q ∷ a .Y))) (λ k. go k (eqb k c) refl (eqb k b) refl)
     where
       F : ℕ → Proc M []
@@ -167,9 +170,12 @@ module _ {M : Type 0} (bs : List (Place M)) (I : List (Item M)) where
 
       go : (k : ℕ) (t : Bool) → eqb k c ≡ t → (u : Bool) → eqb k b ≡ u → F k ≋ at (item c R ∷ Z) k
       go k true q u r = subst₂ (λ (Y1 Y2 : Proc M []). Y1 ≋ Y2) (sym (upd-same (upd content b (parallel (set (select I b) i Q))) c k (ppar R (content c)) q))
-          (ap (λ (t : Bool). parallel (cond t (R ∷ select Z k) (select Z k))) (sym q)) (in-par rfl (subst₂ (λ (Y1 Y2 : Proc M []). Y1 ≋ Y2) (ap content (eqb-true q)) refl (subst (λ (l : List (Proc M [])). content k ≋ parallel l) (off (a .X) (a .Y) b k P Q (a .is) (subst (λ (z : ℕ). eqb z b ≡ false) (sym (eqb-true q)) n)) rfl)))
+          (ap (λ (t : Bool). parallel (cond t (R ∷ select Z k) (select Z k))) (sym q))
+          (in-par rfl (subst₂ (λ (Y1 Y2 : Proc M []). Y1 ≋ Y2) (ap content (eqb-true q)) refl
+          (subst (λ (l : List (Proc M [])). content k ≋ parallel l) (off (a .X) (a .Y) b k P Q (a .is) (subst (λ (z : ℕ). eqb z b ≡ false) (sym (eqb-true q)) n)) rfl)))
       go k false q true r = subst₂ (λ (Y1 Y2 : Proc M []). Y1 ≋ Y2) (sym (upd-other (upd content b (parallel (set (select I b) i Q))) c k (ppar R (content c)) q ∙ upd-same content b k (parallel (set (select I b) i Q)) r))
-          (ap (λ (t : Bool). parallel (cond t (R ∷ select Z k) (select Z k))) (sym q)) (subst (λ (z : ℕ). parallel (set (select I b) i Q) ≋ parallel (select Z z)) (sym (eqb-true r)) (subst (λ (l : List (Proc M [])). parallel l ≋ parallel (select Z b)) (sym (a .put Q)) rfl))
+          (ap (λ (t : Bool). parallel (cond t (R ∷ select Z k) (select Z k))) (sym q))
+          (subst (λ (z : ℕ). parallel (set (select I b) i Q) ≋ parallel (select Z z)) (sym (eqb-true r)) (subst (λ (l : List (Proc M [])). parallel l ≋ parallel (select Z b)) (sym (a .put Q)) rfl))
       go k false q false r = subst₂ (λ (Y1 Y2 : Proc M []). Y1 ≋ Y2) (sym (upd-other (upd content b (parallel (set (select I b) i Q))) c k (ppar R (content c)) q ∙ upd-other content b k (parallel (set (select I b) i Q)) r))
           (ap (λ (t : Bool). parallel (cond t (R ∷ select Z k) (select Z k))) (sym q)) (subst (λ (l : List (Proc M [])). content k ≋ parallel l) (off (a .X) (a .Y) b k P Q (a .is) r) rfl)
 

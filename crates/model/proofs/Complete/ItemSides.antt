@@ -24,7 +24,8 @@ use Rattle.model.specs.Side.{State, side, Box, Particle, output, input, 
 use Rattle.model.specs.Load.{Composition, wrapperOf}
 use Rattle.model.specs.WellFormed.{Counts, counts, wfParticle, envAt, shelfOf, ready}
 use Rattle.model.specs.Step.{short, Result, Step, Moved, silent, Answer, labelled, refusal, settled, local, step, known, silently}
-use Rattle.model.specs.Process.{Mark, part, boxed, lobby, ownName, siteOf, valOf, codeOf, envOf, tagOut, confAs, confOf, newOf, knownOf, isGone, partItem, shelfItem, shelfItems, enters, passes, takes, forwarders, placeOf, placesOf, allPlaces}
+use Rattle.model.specs.Process.{Mark, part, boxed, lobby, ownName, siteOf, valOf, codeOf, envOf, tagOut, confAs, confOf, newOf, knownOf, isGone, partItem, shelfItem, shelfItems, enters, passes}
+use Rattle.model.specs.Process.{takes, forwarders, placeOf, placesOf, allPlaces}
 use Rattle.model.specs.Agreement.{plainly, At, asks-tau, Says, says-tau, Met, Excused, answerSide}
 use Rattle.calculus.proofs.Trees.{Has, here, there}
 use Rattle.calculus.proofs.Restriction.{RestrictInv}

@@ -54,7 +54,8 @@ module _ (ρ : Env) (π : ℕ → Val ℕ) (h : Lengths ρ π) where
       go true a true b f g = absurd (false≢true (sym (tuple-not-public w b) ∙ a))
       go true a false b f g =
           ap (λ (t : Bool). length (cond t (value ρ w) (w ∷ []) ++ substitute ρ ws)) a ∙ length-append (value ρ w) (substitute ρ ws)
-          ∙ ap₂ (λ (x y : ℕ). x + y) (h w a) (f (sym (items-leaf isPublic 5 w ws n a) ∙ e)) ∙ sym (length-append (vwords (π w)) (vswords (vsubs (reads ws n) π))) ∙ sym (ap (λ (x : Vals ℕ). length (vswords (vsubs x π))) (reads-name w ws n b))
+          ∙ ap₂ (λ (x y : ℕ). x + y) (h w a) (f (sym (items-leaf isPublic 5 w ws n a) ∙ e)) ∙ sym (length-append (vwords (π w)) (vswords (vsubs (reads ws n) π)))
+          ∙ sym (ap (λ (x : Vals ℕ). length (vswords (vsubs x π))) (reads-name w ws n b))
       go false a true b f g =
           let W = reads ws (arity w + n) in
           ap (λ (t : Bool). length (cond t (value ρ w) (w ∷ []) ++ substitute ρ ws)) a
@@ -72,7 +73,8 @@ module _ (ρ : Env) (π : ℕ → Val ℕ) (h : Lengths ρ π) where
       go (vcons v (vcons u vs)) q = absurd (omega arith)
 
 -- no long output in the handler: none among the particles
-pub short-unless-long : {t : Table} {σ : List ℕ} {a : Term} → Sits t σ a → (ρ : Env) (π : ℕ → Val ℕ) → Sized ρ → Lengths ρ π → (i b : ℕ) (s : Contents) → every short (s .particles) ≡ true → long (codeOf a) π ≡ false → every short (unfolds i a ρ b s .particles) ≡ true
+pub short-unless-long : {t : Table} {σ : List ℕ} {a : Term} → Sits t σ a → (ρ : Env) (π : ℕ → Val ℕ) → Sized ρ → Lengths ρ π → (i b : ℕ) (s : Contents) → every short (s .particles) ≡ true →
+    long (codeOf a) π ≡ false → every short (unfolds i a ρ b s .particles) ≡ true
 unfolding unfolds codeOf
 short-unless-long s-nil ρ π l h i b s e q = e
 short-unless-long (s-par {a = x} {b = y} p r) ρ π l h i b s e q =
@@ -80,7 +82,8 @@ short-unless-long (s-par {a = x} {b = y} p r) ρ π l h i b s e q =
     short-unless-long r ρ π l h i b (unfolds i x ρ b s) (short-unless-long p ρ π l h i b s e (o .0)) (o .1)
 short-unless-long (s-box {x = x} px p) ρ π l h i b s e q = short-unless-long p ρ π l h i (length (s .boxes)) (addBox s (word ρ x) b) e q
 short-unless-long (s-new {x = x} pn p) ρ π l h i b s e q =
-    short-unless-long p (extend ρ (x ∷ []) (((65536 * i + s .minted) ∷ []) ∷ [])) (withPat (named x) (λ z. nm 0) π) (sized-extend ρ (x ∷ []) (((65536 * i + s .minted) ∷ []) ∷ []) refl l) (lengths-new ρ π x (65536 * i + s .minted) l h) i b (mint s) e q
+    short-unless-long p (extend ρ (x ∷ []) (((65536 * i + s .minted) ∷ []) ∷ [])) (withPat (named x) (λ z. nm 0) π) (sized-extend ρ (x ∷ []) (((65536 * i + s .minted) ∷ []) ∷ []) refl l)
+    (lengths-new ρ π x (65536 * i + s .minted) l h) i b (mint s) e q
 short-unless-long (s-out {c = c} {g = g} {v = v} pc pg iv lv) ρ π l h i b s e q =
     every-append short (s .particles) (output b (word ρ c) (tagOf ρ g) (substitute ρ v) ∷ []) e (every-one short (output b (word ρ c) (tagOf ρ g) (substitute ρ v))
     (let z = ltb-false 16 (length (vwords (vsub (valOf v) π))) q in le-leb (length (substitute ρ v)) 16 (omega (arith, z, value-length ρ π h v iv))))

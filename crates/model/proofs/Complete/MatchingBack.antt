@@ -55,7 +55,8 @@ Matches p n v = (fit : Fit) × (matches p n v ≡ done fit)
 abbrev Back : List ℕ → Type 0
 Back p = (n : ℕ) (v : List ℕ) → Fits (readsP p n) (reads v n) → items isPatternLeaf 5 p n ≡ done [] → items isName 11 v n ≡ done [] → Matches p n v
 
-back-tuple : (p : ℕ) (ps : List ℕ) → Back ps → isTuple p ≡ true → (n : ℕ) (v : List ℕ) → Fits (readsP (p ∷ ps) (suc n)) (reads v (suc n)) → items isPatternLeaf 5 (p ∷ ps) (suc n) ≡ done [] → items isName 11 v (suc n) ≡ done [] → Matches (p ∷ ps) (suc n) v
+back-tuple : (p : ℕ) (ps : List ℕ) → Back ps → isTuple p ≡ true → (n : ℕ) (v : List ℕ) → Fits (readsP (p ∷ ps) (suc n)) (reads v (suc n)) → items isPatternLeaf 5 (p ∷ ps) (suc n) ≡ done [] →
+    items isName 11 v (suc n) ≡ done [] → Matches (p ∷ ps) (suc n) v
 unfolding matches items
 back-tuple p ps ih t n [] e ip iv = absurd (clash iv)
 back-tuple p ps ih t n (w ∷ ws) e ip iv = go (isTuple w) refl
@@ -84,22 +85,26 @@ back-tuple p ps ih t n (w ∷ ws) e ip iv = go (isTuple w) refl
         let lp = leb-true 4000000 p (fst _ _ t) in
         let lw = leb-true 4000000 w (fst _ _ q) in
         let same : w ≡ p = omega (arith, c1, c2, c3, lp, lw) in
-        on same (fits-join (arity p) Q (reads ws (arity p + n)) (subst (λ (x : ℕ). Fits (firstP (arity p) Q) (firstV (arity x) (reads ws (arity x + n)))) same a) (subst (λ (x : ℕ). Fits (behindP (arity p) Q) (behindV (arity x) (reads ws (arity x + n)))) same b))
+        on same (fits-join (arity p) Q (reads ws (arity p + n)) (subst (λ (x : ℕ). Fits (firstP (arity p) Q) (firstV (arity x) (reads ws (arity x + n)))) same a)
+        (subst (λ (x : ℕ). Fits (behindP (arity p) Q) (behindV (arity x) (reads ws (arity x + n)))) same b))
         (subst (λ (x : ℕ). items isName 11 ws (arity x + n) ≡ done []) same iv′)
       where
         on : w ≡ p → Fits Q (reads ws (arity p + n)) → items isName 11 ws (arity p + n) ≡ done [] → Matches (p ∷ ps) (suc n) (w ∷ ws)
         on same f i = let r = ih (arity p + n) ws f ip′ i in (r .0, rw (t, eq-eqb w p same, matches) (r .1))
 
-back-other : (p : ℕ) (ps : List ℕ) → Back ps → isTuple p ≡ false → (n : ℕ) (v : List ℕ) → Fits (readsP (p ∷ ps) (suc n)) (reads v (suc n)) → items isPatternLeaf 5 (p ∷ ps) (suc n) ≡ done [] → items isName 11 v (suc n) ≡ done [] → Matches (p ∷ ps) (suc n) v
+back-other : (p : ℕ) (ps : List ℕ) → Back ps → isTuple p ≡ false → (n : ℕ) (v : List ℕ) → Fits (readsP (p ∷ ps) (suc n)) (reads v (suc n)) → items isPatternLeaf 5 (p ∷ ps) (suc n) ≡ done [] →
+    items isName 11 v (suc n) ≡ done [] → Matches (p ∷ ps) (suc n) v
 unfolding matches bind
-back-other p ps ih t n v e ip iv = let fr = first-rest v n iv in go (isPublic p) refl (fr .2) (leafy (isPatternLeaf p) refl) (subst (λ (x : Vals ℕ). Fits (readsP (p ∷ ps) (suc n)) x) (ap (λ (x : List ℕ). reads x (suc n)) (fr .0) ∙ value-front (firstOf v) (restOf v) n (fr .1)) e)
+back-other p ps ih t n v e ip iv = let fr = first-rest v n iv in
+    go (isPublic p) refl (fr .2) (leafy (isPatternLeaf p) refl) (subst (λ (x : Vals ℕ). Fits (readsP (p ∷ ps) (suc n)) x) (ap (λ (x : List ℕ). reads x (suc n)) (fr .0) ∙ value-front (firstOf v) (restOf v) n (fr .1)) e)
   where
     leafy : (b : Bool) → isPatternLeaf p ≡ b → items isPatternLeaf 5 ps n ≡ done []
     leafy true q = sym (items-leaf isPatternLeaf 5 p ps n q) ∙ ip
     leafy false q = absurd (clash (sym (items-bad isPatternLeaf 5 p ps n q t) ∙ ip))
 
     behind : (q : NPat) → isSome (match (shape q) (valOf (firstOf v))) ≡ true → Fits (pand q (readsP ps n)) (vcons (valOf (firstOf v)) (reads (restOf v) n)) → Fits (readsP ps n) (reads (restOf v) n)
-    behind q h f = and-right (isSome (match (shape q) (valOf (firstOf v)))) (isSome (cmatches (shapes (readsP ps n)) (reads (restOf v) n))) (sym (both-some (match (shape q) (valOf (firstOf v))) (cmatches (shapes (readsP ps n)) (reads (restOf v) n))) ∙ f)
+    behind q h f = and-right (isSome (match (shape q) (valOf (firstOf v)))) (isSome (cmatches (shapes (readsP ps n)) (reads (restOf v) n)))
+        (sym (both-some (match (shape q) (valOf (firstOf v))) (cmatches (shapes (readsP ps n)) (reads (restOf v) n))) ∙ f)
 
     go : (b : Bool) → isPublic p ≡ b → items isName 11 (restOf v) n ≡ done [] → items isPatternLeaf 5 ps n ≡ done [] → Fits (readsP (p ∷ ps) (suc n)) (vcons (valOf (firstOf v)) (reads (restOf v) n)) → Matches (p ∷ ps) (suc n) v
     go true q iv′ ip′ f =

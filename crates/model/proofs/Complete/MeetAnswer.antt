@@ -98,7 +98,8 @@ module _ (b : Composition) (s : State) (e : ready b s ≡ true) (vw : View b s) 
   parts = vw .core .contents .particles
 
   module _ (i j β ch : ℕ) (g : STag) (v : List ℕ) (n : ℕ) (vs : List (List ℕ)) (gp : getElem? (vw .core .contents .particles) i ≡ some (output β ch g v)) (gq : getElem? (vw .core .contents .particles) j ≡ some (input β n vs))
-      (node : InputAt (vw .c .table) n) (wp : wfParticle (vw .c .table) (counts s) (length (vw .core .contents .boxes)) (output β ch g v) ≡ true) (wq : wfParticle (vw .c .table) (counts s) (length (vw .core .contents .boxes)) (input β n vs) ≡ true)
+      (node : InputAt (vw .c .table) n) (wp : wfParticle (vw .c .table) (counts s) (length (vw .core .contents .boxes)) (output β ch g v) ≡ true)
+      (wq : wfParticle (vw .c .table) (counts s) (length (vw .core .contents .boxes)) (input β n vs) ≡ true)
       (σ : Vars (shape (patOf (node .pat))) → Val ℕ) (fits : match (shape (patOf (node .pat))) (valOf v) ≡ some σ) (ok : InstOk (B0 b s e vw ori own reach i j β ch g v n vs gp gq node wp wq) σ)
       (ec : theName [] (envOf (envAt (vw .c .table) n vs) (node .chan)) ≡ ch) (et : comp (plain (ι b s e vw ori own reach i j β ch g v n vs gp gq node wp wq)) ≡ tagOut g) where
     abbrev ρ : Env
@@ -157,7 +158,8 @@ module _ (b : Composition) (s : State) (e : ready b s ≡ true) (vw : View b s) 
         ∙ ap (λ (t : Bool). need t 15 (done m)) ft
       where
         after-match : Fit → Res Moved
-        after-match f = need (defined (node .body) (extend ρ (binders (node .pat)) (f .bound))) 15 (done (record { label = silent; val = []; core = withContents (vw .core) (unfolds (vw .c .side) (node .body) (extend ρ (binders (node .pat)) (f .bound)) β (withParticles (vw .core .contents) p0)) }))
+        after-match f = need (defined (node .body) (extend ρ (binders (node .pat)) (f .bound))) 15
+            (done (record { label = silent; val = []; core = withContents (vw .core) (unfolds (vw .c .side) (node .body) (extend ρ (binders (node .pat)) (f .bound)) β (withParticles (vw .core .contents) p0)) }))
 
     meets-so : local (vw .c) (known s) (shelfOf s) (vw .core) (meet-step (vw .c .side) i j) ≡ done m
     unfolding local inner choose need meet meetParticles
@@ -178,8 +180,11 @@ module _ (b : Composition) (s : State) (e : ready b s ≡ true) (vw : View b s) 
     too-long q = go (long (codeOf (node .body)) (withPat (patOf (node .pat)) σ (envOf ρ))) refl
       where
         go : (c : Bool) → long (codeOf (node .body)) (withPat (patOf (node .pat)) σ (envOf ρ)) ≡ c → Excused b s (meet-step (vw .c .side) i j) tau 16
-        go true r = by-16 refl gp' gq' node' fits (is-T (long (codeOf (node .body)) (withPat (patOf (node .pat)) σ (envOf (envAt (table b (vw .c .side)) n vs)))) (ap (λ (t : Table). long (codeOf (node .body)) (withPat (patOf (node .pat)) σ (envOf (envAt t n vs)))) (ac .table-is) ∙ r))
-        go false r = absurd (false≢true (sym q ∙ short-unless-long (node .sits-body) ρ' (withPat (patOf (node .pat)) σ (envOf ρ)) sized-after (subst (Lengths ρ') env-after (env-lengths (counts s) ρ' vals-after)) (vw .c .side) β (withParticles (vw .core .contents) p0)
+        go true r = by-16 refl gp' gq' node' fits
+            (is-T (long (codeOf (node .body)) (withPat (patOf (node .pat)) σ (envOf (envAt (table b (vw .c .side)) n vs))))
+            (ap (λ (t : Table). long (codeOf (node .body)) (withPat (patOf (node .pat)) σ (envOf (envAt t n vs)))) (ac .table-is) ∙ r))
+        go false r = absurd (false≢true
+            (sym q ∙ short-unless-long (node .sits-body) ρ' (withPat (patOf (node .pat)) σ (envOf ρ)) sized-after (subst (Lengths ρ') env-after (env-lengths (counts s) ρ' vals-after)) (vw .c .side) β (withParticles (vw .core .contents) p0)
             (every-without short (node .again) parts i j (core-short (vw .c) (counts s) (vw .core) (vw .ok))) r))
 
     -- 17 has its cause
@@ -187,14 +192,16 @@ module _ (b : Composition) (s : State) (e : ready b s ≡ true) (vw : View b s) 
     unfolding limits
     too-many q = ⊎-elim
         (λ h. ⊎-elim (λ h. inside (inl (parts-over h))) (λ h. ⊎-elim (λ h. inside (inr (inl (boxes-over h)))) (λ h. inside (inr (inr (names-over h)))) (one-fails _ _ h)) (one-fails _ _ h))
-        (λ h. ⊎-elim (λ h. let l = leb-false (length (vw .core .lobby)) 16 h in absurd (omega (arith, l, vw .ok .few-lobby))) (λ h. let l = leb-false (length (vw .core .shelf)) 32 h in absurd (omega (arith, l, vw .ok .few-shelf))) (one-fails _ _ h))
+        (λ h. ⊎-elim (λ h. let l = leb-false (length (vw .core .lobby)) 16 h in absurd (omega (arith, l, vw .ok .few-lobby)))
+        (λ h. let l = leb-false (length (vw .core .shelf)) 32 h in absurd (omega (arith, l, vw .ok .few-shelf))) (one-fails _ _ h))
         (one-fails _ _ q)
       where
         ad : Added (node .body) (withParticles (vw .core .contents) p0) u
         ad = unfolds-adds (vw .c .side) (node .body) ρ' β (withParticles (vw .core .contents) p0)
 
         parts-over : leb (length (u .particles)) 32 ≡ false → 33 + 2 ≤ length parts + stays (node .again) + particlesIn (node .body)
-        parts-over h = let l = leb-false (length (u .particles)) 32 h in omega (arith, l, ad .particles, length-without (node .again) parts i j (get-length parts i (output β ch g v) gp) (get-length parts j (input β n vs) gq) (differ b s e vw ori own reach i j β ch g v β n vs gp gq))
+        parts-over h = let l = leb-false (length (u .particles)) 32 h in
+            omega (arith, l, ad .particles, length-without (node .again) parts i j (get-length parts i (output β ch g v) gp) (get-length parts j (input β n vs) gq) (differ b s e vw ori own reach i j β ch g v β n vs gp gq))
 
         boxes-over : leb (length (u .boxes)) 16 ≡ false → 17 ≤ length (vw .core .contents .boxes) + boxesIn (node .body)
         boxes-over h = let l = leb-false (length (u .boxes)) 16 h in omega (arith, l, ad .boxes)
@@ -202,8 +209,11 @@ module _ (b : Composition) (s : State) (e : ready b s ≡ true) (vw : View b s) 
         names-over : leb (u .minted) 256 ≡ false → 257 ≤ vw .core .contents .minted + newNamesIn (node .body)
         names-over h = let l = leb-false (u .minted) 256 h in omega (arith, l, ad .minted)
 
-        inside : (33 + 2 ≤ length parts + stays (node .again) + particlesIn (node .body)) ⊎ ((17 ≤ length (vw .core .contents .boxes) + boxesIn (node .body)) ⊎ (257 ≤ vw .core .contents .minted + newNamesIn (node .body))) → Over b s (meet-step (vw .c .side) i j)
-        inside h = meet-full refl gq' node' (subst (λ (c : Core). (33 + 2 ≤ length (c .contents .particles) + stays (node .again) + particlesIn (node .body)) ⊎ ((17 ≤ length (c .contents .boxes) + boxesIn (node .body)) ⊎ (257 ≤ c .contents .minted + newNamesIn (node .body)))) (sym (ac .core-is)) h)
+        inside : (33 + 2 ≤ length parts + stays (node .again) + particlesIn (node .body)) ⊎
+            ((17 ≤ length (vw .core .contents .boxes) + boxesIn (node .body)) ⊎ (257 ≤ vw .core .contents .minted + newNamesIn (node .body))) → Over b s (meet-step (vw .c .side) i j)
+        inside h = meet-full refl gq' node'
+            (subst (λ (c : Core). (33 + 2 ≤ length (c .contents .particles) + stays (node .again) + particlesIn (node .body)) ⊎
+            ((17 ≤ length (c .contents .boxes) + boxesIn (node .body)) ⊎ (257 ≤ c .contents .minted + newNamesIn (node .body)))) (sym (ac .core-is)) h)
 
     module _ (R : Proc Mark []) (vv : RestrictInv (newOf b s) (knownOf s) (fill (confOf b s .boxes) (at (confOf b s .items))) R tau (joint (part (vw .c .side) i) (part (vw .c .side) j)))
         (J : List (Item Mark)) (nx : fill (confOf b s .boxes) (at J) ≋ vv .next)
@@ -215,7 +225,8 @@ module _ (b : Composition) (s : State) (e : ready b s ≡ true) (vw : View b s) 
         label = subst (λ (r : Result). Says (wrapperOf b) (r .answer) tau) (sym there) says-tau;
         side = ap (λ (r : Result). answerSide (r .answer)) there;
         target = subst (λ (t : State). plainly (ren {r = []} R (vv .perm .to)) ≋ plainly (process (confOf b t))) (sym (ap (λ (r : Result). r .after) there))
-            (silent-leads b s e vv J nx (item (siteOf (vw .c .side) β) (proc [] tt (codeOf (node .body)) (envOf ρ')) ∷ target (wrapperOf b) (vw .c .side) (vw .c .table) (vw .C) (vw .D) (vw .core) (vw .core .lobby) p0) bag (vw .next k (vw .left))
+            (silent-leads b s e vv J nx
+            (item (siteOf (vw .c .side) β) (proc [] tt (codeOf (node .body)) (envOf ρ')) ∷ target (wrapperOf b) (vw .c .side) (vw .c .table) (vw .C) (vw .D) (vw .core) (vw .core .lobby) p0) bag (vw .next k (vw .left))
             (grown-cong b s e vw ori own [] tt (λ k. refl) (node .sits-body) ρ' refl sized-after vals-after ft β (lb b s e vw ori own reach i j β ch g v n vs gp gq node wp wq) p0
             (every-without (wfParticle Tb (counts s) (length (vw .core .contents .boxes))) (node .again) parts i j (vw .ok .contents .particles)) (leb-true (u .minted) 256 (snd _ _ (snd _ _ (fst _ _ li))))));
       }
@@ -231,7 +242,8 @@ module _ (b : Composition) (s : State) (e : ready b s ≡ true) (vw : View b s) 
       unfolding settled bind need
       answered = go (every short (u .particles)) refl (limits k) refl
         where
-          go : (x : Bool) → every short (u .particles) ≡ x → (y : Bool) → limits k ≡ y → Met b s tau R (meet-step (vw .c .side) i j) ⊎ ((c : ℕ) × (step b s (meet-step (vw .c .side) i j) .answer ≡ refusal c (vw .c .side)) × Excused b s (meet-step (vw .c .side) i j) tau c)
+          go : (x : Bool) → every short (u .particles) ≡ x → (y : Bool) → limits k ≡ y →
+              Met b s tau R (meet-step (vw .c .side) i j) ⊎ ((c : ℕ) × (step b s (meet-step (vw .c .side) i j) .answer ≡ refusal c (vw .c .side)) × Excused b s (meet-step (vw .c .side) i j) tau c)
           go true p true q = inl (met-here p q)
           go true p false q = inr (17, refused 17 (ap₂ (λ (x y : Bool). need x 16 (need y 17 (done m))) p q), by-17 (too-many q))
           go false p y q = inr (16, refused 16 (ap (λ (x : Bool). need x 16 (need (limits k) 17 (done m))) p), too-long p)

@@ -89,7 +89,8 @@ module _ {M : Type 0} (mk : Mark → M) where
   atoms-map f h (x ∷ l) = (h x, atoms-map f h l)
 
   forwarders-atoms : (w : Wrapper) → Atoms (forwarders mk w)
-  forwarders-atoms w = atoms-app (map (enters mk w) (w .sides)) _ (atoms-map (enters mk w) (λ n. tt) (w .sides)) (atoms-app (map (passes mk w) (w .sides)) _ (atoms-map (passes mk w) (λ n. tt) (w .sides)) (atoms-map (takes mk) (λ r. tt) (w .routes)))
+  forwarders-atoms w = atoms-app (map (enters mk w) (w .sides)) _ (atoms-map (enters mk w) (λ n. tt) (w .sides))
+      (atoms-app (map (passes mk w) (w .sides)) _ (atoms-map (passes mk w) (λ n. tt) (w .sides)) (atoms-map (takes mk) (λ r. tt) (w .routes)))
 
   atoms-by : (f : ℕ → List (Item M)) (ns : List ℕ) → ((n : ℕ) → has n ns ≡ true → Atoms (f n)) → Atoms (bySide f ns)
   atoms-by f [] h = tt
@@ -97,7 +98,9 @@ module _ {M : Type 0} (mk : Mark → M) where
 
   module _ (b : Composition) (s : State) (e : ready b s ≡ true) where
     parts-atoms : (n : ℕ) → hasSide (wrapperOf b) n ≡ true → Atoms (numbered (partItem mk (table b n) n) 0 (side s n .core .contents .particles))
-    parts-atoms n h = atoms-numbered (wfParticle (table b n) (counts s) (length (side s n .core .contents .boxes))) (partItem mk (table b n) n) (part-atom mk (All b s) (counts s) (held-in b s) (low-in b s 0 (omega arith)) (table b n) (checked-of b s e n h) (length (side s n .core .contents .boxes)) n) 0 (side s n .core .contents .particles) (side-ok b s e n h .contents .particles)
+    parts-atoms n h = atoms-numbered (wfParticle (table b n) (counts s) (length (side s n .core .contents .boxes))) (partItem mk (table b n) n)
+        (part-atom mk (All b s) (counts s) (held-in b s) (low-in b s 0 (omega arith)) (table b n) (checked-of b s e n h) (length (side s n .core .contents .boxes)) n) 0
+        (side s n .core .contents .particles) (side-ok b s e n h .contents .particles)
 
     pub items-atoms : Atoms (confAs mk b s .items)
     unfolding confAs
@@ -144,7 +147,8 @@ item-at {M} (x ∷ I) k i P e = go (eqb k (x .site)) refl i e (λ i e. item-at I
 pub target-of : {M : Type 0} {N A : List ℕ} {P R : Proc M []} {l : Label} {w : Participants M} (v : RestrictInv N A P R l w) → ren {r = []} R (v .perm .to) ≋ restrict (minus N (lnames (lren l (v .perm .to)))) (v .next)
 target-of {N = N} {R = R} {l = l} v =
     let Z = restrict (minus N (lnames (lren l (v .perm .to)))) (v .next) in
-    symm (subst (λ (X : Proc _ []). X ≋ ren {r = []} R (v .perm .to)) (ren-ren {q = []} [] Z (v .perm .back) (v .perm .to) ∙ ap (λ (f : ℕ → ℕ). ren {r = []} Z f) (fun-ext (v .perm .to-back)) ∙ ren-id Z) (cong-ren {r = []} (v .target) (v .perm .to)))
+    symm (subst (λ (X : Proc _ []). X ≋ ren {r = []} R (v .perm .to))
+    (ren-ren {q = []} [] Z (v .perm .back) (v .perm .to) ∙ ap (λ (f : ℕ → ℕ). ren {r = []} Z f) (fun-ext (v .perm .to-back)) ∙ ren-id Z) (cong-ren {r = []} (v .target) (v .perm .to)))
 
 abbrev pub rename-of : {M : Type 0} {N A : List ℕ} {P R : Proc M []} {l : Label} {w : Participants M} → RestrictInv N A P R l w → Rename A
 rename-of v = record { to = v .perm .to; back = v .perm .back; to-back = v .perm .to-back; back-to = v .perm .back-to; keeps = v .keeps }
@@ -162,15 +166,19 @@ module _ (b : Composition) (s : State) (e : ready b s ≡ true) where
   process-is = refl
 
   pub transitions : {l : Label} {w : Participants Mark} (R : Proc Mark []) → Trans (knownOf s) (process (confOf b s)) l w R
-      → (v : RestrictInv (newOf b s) (knownOf s) (fill (confOf b s .boxes) (λ k. parallel (sel k))) R l w) × Move (All b s) (confOf b s .boxes) sel (wf-all b s e) (atoms-at (confOf b s .items) (items-atoms ids b s e)) fn-sel (v .next) (lren l (v .perm .to)) w
-  transitions {l} {w} R d = term-moves (newOf b s) (knownOf s) (confOf b s .boxes) sel (wf-all b s e) (atoms-at (confOf b s .items) (items-atoms ids b s e)) fn-sel R (good-all b s e) (subst (λ (P : Proc Mark []). Trans (knownOf s) P l w R) process-is d)
+      → (v : RestrictInv (newOf b s) (knownOf s) (fill (confOf b s .boxes) (λ k. parallel (sel k))) R l w) × Move (All b s) (confOf b s .boxes) sel (wf-all b s e)
+      (atoms-at (confOf b s .items) (items-atoms ids b s e)) fn-sel (v .next) (lren l (v .perm .to)) w
+  transitions {l} {w} R d = term-moves (newOf b s) (knownOf s) (confOf b s .boxes) sel (wf-all b s e) (atoms-at (confOf b s .items) (items-atoms ids b s e)) fn-sel R (good-all b s e)
+      (subst (λ (P : Proc Mark []). Trans (knownOf s) P l w R) process-is d)
 
   -- a move that keeps the new names leads, renamed, to the state with its items
   pub kept-target : {l : Label} {w : Participants Mark} {R : Proc Mark []} (v : RestrictInv (newOf b s) (knownOf s) (fill (confOf b s .boxes) (λ k. parallel (sel k))) R l w) → minus (newOf b s) (lnames (lren l (v .perm .to))) ≡ newOf b s
-      → (J : List (Item Mark)) → fill (confOf b s .boxes) (at J) ≋ v .next → (s' : State) → newOf b s' ≡ newOf b s → confOf b s' .boxes ≡ confOf b s .boxes → Bag (ritems forget J) (ritems forget (confOf b s' .items)) → plainly (ren {r = []} R (v .perm .to)) ≋ plainly (process (confOf b s'))
+      → (J : List (Item Mark)) → fill (confOf b s .boxes) (at J) ≋ v .next → (s' : State) → newOf b s' ≡ newOf b s → confOf b s' .boxes ≡ confOf b s .boxes →
+      Bag (ritems forget J) (ritems forget (confOf b s' .items)) → plainly (ren {r = []} R (v .perm .to)) ≋ plainly (process (confOf b s'))
   kept-target {l} {w} {R} v em J n s' en eb h =
       trans (remark-cong forget (target-of v)) (trans (remark-cong forget (subst (λ (N : List ℕ). restrict N (v .next) ≋ restrict (newOf b s) (fill (confOf b s .boxes) (at J))) (sym em) (in-news (newOf b s) (symm n))))
-      (subst (λ (P : Proc Mark []). plainly (restrict (newOf b s) (fill (confOf b s .boxes) (at J))) ≋ plainly P) (ap₂ (λ (N : List ℕ) (B : List (Place Mark)). restrict N (fill B (at (confOf b s' .items)))) (sym en) (sym eb) ∙ sym (process-of b s'))
+      (subst (λ (P : Proc Mark []). plainly (restrict (newOf b s) (fill (confOf b s .boxes) (at J))) ≋ plainly P)
+      (ap₂ (λ (N : List ℕ) (B : List (Place Mark)). restrict N (fill B (at (confOf b s' .items)))) (sym en) (sym eb) ∙ sym (process-of b s'))
       (same-bags (newOf b s) (confOf b s .boxes) J (confOf b s' .items) h)))
 
   minus-nil : (N : List ℕ) → minus N [] ≡ N

@@ -202,7 +202,9 @@ module _ (w : Wrapper) (side : ℕ) (T : Table) (C D : List (Item Mark)) (s : Co
       N = numbered (partItem ids T side) 0 (s .contents .particles)
 
       x-is : (X3 : List (Item Mark)) → ritems forget (C ++ (L ++ X3)) ≡ ritems forget C ++ (map (plainM w side) (s .lobby) ++ ritems forget X3)
-      x-is X3 = ritems-app forget C (L ++ X3) ∙ ap (λ (a : List (Item (Unit {0}))). ritems forget C ++ a) (ritems-app forget L X3 ∙ ap (λ (a : List (Item (Unit {0}))). a ++ ritems forget X3) (numbered-map forget (msgItem ids w side) (plainM w side) (plain-msg w side) 0 (s .lobby)))
+      x-is X3 = ritems-app forget C (L ++ X3)
+          ∙ ap (λ (a : List (Item (Unit {0}))). ritems forget C ++ a)
+          (ritems-app forget L X3 ∙ ap (λ (a : List (Item (Unit {0}))). a ++ ritems forget X3) (numbered-map forget (msgItem ids w side) (plainM w side) (plain-msg w side) 0 (s .lobby)))
 
       fourth : (X3 Y4 : List (Item Mark)) → X ≡ C ++ (L ++ X3) → Z ≡ Y4 ++ D → N ≡ X3 ++ u ∷ (Y ++ v ∷ Y4) → TwoParts X u Y v Z
       fourth X3 Y4 ex ez en =
@@ -243,7 +245,8 @@ module _ (w : Wrapper) (side : ℕ) (T : Table) (C D : List (Item Mark)) (s : Co
       first (in-second X1 p q) = second X1 q (part-of (L ++ N) D X1 u (Y ++ v ∷ Z) p)
 
   -- the pair in the list of particles
-  abbrev pub pair-of : {X : List (Item Mark)} {u : Item Mark} {Y : List (Item Mark)} {v : Item Mark} {Z : List (Item Mark)} → whole w side T C D s ≡ X ++ u ∷ (Y ++ v ∷ Z) → (r : TwoParts X u Y v Z) → PairAt w side T C D s (r .i) (r .p) (r .j) (r .q)
+  abbrev pub pair-of : {X : List (Item Mark)} {u : Item Mark} {Y : List (Item Mark)} {v : Item Mark} {Z : List (Item Mark)} → whole w side T C D s ≡ X ++ u ∷ (Y ++ v ∷ Z) → (r : TwoParts X u Y v Z) →
+      PairAt w side T C D s (r .i) (r .p) (r .j) (r .q)
   pair-of {X} {u} {Y} {v} {Z} e r = record {
     X = X;
     Y = Y;

@@ -114,7 +114,8 @@ module _ (b : Composition) (s : State) (e : ready b s ≡ true) where
 pub data Sent (b : Composition) (s : State) (X : List (Item Mark)) (P : Proc Mark []) (Y : List (Item Mark)) : Type 0 where
   of-lobby : (vw : View b s) → Answers b s vw → (j : ℕ) (m : Message) → getElem? (vw .core .lobby) j ≡ some m → item 0 P ≡ msgItem ids (wrapperOf b) (vw .c .side) j m
       → ritems forget X ++ ritems forget Y ≡ target (wrapperOf b) (vw .c .side) (vw .c .table) (vw .C) (vw .D) (vw .core) (remove (vw .core .lobby) j) (vw .core .contents .particles)
-      → ((n : Message) → ritems forget X ++ plainM (wrapperOf b) (vw .c .side) n ∷ ritems forget Y ≡ target (wrapperOf b) (vw .c .side) (vw .c .table) (vw .C) (vw .D) (vw .core) (set (vw .core .lobby) j n) (vw .core .contents .particles)) → Sent b s X P Y
+      → ((n : Message) → ritems forget X ++ plainM (wrapperOf b) (vw .c .side) n ∷ ritems forget Y ≡ target (wrapperOf b) (vw .c .side) (vw .c .table) (vw .C) (vw .D) (vw .core)
+      (set (vw .core .lobby) j n) (vw .core .contents .particles)) → Sent b s X P Y
   of-shelf : (n : ℕ) (h : hasSide (wrapperOf b) n ≡ true) (X1 Y1 : List (Item Mark)) → shelfOn b s n ≡ X1 ++ item 0 P ∷ Y1
       → X ≡ forwarders ids (wrapperOf b) ++ (bySide (shelfOn b s) (at-side b s n h .X) ++ X1)
       → Y ≡ Y1 ++ (bySide (shelfOn b s) (at-side b s n h .Y) ++ bySide (ownOf b s) (wrapperOf b .sides)) → Sent b s X P Y

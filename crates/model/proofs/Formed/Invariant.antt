@@ -112,7 +112,13 @@ module _ (c : Setting) (k : Counts) (s : Core) (o : CoreOk c k s) (ch : Checked 
       took (r, p, q) =
           let t = takes-keeps c k s o (r .source) (sh (r .source)) (hs (r .source)) (x .i) m q lim in
           let g = takes-shelf (r .source) (sh (r .source)) s (x .i) m q in
-          record { more = omega (arith, t .1); ok = λ k′ le mi. core-mono c k k′ le (m .core) (t .0); shelf = omega (arith, ap length g); said = t .4; taken = inr (r, x .i, ap (λ (j : ℕ). routeTo (c .wrapper .routes) (c .side) j) (route-j (c .wrapper .routes) (c .side) (x .j) r p) ∙ p, t .3, t .2) }
+          record {
+            more = omega (arith, t .1);
+            ok = λ k′ le mi. core-mono c k k′ le (m .core) (t .0);
+            shelf = omega (arith, ap length g);
+            said = t .4;
+            taken = inr (r, x .i, ap (λ (j : ℕ). routeTo (c .wrapper .routes) (c .side) j) (route-j (c .wrapper .routes) (c .side) (x .j) r p) ∙ p, t .3, t .2);
+          }
 
 -- THE MARKS
 left-get : (k : Counts) (l : List Bool) (i j : ℕ) → wfLeft k i l ≡ true → getD l j false ≡ true → ltb ((i + j) % 256) (countOf k (suc ((i + j) / 256))) ≡ true
@@ -208,7 +214,8 @@ which w n h = go (eqb w 1) (eqb w 2) h
     go false false h = absurd (false≢true h)
 
 pub positive : (n : ℕ) → has n allSides ≡ true → (1 ≤ n) × (n ≤ 2)
-positive n h = ⊎-elim (λ q. let z = eqb-true n 1 q in (omega arith, omega arith)) (λ p. ⊎-elim (λ q. let z = eqb-true n 2 q in (omega arith, omega arith)) (λ q. absurd (false≢true q)) (or-cases (eqb n 2) false p)) (or-cases (eqb n 1) (has n (2 ∷ [])) h)
+positive n h = ⊎-elim (λ q. let z = eqb-true n 1 q in (omega arith, omega arith))
+    (λ p. ⊎-elim (λ q. let z = eqb-true n 2 q in (omega arith, omega arith)) (λ q. absurd (false≢true q)) (or-cases (eqb n 2) false p)) (or-cases (eqb n 1) (has n (2 ∷ [])) h)
 
 pub has-every : (f : ℕ → Bool) (l : List ℕ) (n : ℕ) → every f l ≡ true → has n l ≡ true → f n ≡ true
 has-every f [] n e h = absurd (false≢true h)
@@ -246,7 +253,8 @@ unfolding loadSides choose
 load-walk b n h [] s e q = absurd (false≢true q)
 load-walk b n h (m ∷ ns) s e q = go (choose (hasSide (wrapperOf b) m) (sideFault m (table b m)) (lackFault (table b m))) refl (λ z. load-walk b n h ns s z)
   where
-    go : (r : Res Fault) → choose (hasSide (wrapperOf b) m) (sideFault m (table b m)) (lackFault (table b m)) ≡ r → (isOk (loadSides b ns (ok s)) ≡ true → has n ns ≡ true → Checked (table b n) × (withinLimits (start n (table b n)) ≡ true)) → Checked (table b n) × (withinLimits (start n (table b n)) ≡ true)
+    go : (r : Res Fault) → choose (hasSide (wrapperOf b) m) (sideFault m (table b m)) (lackFault (table b m)) ≡ r →
+        (isOk (loadSides b ns (ok s)) ≡ true → has n ns ≡ true → Checked (table b n) × (withinLimits (start n (table b n)) ≡ true)) → Checked (table b n) × (withinLimits (start n (table b n)) ≡ true)
     go (done f) p ih = absurd (false≢true (rw (p, loadSides) at e))
     go (refuse k) p ih = ⊎-elim (λ z. let y = eqb-true n m z in side-faultless n (table b n) k (rw (← y, h) at p)) (λ z. ih (rw (p, loadSides) at e) z) (or-cases (eqb n m) (has n ns) q)
 
@@ -334,7 +342,8 @@ side-mono c k k′ sh sh′ le ls s h =
     (both _ _ (both _ _ (fst _ _ lf) (wfLeft-mono k k′ le (s .left) 0 (snd _ _ lf))) (both _ _ (fst _ _ tk) (taken-more _ sh sh′ ls 0 (s .core .taken) (snd _ _ tk))))
 
 -- A SIDE after its own step
-side-after : (c : Setting) (k k′ : Counts) (sh sh′ : ℕ → List (List ℕ)) → Le k k′ → ((n : ℕ) → length (sh n) ≤ length (sh′ n)) → (s : Side) (o : CoreOk c k (s .core)) (ch : Checked (c .table)) (w : has (c .side) allSides ≡ true) (m : Moved) →
+side-after : (c : Setting) (k k′ : Counts) (sh sh′ : ℕ → List (List ℕ)) → Le k k′ → ((n : ℕ) → length (sh n) ≤ length (sh′ n)) →
+    (s : Side) (o : CoreOk c k (s .core)) (ch : Checked (c .table)) (w : has (c .side) allSides ≡ true) (m : Moved) →
     LocalKept c k (s .core) o ch w sh m → mine c k′ ≡ m .core .contents .minted → ((n i : ℕ) → i < length (sh n) → (1 ≤ n) × (i < 32)) → wfSide c k sh s ≡ true → wfSide c k′ sh′ (sideAfter s (done m)) ≡ true
 unfolding wfSide
 side-after c k k′ sh sh′ le ls s o ch w m kp mi in-range h =
@@ -436,7 +445,8 @@ module _ (b : Composition) (s : State) (e : ready b s ≡ true) where
       LocalKept (setting b n) (counts s) (side s n .core) (side-ok b s e n h) (load-checked b (loaded b s e) n h .0) (which (b .wrapper) n h) (shelfOf s) m
   side-keeps n h x m p =
       let st = settled-done _ m p in
-      local-keeps (setting b n) (counts s) (side s n .core) (side-ok b s e n h) (load-checked b (loaded b s e) n h .0) (which (b .wrapper) n h) (known s) (known-held b s e) (shelfOf s) (shelves-held b s e) x m (st .is) (st .short-outputs) (st .few)
+      local-keeps (setting b n) (counts s) (side s n .core) (side-ok b s e n h) (load-checked b (loaded b s e) n h .0) (which (b .wrapper) n h) (known s) (known-held b s e) (shelfOf s)
+      (shelves-held b s e) x m (st .is) (st .short-outputs) (st .few)
 
   -- a state with a side put anew that has grown
   module _ (n : ℕ) (h : hasSide (wrapperOf b) n ≡ true) (o : Side) (more : side s n .core .contents .minted ≤ o .core .contents .minted) (longer : length (side s n .core .shelf) ≤ length (o .core .shelf)) where
@@ -459,7 +469,8 @@ module _ (b : Composition) (s : State) (e : ready b s ≡ true) where
     unfolding ready wfState wfSideOf
     put-ready w = both _ _ (loaded b s e) (both _ _ (rw (put-size s n o) (fst _ _ (wf b s e))) (every-has (wfSideOf b (putSide s n o)) allSides (λ k q. each k q)))
       where
-        others : (k : ℕ) (t : Bool) → cond t (wfSide (setting b k) (counts s) (shelfOf s) (side s k)) (isNoSide (side s k)) ≡ true → cond t (wfSide (setting b k) (counts (putSide s n o)) (shelfOf (putSide s n o)) (side s k)) (isNoSide (side s k)) ≡ true
+        others : (k : ℕ) (t : Bool) → cond t (wfSide (setting b k) (counts s) (shelfOf s) (side s k)) (isNoSide (side s k)) ≡ true →
+            cond t (wfSide (setting b k) (counts (putSide s n o)) (shelfOf (putSide s n o)) (side s k)) (isNoSide (side s k)) ≡ true
         others k true q = side-mono (setting b k) (counts s) (counts (putSide s n o)) (shelfOf s) (shelfOf (putSide s n o)) put-counts put-shelves (side s k) q
         others k false q = q
 

@@ -267,7 +267,8 @@ module _ (c : Setting) (k : Counts) (s : Core) (o : CoreOk c k s) where
             ok = record {
               contents = gone .contents;
               few-lobby = few-lobby-of _ (at-limits (a .1) lim);
-              lobby = every-append _ (s .lobby) (record { status = arrived; chan = ch; val = v } ∷ []) (o .lobby) (every-one (wfMessage (shelves (c .wrapper) (c .side)) k) (record { status = arrived; chan = ch; val = v }) (both _ _ val (both _ _ hc (not-both _ _ (a .0)))));
+              lobby = every-append _ (s .lobby) (record { status = arrived; chan = ch; val = v } ∷ []) (o .lobby)
+                  (every-one (wfMessage (shelves (c .wrapper) (c .side)) k) (record { status = arrived; chan = ch; val = v }) (both _ _ val (both _ _ hc (not-both _ _ (a .0)))));
               few-shelf = o .few-shelf;
               shelf = o .shelf;
               whose = o .whose;

@@ -90,7 +90,8 @@ module _ (c : Setting) (k : Counts) (s : Core) (o : CoreOk c k s) (ch : Checked 
       (record {
         boxes = wfBoxes-mono k k′ le (s .contents .boxes) 0 (o .contents .boxes);
         particles = every-without (loose (c .table) k′ (length (s .contents .boxes))) again (s .contents .particles) i j
-            (every-mono _ _ (λ q h. loosen (c .table) k′ (length (s .contents .boxes)) q (wfPart-mono k k′ le (c .table) (length (s .contents .boxes)) (length (s .contents .boxes)) (omega arith) q h)) (s .contents .particles) (o .contents .particles));
+            (every-mono _ _ (λ q h. loosen (c .table) k′ (length (s .contents .boxes)) q (wfPart-mono k k′ le (c .table) (length (s .contents .boxes)) (length (s .contents .boxes)) (omega arith) q h))
+            (s .contents .particles) (o .contents .particles));
       })
       (omega arith) in
       subst (λ (z : Moved). Kept′ c k s z) (done-inj e)
@@ -98,7 +99,12 @@ module _ (c : Setting) (k : Counts) (s : Core) (o : CoreOk c k s) (ch : Checked 
         more = gr .0;
         ok = λ k′ le mi. (let f = fit k′ le mi in let old = core-mono c k k′ le s o in
             record {
-              contents = record { few = roomy-of (withContents s u) lim′; box0 = omega (arith, gr .1, o .contents .box0); boxes = f .boxes; particles = every-two _ _ _ (tight (c .table) k′ (length (u .boxes))) (u .particles) (f .particles) sh′ };
+              contents = record {
+                few = roomy-of (withContents s u) lim′;
+                box0 = omega (arith, gr .1, o .contents .box0);
+                boxes = f .boxes;
+                particles = every-two _ _ _ (tight (c .table) k′ (length (u .boxes))) (u .particles) (f .particles) sh′;
+              };
               few-lobby = old .few-lobby;
               lobby = old .lobby;
               few-shelf = old .few-shelf;

@@ -16,7 +16,8 @@ use Rattle.model.specs.Side.{State, Core, Box, Particle, output, input, 
 use Rattle.model.specs.Unfolding.{defined, tagOf}
 use Rattle.model.specs.Load.{Composition, wrapperOf, table, Setting, setting, start, Loaded, refused, ok, sideFault, lackFault, loadSides, load}
 use Rattle.model.specs.WellFormed.{envAt, shelfOf, ready}
-use Rattle.model.specs.Step.{Step, Moved, refusal, answerTo, afterStep, answerOf, sideAfter, short, known, isDown, isArrived, isLeaving, isToParent, isToChild, tagsFit, enter, goDown, upFrom, upParticle, up, descendParticle, descend, meetTerm, meetParticles, meet, pass, leave, takes, routeTo, inner, local, settled, step}
+use Rattle.model.specs.Step.{Step, Moved, refusal, answerTo, afterStep, answerOf, sideAfter, short, known, isDown, isArrived, isLeaving, isToParent, isToChild, tagsFit, enter, goDown, upFrom}
+use Rattle.model.specs.Step.{upParticle, up, descendParticle, descend, meetTerm, meetParticles, meet, pass, leave, takes, routeTo, inner, local, settled, step}
 use Rattle.model.specs.Agreement.{IsLabelled}
 use Rattle.model.specs.Runs.{Refusals, RefusedWhole}
 use Rattle.model.proofs.Basics.Sides.{put-self}
@@ -67,7 +68,8 @@ Bounded (ok s) = Unit {0}
 sides-bounded : (b : Composition) (ns : List ℕ) (k : Loaded) → Bounded k → Bounded (loadSides b ns k)
 unfolding loadSides
 sides-bounded b [] k h = h
-sides-bounded b (n ∷ ns) k h = go (choose (hasSide (wrapperOf b) n) (sideFault n (table b n)) (lackFault (table b n))) (choose-numbered (hasSide (wrapperOf b) n) _ _ (side-numbered n (table b n)) (lack-numbered (table b n))) (sides-bounded b ns k h)
+sides-bounded b (n ∷ ns) k h = go (choose (hasSide (wrapperOf b) n) (sideFault n (table b n)) (lackFault (table b n)))
+    (choose-numbered (hasSide (wrapperOf b) n) _ _ (side-numbered n (table b n)) (lack-numbered (table b n))) (sides-bounded b ns k h)
   where
     go : (r : Res Fault) → Numbered r → Bounded (loadSides b ns k) → Bounded (elim r [ done f ↦ refused (record { number = f .number; side = n; node = f .node }) | refuse e ↦ loadSides b ns k ])
     go (done f) q ih = q
@@ -207,7 +209,9 @@ inner-within c s x = need-within (eqb (length (x .words)) 0) 10 _ (omega arith) 
 local-within : (c : Setting) (kn : ℕ → Bool) (sh : ℕ → List (List ℕ)) (s : Core) (x : Step) → Within (local c kn sh s x)
 unfolding local
 local-within c kn sh s x = choose-within (eqb (x .kind) 1) _ _ (need-within (eqb (x .i) 0 & eqb (x .j) 0) 10 _ (omega arith) (omega arith) (enter-within kn s (x .words)))
-    (choose-within (eqb (x .kind) 8) _ _ (need-within (eqb (length (x .words)) 0) 10 _ (omega arith) (omega arith) (bind-within (routeTo (c .wrapper .routes) (c .side) (x .j)) _ (route-within (c .wrapper .routes) (c .side) (x .j)) (λ r. take-within (r .source) (sh (r .source)) s (x .i))))
+    (choose-within (eqb (x .kind) 8) _ _
+    (need-within (eqb (length (x .words)) 0) 10 _ (omega arith) (omega arith)
+    (bind-within (routeTo (c .wrapper .routes) (c .side) (x .j)) _ (route-within (c .wrapper .routes) (c .side) (x .j)) (λ r. take-within (r .source) (sh (r .source)) s (x .i))))
     (inner-within c s x))
 
 settled-within : (r : Res Moved) → Within r → Within (settled r)
@@ -237,7 +241,8 @@ step-refusals b s x n k q = go (ready b s & hasSide (wrapperOf b) (x .side)) ref
 
     go : (t : Bool) → ready b s & hasSide (wrapperOf b) (x .side) ≡ t → (10 ≤ n) × (n ≤ 17) × (k ≡ x .side) × (step b s x .after ≡ s)
     go false p = rw (p, step) (by-number 10 (x .side) (omega arith, omega arith) (rw (p, step) at q) refl s refl)
-    go true p = rw (p, step) (by-result result (settled-within (local (setting b (x .side)) (known s) (shelfOf s) (side s (x .side) .core) x) (local-within (setting b (x .side)) (known s) (shelfOf s) (side s (x .side) .core) x)) (rw (p, step) at q))
+    go true p = rw (p, step)
+        (by-result result (settled-within (local (setting b (x .side)) (known s) (shelfOf s) (side s (x .side) .core) x) (local-within (setting b (x .side)) (known s) (shelfOf s) (side s (x .side) .core) x)) (rw (p, step) at q))
 
 pub refusals : Refusals
 unfolding Refusals

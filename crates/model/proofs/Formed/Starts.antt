@@ -158,7 +158,8 @@ starts b s e = subst (λ (t : State). isOk (load b) & (eqb (length (t .sides)) 2
         cond t (wfSide (setting b n) (counts (startState b)) (shelfOf (startState b)) (cond t (startSide (start n (table b n))) noSide)) (isNoSide (cond t (startSide (start n (table b n))) noSide)) ≡ true
     at n h true p =
         let r = load-checked b (ap isOk e) n p in
-        start-side (setting b n) (counts (startState b)) (shelfOf (startState b)) (r .0) h (count-is (startState b) n ∙ ap (λ (u : Side). u .core .contents .minted) (start-of b n h ∙ ap (λ (t : Bool). cond t (startSide (start n (table b n))) noSide) p)) (r .1)
+        start-side (setting b n) (counts (startState b)) (shelfOf (startState b)) (r .0) h
+        (count-is (startState b) n ∙ ap (λ (u : Side). u .core .contents .minted) (start-of b n h ∙ ap (λ (t : Bool). cond t (startSide (start n (table b n))) noSide) p)) (r .1)
     at n h false p = no-side
 
     each : (n : ℕ) → has n allSides ≡ true → cond (hasSide (wrapperOf b) n) (wfSide (setting b n) (counts (startState b)) (shelfOf (startState b)) (side (startState b) n)) (isNoSide (side (startState b) n)) ≡ true

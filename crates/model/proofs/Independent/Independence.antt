@@ -234,7 +234,8 @@ covers-step : (g seen : List ℕ) (b : Composition) (s : State) (x : Step) → r
 covers-step g seen b s x e o c = go (hasSide (wrapperOf b) (x .side)) refl
   where
     go : (t : Bool) → hasSide (wrapperOf b) (x .side) ≡ t → Covers g (seen ++ leftBy g (step b s x .answer)) (step b s x .after)
-    go true h = let a = which (b .wrapper) (x .side) h in rw (step-has b s x e h) (covers-own g seen s (x .side) (moved b s x) o (positive (x .side) a .0) (omega (arith, positive (x .side) a .1, ready-size b s e)) (left-size b s (x .side) e a) c)
+    go true h = let a = which (b .wrapper) (x .side) h in
+        rw (step-has b s x e h) (covers-own g seen s (x .side) (moved b s x) o (positive (x .side) a .0) (omega (arith, positive (x .side) a .1, ready-size b s e)) (left-size b s (x .side) e a) c)
     go false h = rw (step-lacks b s x e h, append-nil seen) c
 
 covers-other : (g seen : List ℕ) (b : Composition) (s : State) (x : Step) → Agree g (step b s x .after) s × (leftBy g (step b s x .answer) ≡ []) → Covers g seen s → Covers g (seen ++ leftBy g (step b s x .answer)) (step b s x .after)
@@ -288,7 +289,9 @@ module _ (g : List ℕ) (b b′ : Composition) (same-wrapper : b .wrapper ≡ b�
     lockstep [] seen s s′ e e′ a c p = (refl, a)
     lockstep (x ∷ xs) seen s s′ e e′ a c p = go (isOf g x) refl (λ seen t t′. lockstep xs seen t t′)
       where
-        go : (t : Bool) → isOf g x ≡ t → ((seen : List ℕ) (t t′ : State) → ready b t ≡ true → ready b′ t′ ≡ true → Agree g t t′ → Covers g seen t → premise g b seen t xs ≡ true → (sees g b t xs ≡ sees g b′ t′ (stepsOf g xs)) × Agree g (afterAll b t xs) (afterAll b′ t′ (stepsOf g xs))) →
+        go : (t : Bool) → isOf g x ≡ t →
+            ((seen : List ℕ) (t t′ : State) → ready b t ≡ true → ready b′ t′ ≡ true → Agree g t t′ → Covers g seen t → premise g b seen t xs ≡ true →
+            (sees g b t xs ≡ sees g b′ t′ (stepsOf g xs)) × Agree g (afterAll b t xs) (afterAll b′ t′ (stepsOf g xs))) →
             (sees g b s (x ∷ xs) ≡ sees g b′ s′ (cond t (x ∷ stepsOf g xs) (stepsOf g xs))) × Agree g (afterAll b s (x ∷ xs)) (afterAll b′ s′ (cond t (x ∷ stepsOf g xs) (stepsOf g xs)))
         go true o ih =
             let early : eqb (x .kind) 1 ≡ true → leftEarlier seen (x .words) ≡ true = λ k. entered o k (fst _ _ p) in

@@ -89,17 +89,20 @@ found x [] (suc n) h = absurd (clash h)
 found x (w ∷ ws) zero h = let z : suc (length ws) ≡ 0 = ap length (done-inj h) in absurd (omega arith)
 found x (w ∷ ws) (suc n) h = go (isTuple w) refl (isPatternLeaf w) refl (isPublic w) refl (found x ws (arity w + n)) (found x ws n)
   where
-    go : (t : Bool) → isTuple w ≡ t → (l : Bool) → isPatternLeaf w ≡ l → (u : Bool) → isPublic w ≡ u → (items isPatternLeaf 5 ws (arity w + n) ≡ done [] → Found ws (arity w + n) x) → (items isPatternLeaf 5 ws n ≡ done [] → Found ws n x) → Found (w ∷ ws) (suc n) x
+    go : (t : Bool) → isTuple w ≡ t → (l : Bool) → isPatternLeaf w ≡ l → (u : Bool) → isPublic w ≡ u → (items isPatternLeaf 5 ws (arity w + n) ≡ done [] → Found ws (arity w + n) x) →
+        (items isPatternLeaf 5 ws n ≡ done [] → Found ws n x) → Found (w ∷ ws) (suc n) x
     go true t l q u z f g =
         let r = f (sym (items-tuple isPatternLeaf 5 w ws n (tuple-not-leaf w t) t) ∙ h) in
         let ps = readsP ws (arity w + n) in (
-          ap (λ (y : NPats). isSome (finds y x)) (readsP-tuple w ws n t) ∙ some-or (finds (firstP (arity w) ps) x) (finds (behindP (arity w) ps) x) ∙ split-find (arity w) ps x ∙ r .0 ∙ ap (has x) (sym (binders-skip w ws (tuple-not-public w t))),
+          ap (λ (y : NPats). isSome (finds y x)) (readsP-tuple w ws n t) ∙ some-or (finds (firstP (arity w) ps) x) (finds (behindP (arity w) ps) x) ∙ split-find (arity w) ps x ∙ r .0
+              ∙ ap (has x) (sym (binders-skip w ws (tuple-not-public w t))),
           ap pcount (readsP-tuple w ws n t) ∙ omega (arith, pcount-behind (arity w) ps, r .1),
         )
     go false t false q u z f g = absurd (clash (sym (items-bad isPatternLeaf 5 w ws n q t) ∙ h))
     go false t true q true z f g =
         let r = g (sym (items-leaf isPatternLeaf 5 w ws n q) ∙ h) in (
-          ap (λ (y : NPats). isSome (finds y x)) (readsP-name w ws n t z) ∙ some-or (find (named w) x) (finds (readsP ws n) x) ∙ ap₂ (λ (a b : Bool). a || b) (is-found (eqb w x) ∙ eqb-sym w x) (r .0) ∙ ap (has x) (sym (binders-name w ws z)),
+          ap (λ (y : NPats). isSome (finds y x)) (readsP-name w ws n t z) ∙ some-or (find (named w) x) (finds (readsP ws n) x) ∙ ap₂ (λ (a b : Bool). a || b) (is-found (eqb w x) ∙ eqb-sym w x) (r .0)
+              ∙ ap (has x) (sym (binders-name w ws z)),
           ap pcount (readsP-name w ws n t z) ∙ ap suc (r .1),
         )
       where

@@ -89,7 +89,8 @@ apart-app (x ∷ l) m p q h = (λ e. ⊎-elim (p .0) (λ a. h x (or-left (eqb x 
 
 pub upto-out : (n : ℕ) (f : ℕ → ℕ) (x : ℕ) → T (mem x (upto n f)) → (i : ℕ) × (i < n) × (x ≡ f i)
 upto-out zero f x h = absurd h
-upto-out (suc n) f x h = ⊎-elim (λ a. let r = upto-out n f x a in (r .0, omega (arith, r .1), r .2)) (λ a. ⊎-elim (λ b. (n, omega arith, T-eqb x (f n) b)) (λ b. absurd b) (or-cases (eqb x (f n)) false a)) (mem-cases x (upto n f) (f n ∷ []) h)
+upto-out (suc n) f x h = ⊎-elim (λ a. let r = upto-out n f x a in (r .0, omega (arith, r .1), r .2))
+    (λ a. ⊎-elim (λ b. (n, omega arith, T-eqb x (f n) b)) (λ b. absurd b) (or-cases (eqb x (f n)) false a)) (mem-cases x (upto n f) (f n ∷ []) h)
 
 pub apart-upto : (n : ℕ) (f : ℕ → ℕ) → ((i j : ℕ) → f i ≡ f j → i ≡ j) → Apart (upto n f)
 apart-upto zero f inj = tt
@@ -135,15 +136,18 @@ by-out f (k ∷ ns) x h = ⊎-elim (λ q. (k, or-first (eqb k k) (has k ns) (eq-
 pub apart-by : (f : ℕ → List ℕ) (ns : List ℕ) → Distinct ns → ((n : ℕ) → Apart (f n)) → ((n m x : ℕ) → has n ns ≡ true → has m ns ≡ true → T (mem x (f n)) → T (mem x (f m)) → n ≡ m) → Apart (bySide f ns)
 apart-by f [] d a h = tt
 apart-by f (k ∷ ns) d a h = apart-app (f k) (bySide f ns) (a k) (apart-by f ns (d .1) a (λ n m x p q u v. h n m x (bool-right (eqb n k) (has n ns) p) (bool-right (eqb m k) (has m ns) q) u v))
-    (λ x u v. let r = by-out f ns x v in let e : k ≡ r .0 = h k (r .0) x (or-first (eqb k k) (has k ns) (eq-eqb k k refl)) (bool-right (eqb (r .0) k) (has (r .0) ns) (r .1)) u (r .2) in d .0 (subst (λ (z : ℕ). has z ns ≡ true) (sym e) (r .1)))
+    (λ x u v. let r = by-out f ns x v in let e : k ≡ r .0 = h k (r .0) x (or-first (eqb k k) (has k ns) (eq-eqb k k refl)) (bool-right (eqb (r .0) k) (has (r .0) ns) (r .1)) u (r .2) in
+    d .0 (subst (λ (z : ℕ). has z ns ≡ true) (sym e) (r .1)))
 
 pub map-out : (f : ℕ → ℕ) (ns : List ℕ) (x : ℕ) → T (mem x (map f ns)) → (n : ℕ) × (has n ns ≡ true) × (x ≡ f n)
 map-out f [] x h = absurd h
-map-out f (k ∷ ns) x h = ⊎-elim (λ q. (k, or-first (eqb k k) (has k ns) (eq-eqb k k refl), T-eqb x (f k) q)) (λ q. let r = map-out f ns x q in (r .0, bool-right (eqb (r .0) k) (has (r .0) ns) (r .1), r .2)) (or-cases (eqb x (f k)) (mem x (map f ns)) h)
+map-out f (k ∷ ns) x h = ⊎-elim (λ q. (k, or-first (eqb k k) (has k ns) (eq-eqb k k refl), T-eqb x (f k) q))
+    (λ q. let r = map-out f ns x q in (r .0, bool-right (eqb (r .0) k) (has (r .0) ns) (r .1), r .2)) (or-cases (eqb x (f k)) (mem x (map f ns)) h)
 
 pub map-in : (f : ℕ → ℕ) (ns : List ℕ) (n : ℕ) → has n ns ≡ true → T (mem (f n) (map f ns))
 map-in f [] n h = absurd (false≢true h)
-map-in f (k ∷ ns) n h = ⊎-elim (λ q. or-left (eqb (f n) (f k)) (mem (f n) (map f ns)) (is-true _ (eq-eqb (f n) (f k) (ap f (eqb-true n k q))))) (λ q. or-right (eqb (f n) (f k)) (mem (f n) (map f ns)) (map-in f ns n q)) (bool-cases (eqb n k) (has n ns) h)
+map-in f (k ∷ ns) n h = ⊎-elim (λ q. or-left (eqb (f n) (f k)) (mem (f n) (map f ns)) (is-true _ (eq-eqb (f n) (f k) (ap f (eqb-true n k q)))))
+    (λ q. or-right (eqb (f n) (f k)) (mem (f n) (map f ns)) (map-in f ns n q)) (bool-cases (eqb n k) (has n ns) h)
 
 pub apart-map : (f : ℕ → ℕ) (ns : List ℕ) → Distinct ns → ((n m : ℕ) → f n ≡ f m → n ≡ m) → Apart (map f ns)
 apart-map f [] d h = tt
@@ -216,7 +220,8 @@ module _ (b : Composition) (s : State) where
   pub good : ((n : ℕ) → side s n .core .contents .minted ≤ 256) → Good (newOf b s) (knownOf s)
   unfolding newOf
   good few = good-of (newOf b s) (knownOf s)
-      (apart-app (map ownName (wrapperOf b .sides)) (keep (λ x. not (known s x)) (mintedOf s)) (apart-map ownName (wrapperOf b .sides) (sides-distinct (b .wrapper)) (λ n m e. omega arith)) (apart-keep (λ x. not (known s x)) (mintedOf s) (apart-minted few))
+      (apart-app (map ownName (wrapperOf b .sides)) (keep (λ x. not (known s x)) (mintedOf s)) (apart-map ownName (wrapperOf b .sides) (sides-distinct (b .wrapper)) (λ n m e. omega arith))
+      (apart-keep (λ x. not (known s x)) (mintedOf s) (apart-minted few))
       (λ x p q. let h = minted-high x (keep-out (λ x. not (known s x)) (mintedOf s) x q .0) in omega (arith, own-low x p .1)))
       (λ x p q. ⊎-elim
       (λ a. ⊎-elim (λ k. omega (arith, own-low x a .0)) (λ m. let h = minted-high x (m .0) in omega (arith, own-low x a .1)) (known-where x q))

@@ -90,7 +90,8 @@ module _ (b : Composition) (s : State) (e : ready b s ≡ true) where
           wf = t .wf;
           rooted = t .rooted;
           root = t .root;
-          fresh = λ m x y q i. behind-other mk (All b s) (counts s) (held-in b s) (siteOf m i) n (ne-eqb (siteOf m i) 0 (λ z. omega (arith, x, z))) (λ j. sites-apart m n i j x y (a .0) (omega (arith, a .1)) (other m q)) 0 bs acc (p .fresh m x y (or-none (eqb m n) (has m ns) q .1) i);
+          fresh = λ m x y q i. behind-other mk (All b s) (counts s) (held-in b s) (siteOf m i) n (ne-eqb (siteOf m i) 0 (λ z. omega (arith, x, z)))
+              (λ j. sites-apart m n i j x y (a .0) (omega (arith, a .1)) (other m q)) 0 bs acc (p .fresh m x y (or-none (eqb m n) (has m ns) q .1) i);
           reach = λ m x y q i l. ⊎-elim
               (λ z. let w : n ≡ m = sym (eqb-true m n z) in subst (λ (k : ℕ). i < length (side s k .core .contents .boxes) → Reach (placesOf mk n 0 bs acc) (siteOf k i)) w (λ u. t .reach i (omega (arith, u))) l)
               (λ z. apart-reach m x y z i l (eqb m n) refl (t .reach))
@@ -100,7 +101,8 @@ module _ (b : Composition) (s : State) (e : ready b s ≡ true) where
         other : (m : ℕ) → eqb m n || has m ns ≡ false → (m ≡ n → ⊥)
         other m q z = false≢true (sym (or-none (eqb m n) (has m ns) q .0) ∙ eq-eqb m n z)
 
-        apart-reach : (m : ℕ) → 1 ≤ m → m ≤ 8 → has m ns ≡ true → (i : ℕ) → i < length (side s m .core .contents .boxes) → (u : Bool) → eqb m n ≡ u → ((i : ℕ) → i < 0 + length (side s n .core .contents .boxes) → Reach (placesOf mk n 0 (side s n .core .contents .boxes) acc) (siteOf n i)) → Reach (placesOf mk n 0 (side s n .core .contents .boxes) acc) (siteOf m i)
+        apart-reach : (m : ℕ) → 1 ≤ m → m ≤ 8 → has m ns ≡ true → (i : ℕ) → i < length (side s m .core .contents .boxes) → (u : Bool) → eqb m n ≡ u →
+            ((i : ℕ) → i < 0 + length (side s n .core .contents .boxes) → Reach (placesOf mk n 0 (side s n .core .contents .boxes) acc) (siteOf n i)) → Reach (placesOf mk n 0 (side s n .core .contents .boxes) acc) (siteOf m i)
         apart-reach m x y z i l true q r = absurd (false≢true (sym f ∙ ap (λ (k : ℕ). has k ns) (sym (eqb-true m n q)) ∙ z))
         apart-reach m x y z i l false q r =
             let a = positive n (which (b .wrapper) n h) in
@@ -152,8 +154,10 @@ module _ (b : Composition) (s : State) (e : ready b s ≡ true) where
         let o = side-ok b s e n h in
         let c = setting b n in
         each-app (All b s) (numbered (msgItem mk (wrapperOf b) n) 0 (side s n .core .lobby)) (numbered (partItem mk (table b n) n) 0 (side s n .core .contents .particles))
-        (each-numbered (All b s) (wfMessage (shelves (c .wrapper) (c .side)) (counts s)) (msgItem mk (wrapperOf b) n) (msg-in mk (All b s) (counts s) (held-in b s) (low-in b s 0 (omega arith)) (wrapperOf b) n (shelves (c .wrapper) (c .side)) (own-in b s n h) (low-in b s _ (outlet-low n h))) 0 (side s n .core .lobby) (o .lobby))
-        (each-numbered (All b s) (wfParticle (table b n) (counts s) (length (side s n .core .contents .boxes))) (partItem mk (table b n) n) (part-in mk (All b s) (counts s) (held-in b s) (low-in b s 0 (omega arith)) (table b n) (checked-of n h) (length (side s n .core .contents .boxes)) n) 0 (side s n .core .contents .particles) (o .contents .particles))
+        (each-numbered (All b s) (wfMessage (shelves (c .wrapper) (c .side)) (counts s)) (msgItem mk (wrapperOf b) n)
+        (msg-in mk (All b s) (counts s) (held-in b s) (low-in b s 0 (omega arith)) (wrapperOf b) n (shelves (c .wrapper) (c .side)) (own-in b s n h) (low-in b s _ (outlet-low n h))) 0 (side s n .core .lobby) (o .lobby))
+        (each-numbered (All b s) (wfParticle (table b n) (counts s) (length (side s n .core .contents .boxes))) (partItem mk (table b n) n)
+        (part-in mk (All b s) (counts s) (held-in b s) (low-in b s 0 (omega arith)) (table b n) (checked-of n h) (length (side s n .core .contents .boxes)) n) 0 (side s n .core .contents .particles) (o .contents .particles))
 
     pub shelf-each : (n : ℕ) → hasSide (wrapperOf b) n ≡ true → Each (All b s) (shelfItems mk (isGone s n) n 0 (side s n .core .shelf))
     shelf-each n h = shelf-in mk (All b s) (counts s) (held-in b s) (low-in b s 0 (omega arith)) n (low-in b s 2 (omega arith)) (own-in b s n h) (isGone s n) 0 (side s n .core .shelf) (side-ok b s e n h .shelf)
@@ -173,12 +177,15 @@ module _ (b : Composition) (s : State) (e : ready b s ≡ true) where
 
     pub forwarders-each : Each (All b s) (forwarders mk (wrapperOf b))
     unfolding AllN
-    forwarders-each = each-app (All b s) (map (enters mk (wrapperOf b)) (wrapperOf b .sides)) _ (each-map (enters mk (wrapperOf b)) (wrapperOf b .sides) (λ n h. (low-in b s _ (inlet-low n h), tt, (low-in b s 0 (omega arith), own-in b s n h, tt))))
-        (each-app (All b s) (map (passes mk (wrapperOf b)) (wrapperOf b .sides)) _ (each-map (passes mk (wrapperOf b)) (wrapperOf b .sides) (λ n h. (low-in b s 1 (omega arith), own-in b s n h, (low-in b s _ (outlet-low n h), tt, tt)))) (each-routes (wrapperOf b .routes) (routes-in (b .wrapper))))
+    forwarders-each = each-app (All b s) (map (enters mk (wrapperOf b)) (wrapperOf b .sides)) _
+        (each-map (enters mk (wrapperOf b)) (wrapperOf b .sides) (λ n h. (low-in b s _ (inlet-low n h), tt, (low-in b s 0 (omega arith), own-in b s n h, tt))))
+        (each-app (All b s) (map (passes mk (wrapperOf b)) (wrapperOf b .sides)) _
+        (each-map (passes mk (wrapperOf b)) (wrapperOf b .sides) (λ n h. (low-in b s 1 (omega arith), own-in b s n h, (low-in b s _ (outlet-low n h), tt, tt)))) (each-routes (wrapperOf b .routes) (routes-in (b .wrapper))))
 
     pub items-each : Each (All b s) (confAs mk b s .items)
     unfolding confAs
-    items-each = each-app (All b s) (forwarders mk (wrapperOf b)) _ forwarders-each (each-app (All b s) (bySide (λ n. shelfItems mk (isGone s n) n 0 (side s n .core .shelf)) (wrapperOf b .sides)) _ (each-by _ (wrapperOf b .sides) shelf-each) (each-by _ (wrapperOf b .sides) side-each))
+    items-each = each-app (All b s) (forwarders mk (wrapperOf b)) _ forwarders-each
+        (each-app (All b s) (bySide (λ n. shelfItems mk (isGone s n) n 0 (side s n .core .shelf)) (wrapperOf b .sides)) _ (each-by _ (wrapperOf b .sides) shelf-each) (each-by _ (wrapperOf b .sides) side-each))
 
 -- the marks forgotten, or changed
 pub remark-proc : {M U : Type 0} (h : M → U) (s : Scope) (t : M) (c : Code) (ρ : CEnv s) → remark h (proc s t c ρ) ≡ proc s (h t) c ρ
@@ -211,7 +218,8 @@ module _ {M U : Type 0} (mk : Mark → M) (h : M → U) where
 
   pub side-marks : (w : Wrapper) (side : ℕ) (T : Table) (c : Core) → ritems h (sideItems mk w side T c) ≡ sideItems (λ m. h (mk m)) w side T c
   side-marks w side T c = ritems-app h (numbered (msgItem mk w side) 0 (c .lobby)) (numbered (partItem mk T side) 0 (c .contents .particles))
-      ∙ ap₂ (λ (a b : List (Item U)). a ++ b) (numbered-marks (msgItem mk w side) (msgItem (λ m. h (mk m)) w side) (msg-marks w side) 0 (c .lobby)) (numbered-marks (partItem mk T side) (partItem (λ m. h (mk m)) T side) (part-marks T side) 0 (c .contents .particles))
+      ∙ ap₂ (λ (a b : List (Item U)). a ++ b) (numbered-marks (msgItem mk w side) (msgItem (λ m. h (mk m)) w side) (msg-marks w side) 0 (c .lobby))
+      (numbered-marks (partItem mk T side) (partItem (λ m. h (mk m)) T side) (part-marks T side) 0 (c .contents .particles))
 
   pub shelf-marks : (gone : ℕ → Bool) (side i : ℕ) (l : List (List ℕ)) → ritems h (shelfItems mk gone side i l) ≡ shelfItems (λ m. h (mk m)) gone side i l
   unfolding remark

@@ -41,7 +41,8 @@ use Rattle.model.proofs.Sound.LoadAgrees.{load-agrees}
 -- RUNS
 
 -- one step that is answered with a label is a published transition
-step-published : (b : Composition) (s : State) (k : Step) (l : Label) → ready b s ≡ true → Says (wrapperOf b) (step b s k .answer) l → Published (knownOf s) (plainly (process (confOf b s))) l (plainly (process (confOf b (step b s k .after))))
+step-published : (b : Composition) (s : State) (k : Step) (l : Label) → ready b s ≡ true → Says (wrapperOf b) (step b s k .answer) l →
+    Published (knownOf s) (plainly (process (confOf b s))) l (plainly (process (confOf b (step b s k .after))))
 unfolding Sound SoundAt
 step-published b s k l e sy = let r = sound b s k e .1 l sy in (wmark forget (r .0), Struct (step-remark forget (r .5)) (r .6))
 
@@ -129,7 +130,9 @@ answers-independent b b′ w w′ t s s′ l l′ xs xs′ same p =
 
 -- by computation
 pub premise-needed : PremiseNeeded
-unfolding _&_ _or_ choose bind need pick items shaped isValue at restOf firstOf matches childTimes build decode term scopeUp check1 check2 timesChild check3 check4 patternOk check5 over overAll firstBad found fault limits unfolds defined start sideFault lackFault loadSides load held heldWord wfValue wfTag wfParticle wfBoxes wfContents wfMessage wfCore wfLeft wfSide wfTaken isNoSide wfSideOf wfState ready enter goDown upFrom upParticle up descendParticle descend meetTerm meetParticles meet pass leave takes routeTo inner local settled mark1 step answers PremiseNeeded
+unfolding _&_ _or_ choose bind need pick items shaped isValue at restOf firstOf matches childTimes build decode term scopeUp check1 check2 timesChild check3 check4 patternOk check5 over overAll
+    firstBad found fault limits unfolds defined start sideFault lackFault loadSides load held heldWord wfValue wfTag wfParticle wfBoxes wfContents wfMessage wfCore wfLeft wfSide wfTaken isNoSide
+    wfSideOf wfState ready enter goDown upFrom upParticle up descendParticle descend meetTerm meetParticles meet pass leave takes routeTo inner local settled mark1 step answers PremiseNeeded
 premise-needed = (state sending, state idle, refl, refl, refl, refl, refl)
   where
     state : Composition → State
@@ -147,7 +150,8 @@ abbrev loadedA : State
 loadedA = record { sides = startSide (start 1 (table copier 1)) ∷ noSide ∷ [] }
 
 load-is : load copier ≡ ok loadedA
-unfolding _&_ _or_ choose bind need pick items shaped isValue at restOf firstOf matches childTimes build decode term scopeUp check1 check2 timesChild check3 check4 patternOk check5 over overAll firstBad found fault limits unfolds defined start sideFault lackFault loadSides load
+unfolding _&_ _or_ choose bind need pick items shaped isValue at restOf firstOf matches childTimes build decode term scopeUp check1 check2 timesChild check3 check4 patternOk check5 over overAll
+    firstBad found fault limits unfolds defined start sideFault lackFault loadSides load
 load-is = refl
 
 abbrev stepsA : List Step
@@ -155,7 +159,9 @@ stepsA = entering 1 (20 ∷ []) ∷ ask 2 1 0 0 ∷ ask 5 1 1 0 ∷ ask 3 1 1 0 
 
 -- its answers, by computation
 answers-A : runFrom copier loadedA stepsA 1 .answers ≡ inward 1 (20 ∷ []) ∷ silently 1 ∷ silently 1 ∷ silently 1 ∷ silently 1 ∷ outward 1 (4000002 ∷ 20 ∷ 20 ∷ []) ∷ []
-unfolding _&_ _or_ choose bind need pick items shaped isValue at restOf firstOf matches childTimes build decode term scopeUp check1 check2 timesChild check3 check4 patternOk check5 over overAll firstBad found fault limits unfolds defined start sideFault lackFault loadSides load held heldWord wfValue wfTag wfParticle wfBoxes wfContents wfMessage wfCore wfLeft wfSide wfTaken isNoSide wfSideOf wfState ready enter goDown upFrom upParticle up descendParticle descend meetTerm meetParticles meet pass leave takes routeTo inner local settled mark1 step runFrom
+unfolding _&_ _or_ choose bind need pick items shaped isValue at restOf firstOf matches childTimes build decode term scopeUp check1 check2 timesChild check3 check4 patternOk check5 over overAll
+    firstBad found fault limits unfolds defined start sideFault lackFault loadSides load held heldWord wfValue wfTag wfParticle wfBoxes wfContents wfMessage wfCore wfLeft wfSide wfTaken isNoSide
+    wfSideOf wfState ready enter goDown upFrom upParticle up descendParticle descend meetTerm meetParticles meet pass leave takes routeTo inner local settled mark1 step runFrom
 answers-A = refl
 
 says-A : SaysAll copier loadedA stepsA labelsA

@@ -11,5 +11,7 @@ use Rattle.model.specs.WellFormed.{held, heldWord, wfValue, wfTag, wfPar
 use Rattle.model.specs.FormedStates.{FormedStates}
 
 pub formed-states : FormedStates
-unfolding _&_ _or_ choose bind need pick items shaped isValue at restOf firstOf matches childTimes build decode term scopeUp check1 check2 timesChild check3 check4 patternOk check5 over overAll firstBad found fault limits unfolds defined start sideFault lackFault loadSides load held heldWord wfValue wfTag wfParticle wfBoxes wfContents wfMessage wfCore wfLeft wfSide wfTaken isNoSide wfSideOf wfState FormedStates
+unfolding _&_ _or_ choose bind need pick items shaped isValue at restOf firstOf matches childTimes build decode term scopeUp check1 check2 timesChild check3 check4 patternOk check5 over overAll
+    firstBad found fault limits unfolds defined start sideFault lackFault loadSides load held heldWord wfValue wfTag wfParticle wfBoxes wfContents wfMessage wfCore wfLeft wfSide wfTaken isNoSide
+    wfSideOf wfState FormedStates
 formed-states = (refl, refl)

@@ -50,7 +50,8 @@ unfolding WrapperRuns RunsAreTransitions Reached
 wrapper-runs b s ks ls P e w says = from-congruent b P (runs-are-transitions b s ks (reached b .0 s e) .1 ls says) (wraps-start b s e w)
 
 -- after a run the state is ready, and its known names are those of the start and of the labels
-pub after-run : (b : Composition) {s : State} {ks : List Step} {ls : List Label} → SaysAll b s ks ls → ready b s ≡ true → (A : List ℕ) → SameMembers (knownOf s) A → (ready b (afterAll b s ks) ≡ true) × SameMembers (knownOf (afterAll b s ks)) (grownBy ls A)
+pub after-run : (b : Composition) {s : State} {ks : List Step} {ls : List Label} → SaysAll b s ks ls → ready b s ≡ true → (A : List ℕ) → SameMembers (knownOf s) A →
+    (ready b (afterAll b s ks) ≡ true) × SameMembers (knownOf (afterAll b s ks)) (grownBy ls A)
 unfolding afterAll
 after-run b says-none e A same = (e, same)
 after-run b (says-more {s = s} {k = k} {l = l} sy h) e A same = after-run b h (step-ready b s k e) (lnames l ++ A) (grown b s k l e sy A same)

@@ -90,7 +90,8 @@ and-no false = refl
 
 every-apart : (f : ℕ → Bool) (l m : List ℕ) → every f (l ++ m) ≡ false → (every f l ≡ false) ⊎ (every f m ≡ false)
 every-apart f [] m e = inr e
-every-apart f (x ∷ l) m e = ⊎-elim (λ p. inl (ap (λ (c : Bool). c & every f l) p ∙ no-and (every f l))) (λ p. ⊎-elim (λ q. inl (ap (λ (c : Bool). f x & c) q ∙ and-no (f x))) (λ q. inr q) (every-apart f l m p)) (one-fails (f x) (every f (l ++ m)) e)
+every-apart f (x ∷ l) m e = ⊎-elim (λ p. inl (ap (λ (c : Bool). c & every f l) p ∙ no-and (every f l)))
+    (λ p. ⊎-elim (λ q. inl (ap (λ (c : Bool). f x & c) q ∙ and-no (f x))) (λ q. inr q) (every-apart f l m p)) (one-fails (f x) (every f (l ++ m)) e)
 
 some-app : (f : ℕ → Bool) (l m : List ℕ) → (someName f l ≡ true) ⊎ (someName f m ≡ true) → someName f (l ++ m) ≡ true
 some-app f [] m (inl p) = absurd (false≢true p)

@@ -20,7 +20,8 @@ use Rattle.model.specs.Wrapper.{Wrapper, allSides, hasSide}
 use Rattle.model.specs.Load.{Composition, wrapperOf, table}
 use Rattle.model.specs.WellFormed.{counts, countOf, held, ready}
 use Rattle.model.specs.Step.{known}
-use Rattle.model.specs.Process.{Mark, upto, mintOf, siteOf, keep, placeOf, placesOf, allPlaces, bySide, confAs, confOf, newOf, mintedOf, ownName, numbered, partItem, msgItem, shelfItem, shelfItems, sideItems, enters, passes, takes, forwarders, isGone}
+use Rattle.model.specs.Process.{Mark, upto, mintOf, siteOf, keep, placeOf, placesOf, allPlaces, bySide, confAs, confOf, newOf, mintedOf, ownName, numbered, partItem, msgItem, shelfItem}
+use Rattle.model.specs.Process.{shelfItems, sideItems, enters, passes, takes, forwarders, isGone}
 use Rattle.calculus.proofs.Trees.{Wf, Reach}
 use Rattle.calculus.proofs.Extrusion.{in-news}
 use Rattle.calculus.proofs.FreeNames.{or-left, or-right}
@@ -57,7 +58,8 @@ pub record Orient (b : Composition) (s : State) (vw : View b s) : Type 0 where
   pub awayC : Away (vw .c .side) (vw .C)
   pub awayD : Away (vw .c .side) (vw .D)
   pub more : (m : ℕ) → vw .core .contents .minted ≤ m → m < 256 → Nm (suc m) ≡ Nm m ++ mintOf (vw .c .side) m ∷ []
-  pub orient : (k : Core) → k .contents .minted ≤ 256 → (I : List (Item (Unit {0}))) → restrict (newOf b (vw .next k (vw .left))) (fill (rplaces forget (confOf b (vw .next k (vw .left)) .boxes)) (at I)) ≋ restrict (Nm (k .contents .minted)) (fill (placesOf forget (vw .c .side) 0 (k .contents .boxes) Bo) (at I))
+  pub orient : (k : Core) → k .contents .minted ≤ 256 → (I : List (Item (Unit {0}))) →
+      restrict (newOf b (vw .next k (vw .left))) (fill (rplaces forget (confOf b (vw .next k (vw .left)) .boxes)) (at I)) ≋ restrict (Nm (k .contents .minted)) (fill (placesOf forget (vw .c .side) 0 (k .contents .boxes) Bo) (at I))
   pub is-now : vw .next (vw .core) (vw .left) ≡ s
 
 keep-app : (f : ℕ → Bool) (l m : List ℕ) → keep f (l ++ m) ≡ keep f l ++ keep f m
@@ -78,7 +80,8 @@ offs-of [] Y h = tt
 offs-of (x ∷ X) Y h = (off-of x Y (λ y m. h x y (or-left (eqb x x) (mem x X) (is-true (eqb x x) (eq-eqb x x refl))) m), offs-of X Y (λ z y m. h z y (or-right (eqb z x) (mem z X) m)))
 
 -- boxes of different sides
-aside-acc : (c : Place (Unit {0})) (side j : ℕ) (bs : List Box) (acc : List (Place (Unit {0}))) → ((i : ℕ) → eqb (c .site) (siteOf side i) ≡ false) → eqb (c .site) 0 ≡ false → ((i : ℕ) → eqb (siteOf side i) (c .parent) ≡ false) → AsideAll c acc → AsideAll c (placesOf forget side j bs acc)
+aside-acc : (c : Place (Unit {0})) (side j : ℕ) (bs : List Box) (acc : List (Place (Unit {0}))) → ((i : ℕ) → eqb (c .site) (siteOf side i) ≡ false) → eqb (c .site) 0 ≡ false →
+    ((i : ℕ) → eqb (siteOf side i) (c .parent) ≡ false) → AsideAll c acc → AsideAll c (placesOf forget side j bs acc)
 aside-acc c side j [] acc p z q h = h
 aside-acc c side j (x ∷ bs) acc p z q h = aside-acc c side (suc j) bs (placeOf forget side j x ∷ acc) p z q ((p j, par (eqb j 0), q j), h)
   where
@@ -134,7 +137,8 @@ all-split {M} mk s (x ∷ X) acc = all-split mk s X (placesOf mk x 0 bs acc) ∙
 
 all-off : (s s′ : State) (X : List ℕ) (acc : List (Place (Unit {0}))) → ((m : ℕ) → has m X ≡ true → side s m ≡ side s′ m) → allPlaces forget s X acc ≡ allPlaces forget s′ X acc
 all-off s s′ [] acc h = refl
-all-off s s′ (x ∷ X) acc h = ap (λ (o : Side). allPlaces forget s X (placesOf forget x 0 (o .core .contents .boxes) acc)) (h x (ap (λ (t : Bool). t || has x X) (eq-eqb x x refl))) ∙ all-off s s′ X (placesOf forget x 0 (side s′ x .core .contents .boxes) acc) (λ m q. h m (bool-right (eqb m x) (has m X) q))
+all-off s s′ (x ∷ X) acc h = ap (λ (o : Side). allPlaces forget s X (placesOf forget x 0 (o .core .contents .boxes) acc)) (h x (ap (λ (t : Bool). t || has x X) (eq-eqb x x refl)))
+    ∙ all-off s s′ X (placesOf forget x 0 (side s′ x .core .contents .boxes) acc) (λ m q. h m (bool-right (eqb m x) (has m X) q))
 
 sites : (m n i j : ℕ) → 1 ≤ m → m ≤ 8 → 1 ≤ n → n ≤ 8 → (m ≡ n → ⊥) → eqb (siteOf m i) (siteOf n j) ≡ false
 sites m n i j a c x y h = ne-eqb (siteOf m i) (siteOf n j) (λ q. h (omega (arith, a, c, x, y, q)))
@@ -149,11 +153,13 @@ side-aside m n i x bs a c d e h = aside-acc (placeOf forget m i x) n 0 bs [] (λ
     par j true = site-0 n j d
     par j false = sites n m j (x .parent) d e a c (λ q. h (sym q))
 
-sides-aside : (s : State) (Y : List ℕ) (acc : List (Place (Unit {0}))) (n : ℕ) (bs : List Box) → 1 ≤ n → n ≤ 8 → ((m : ℕ) → has m Y ≡ true → (1 ≤ m) × (m ≤ 8) × (m ≡ n → ⊥)) → Asides acc (placesOf forget n 0 bs []) → Asides (allPlaces forget s Y acc) (placesOf forget n 0 bs [])
+sides-aside : (s : State) (Y : List ℕ) (acc : List (Place (Unit {0}))) (n : ℕ) (bs : List Box) → 1 ≤ n → n ≤ 8 → ((m : ℕ) → has m Y ≡ true → (1 ≤ m) × (m ≤ 8) × (m ≡ n → ⊥)) →
+    Asides acc (placesOf forget n 0 bs []) → Asides (allPlaces forget s Y acc) (placesOf forget n 0 bs [])
 sides-aside s [] acc n bs d e h a = a
 sides-aside s (y ∷ Y) acc n bs d e h a =
     let r = h y (ap (λ (t : Bool). t || has y Y) (eq-eqb y y refl)) in
-    sides-aside s Y (placesOf forget y 0 (side s y .core .contents .boxes) acc) n bs d e (λ m q. h m (bool-right (eqb m y) (has m Y) q)) (asides-acc y n 0 (side s y .core .contents .boxes) acc (placesOf forget n 0 bs []) (λ x i. side-aside y n i x bs (r .0) (r .1) d e (r .2)) a)
+    sides-aside s Y (placesOf forget y 0 (side s y .core .contents .boxes) acc) n bs d e (λ m q. h m (bool-right (eqb m y) (has m Y) q))
+    (asides-acc y n 0 (side s y .core .contents .boxes) acc (placesOf forget n 0 bs []) (λ x i. side-aside y n i x bs (r .0) (r .1) d e (r .2)) a)
 
 keep-by : (f : ℕ → Bool) (g : ℕ → List ℕ) (ns : List ℕ) → keep f (bySide g ns) ≡ bySide (λ n. keep f (g n)) ns
 keep-by f g [] = refl
@@ -189,7 +195,8 @@ module _ (b : Composition) (s : State) (e : ready b s ≡ true) where
 
   -- what stands beside a side
   pub away-side : {M : Type 0} (mk : Mark → M) (me other : ℕ) (w : Wrapper) (T : Table) (c : Core) → ((j k : ℕ) → eqb (siteOf me k) (siteOf other j) ≡ false) → ((k : ℕ) → eqb (siteOf me k) 0 ≡ false) → Away me (sideItems mk w other T c)
-  away-side mk me other w T c h z = away-app me (numbered (msgItem mk w other) 0 (c .lobby)) (numbered (partItem mk T other) 0 (c .contents .particles)) (away-numbered me (msgItem mk w other) (λ i x k. z k) 0 (c .lobby)) (away-numbered me (partItem mk T other) (λ i x k. site i x k) 0 (c .contents .particles))
+  away-side mk me other w T c h z = away-app me (numbered (msgItem mk w other) 0 (c .lobby)) (numbered (partItem mk T other) 0 (c .contents .particles))
+      (away-numbered me (msgItem mk w other) (λ i x k. z k) 0 (c .lobby)) (away-numbered me (partItem mk T other) (λ i x k. site i x k) 0 (c .contents .particles))
     where
       site : (i : ℕ) (x : Particle) (k : ℕ) → eqb (siteOf me k) (partItem mk T other i x .site) ≡ false
       site i (output a ch g v) k = h a k
@@ -204,7 +211,8 @@ module _ (b : Composition) (s : State) (e : ready b s ≡ true) where
       go false = (z, tt)
 
   pub away-forwarders : {M : Type 0} (mk : Mark → M) (me : ℕ) → ((k : ℕ) → eqb (siteOf me k) 0 ≡ false) → (w : Wrapper) → Away me (forwarders mk w)
-  away-forwarders mk me z w = away-app me (map (enters mk w) (w .sides)) _ (away-map me (enters mk w) (w .sides) (λ x k. z k)) (away-app me (map (passes mk w) (w .sides)) _ (away-map me (passes mk w) (w .sides) (λ x k. z k)) (away-map me (takes mk) (w .routes) (λ x k. z k)))
+  away-forwarders mk me z w = away-app me (map (enters mk w) (w .sides)) _ (away-map me (enters mk w) (w .sides) (λ x k. z k))
+      (away-app me (map (passes mk w) (w .sides)) _ (away-map me (passes mk w) (w .sides) (λ x k. z k)) (away-map me (takes mk) (w .routes) (λ x k. z k)))
 
   module _ (n : ℕ) (h : hasSide (wrapperOf b) n ≡ true) where
     a : has n allSides ≡ true
@@ -267,7 +275,8 @@ module _ (b : Composition) (s : State) (e : ready b s ≡ true) where
     boxes-are : (k : Core) → rplaces forget (confOf b (with-side b s e n h k (side s n .left)) .boxes) ≡ PY ++ (placesOf forget n 0 (k .contents .boxes) [] ++ PX)
     boxes-are k =
         let s′ = with-side b s e n h k (side s n .left) in
-        boxes-marks ids forget b s′ ∙ conf-boxes s′ ∙ ap (λ (L : List ℕ). allPlaces forget s′ L []) (S .is) ∙ all-app forget s′ (S .X) (n ∷ S .Y) [] ∙ all-split forget s′ (S .Y) (placesOf forget n 0 (side s′ n .core .contents .boxes) (allPlaces forget s′ (S .X) []))
+        boxes-marks ids forget b s′ ∙ conf-boxes s′ ∙ ap (λ (L : List ℕ). allPlaces forget s′ L []) (S .is) ∙ all-app forget s′ (S .X) (n ∷ S .Y) []
+        ∙ all-split forget s′ (S .Y) (placesOf forget n 0 (side s′ n .core .contents .boxes) (allPlaces forget s′ (S .X) []))
         ∙ ap₂ (λ (x y : List (Place (Unit {0}))). x ++ y) (all-off s′ s (S .Y) [] (λ m q. off-n b s e n h k (side s n .left) m (S .off-Y m q)))
         (places-split forget n 0 (side s′ n .core .contents .boxes) (allPlaces forget s′ (S .X) [])
         ∙ ap₂ (λ (o : Side) (y : List (Place (Unit {0}))). placesOf forget n 0 (o .core .contents .boxes) [] ++ y) (at-n b s e n h k (side s n .left)) (all-off s′ s (S .X) [] (λ m q. off-n b s e n h k (side s n .left) m (S .off-X m q))))
@@ -336,8 +345,11 @@ module _ (b : Composition) (s : State) (e : ready b s ≡ true) where
         away-C : Away n (F b s e n h ++ (SH b s e n h s ++ SX b s e n h))
         away-C = away-app n (F b s e n h) (SH b s e n h s ++ SX b s e n h) away-F′ (away-app n (SH b s e n h s) (SX b s e n h) away-SH′ (away-X′ (λ m q. beside m (in-sides m q) (S .off-X m q))))
 
-        more-of : (m : ℕ) → nk (mintOf n m) ≡ true → (map ownName (wrapperOf b .sides) ++ KX) ++ (KY ++ keep nk (upto (suc m) (mintOf n))) ≡ ((map ownName (wrapperOf b .sides) ++ KX) ++ (KY ++ keep nk (upto m (mintOf n)))) ++ mintOf n m ∷ []
-        more-of m q = ap (λ (r : List ℕ). (map ownName (wrapperOf b .sides) ++ KX) ++ (KY ++ r)) (keep-app nk (upto m (mintOf n)) (mintOf n m ∷ []) ∙ ap (λ (c : Bool). keep nk (upto m (mintOf n)) ++ cond c (mintOf n m ∷ []) []) q) ∙ regroup (map ownName (wrapperOf b .sides) ++ KX) KY (keep nk (upto m (mintOf n))) (mintOf n m ∷ [])
+        more-of : (m : ℕ) → nk (mintOf n m) ≡ true →
+            (map ownName (wrapperOf b .sides) ++ KX) ++ (KY ++ keep nk (upto (suc m) (mintOf n))) ≡ ((map ownName (wrapperOf b .sides) ++ KX) ++ (KY ++ keep nk (upto m (mintOf n)))) ++ mintOf n m ∷ []
+        more-of m q = ap (λ (r : List ℕ). (map ownName (wrapperOf b .sides) ++ KX) ++ (KY ++ r))
+            (keep-app nk (upto m (mintOf n)) (mintOf n m ∷ []) ∙ ap (λ (c : Bool). keep nk (upto m (mintOf n)) ++ cond c (mintOf n m ∷ []) []) q)
+            ∙ regroup (map ownName (wrapperOf b .sides) ++ KX) KY (keep nk (upto m (mintOf n))) (mintOf n m ∷ [])
           where
             regroup : (p o k x : List ℕ) → p ++ (o ++ (k ++ x)) ≡ (p ++ (o ++ k)) ++ x
             regroup p o k x = simp append-assoc

@@ -183,7 +183,8 @@ module _ (A : List ℕ) (bs : List (Place Mark)) (wf : Wf A bs) (ro : Rooted bs)
         bag = bag-trans (par-of X Y 0 (fwd t x i z o) (pout inert z (plain o) v)) (bag-eq (ap (λ (L : List (Item Mark)). item 0 (pout tt z (plain o) v) ∷ ritems forget L) (sym is)));
       }
 
-  pub go-on : {I : List (Item Mark)} {t s : Mark} {z : ℕ} {o : ITag ℕ} {v : Val ℕ} (x : ℕ) (i : ITag ℕ) (r : Reach bs 0) (X Y Z : List (Item Mark)) → I ≡ X ++ item 0 (fwd t x i z o) ∷ (Y ++ item 0 (pout s x (comp (plain i)) v) ∷ Z) → Each A I
+  pub go-on : {I : List (Item Mark)} {t s : Mark} {z : ℕ} {o : ITag ℕ} {v : Val ℕ} (x : ℕ) (i : ITag ℕ) (r : Reach bs 0) (X Y Z : List (Item Mark)) →
+      I ≡ X ++ item 0 (fwd t x i z o) ∷ (Y ++ item 0 (pout s x (comp (plain i)) v) ∷ Z) → Each A I
       → Moves A bs I tau (joint s t) (item 0 (pout tt z (plain o) v) ∷ ritems forget (X ++ item 0 (fwd t x i z o) ∷ (Y ++ Z)))
   unfolding remark AllN
   go-on {I} {t} {s} {z} {o} {v} x i r X Y Z is each =
@@ -193,7 +194,8 @@ module _ (A : List ℕ) (bs : List (Place Mark)) (wf : Wf A bs) (ro : Rooted bs)
       record {
         J = X ++ item 0 (ppar F (pout inert z (plain o) v)) ∷ (Y ++ item 0 pnil ∷ Z);
         step = subst (λ (L : List (Item Mark)). Trans A (fill bs (at L)) tau (joint s t) (fill bs (at (X ++ item 0 (ppar F (pout inert z (plain o) v)) ∷ (Y ++ item 0 pnil ∷ Z))))) (sym is)
-            (move-teem A bs wf {g = plain i} X Y Z 0 r (each-at A (X ++ item 0 F ∷ (Y ++ item 0 (pout s x (comp (plain i)) v) ∷ Z)) e) (out-beyond A x v (fo .0) (fo .2)) (Out fo) (sent-on o (each-mid A X (item 0 F) (Y ++ item 0 (pout s x (comp (plain i)) v) ∷ Z) e)));
+            (move-teem A bs wf {g = plain i} X Y Z 0 r (each-at A (X ++ item 0 F ∷ (Y ++ item 0 (pout s x (comp (plain i)) v) ∷ Z)) e) (out-beyond A x v (fo .0) (fo .2)) (Out fo)
+            (sent-on o (each-mid A X (item 0 F) (Y ++ item 0 (pout s x (comp (plain i)) v) ∷ Z) e)));
         bag = bag-trans (par-of X (Y ++ item 0 pnil ∷ Z) 0 F (pout inert z (plain o) v))
             (bag-cons (item 0 (pout tt z (plain o) v)) (without X Y Z F));
       }
@@ -237,7 +239,8 @@ module _ (w : Wrapper) (side : ℕ) (T : Table) (C D : List (Item Mark)) (s : Co
         X = r .pre;
         Y = r .post ++ (P ++ D);
         is = ap (λ (L : List (Item Mark)). C ++ ((L ++ P) ++ D)) (r .is ∙ ap (λ (n : ℕ). r .pre ++ msgItem ids w side n m ∷ r .post) (omega arith)) ∙ sym (shuffle2 C (r .pre) (r .post) P D (msgItem ids w side i m));
-        gone = ap₂ (λ (a b : List (Item (Unit {0}))). a ++ b) (ritems-app forget C (r .pre)) (post° (r .post)) ∙ shuffle1 (ritems forget C) (ritems forget (r .pre)) (ritems forget (r .post)) (map (plainP T side) (s .contents .particles)) (ritems forget D)
+        gone = ap₂ (λ (a b : List (Item (Unit {0}))). a ++ b) (ritems-app forget C (r .pre)) (post° (r .post))
+            ∙ shuffle1 (ritems forget C) (ritems forget (r .pre)) (ritems forget (r .post)) (map (plainP T side) (s .contents .particles)) (ritems forget D)
             ∙ ap (λ (a : List (Item (Unit {0}))). ritems forget C ++ ((a ++ map (plainP T side) (s .contents .particles)) ++ ritems forget D)) (r .gone);
         put = λ n. ap₂ (λ (a b : List (Item (Unit {0}))). a ++ plainM w side n ∷ b) (ritems-app forget C (r .pre)) (post° (r .post))
             ∙ shuffle2 (ritems forget C) (ritems forget (r .pre)) (ritems forget (r .post)) (map (plainP T side) (s .contents .particles)) (ritems forget D) (plainM w side n)
@@ -279,10 +282,12 @@ module _ (w : Wrapper) (side : ℕ) (T : Table) (C D : List (Item Mark)) (s : Co
   add-part l ps p =
       bag-trans (bag-cons (plainP T side p) (bag-eq (last2 (ritems forget C) (map (plainM w side) l) (map (plainP T side) ps) (ritems forget D))))
       (bag-trans (bag-sym (bag-mid (ritems forget C ++ (map (plainM w side) l ++ map (plainP T side) ps)) (plainP T side p) (ritems forget D)))
-      (bag-eq (sym (last1 (ritems forget C) (map (plainM w side) l) (map (plainP T side) ps) (ritems forget D) (plainP T side p)) ∙ ap (λ (a : List (Item (Unit {0}))). ritems forget C ++ ((map (plainM w side) l ++ a) ++ ritems forget D)) (sym (map-add (plainP T side) ps p)))))
+      (bag-eq (sym (last1 (ritems forget C) (map (plainM w side) l) (map (plainP T side) ps) (ritems forget D) (plainP T side p))
+      ∙ ap (λ (a : List (Item (Unit {0}))). ritems forget C ++ ((map (plainM w side) l ++ a) ++ ritems forget D)) (sym (map-add (plainP T side) ps p)))))
 
   pub add-msg : (l : List Message) (m : Message) (ps : List Particle) → Bag (plainM w side m ∷ target l ps) (target (l ++ m ∷ []) ps)
   add-msg l m ps =
       bag-trans (bag-cons (plainM w side m) (bag-eq (last4 (ritems forget C) (map (plainM w side) l) (map (plainP T side) ps) (ritems forget D))))
       (bag-trans (bag-sym (bag-mid (ritems forget C ++ map (plainM w side) l) (plainM w side m) (map (plainP T side) ps ++ ritems forget D)))
-      (bag-eq (sym (last3 (ritems forget C) (map (plainM w side) l) (map (plainP T side) ps) (ritems forget D) (plainM w side m)) ∙ ap (λ (a : List (Item (Unit {0}))). ritems forget C ++ ((a ++ map (plainP T side) ps) ++ ritems forget D)) (sym (map-add (plainM w side) l m)))))
+      (bag-eq (sym (last3 (ritems forget C) (map (plainM w side) l) (map (plainP T side) ps) (ritems forget D) (plainM w side m))
+      ∙ ap (λ (a : List (Item (Unit {0}))). ritems forget C ++ ((a ++ map (plainP T side) ps) ++ ritems forget D)) (sym (map-add (plainM w side) l m)))))

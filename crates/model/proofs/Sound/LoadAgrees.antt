@@ -148,7 +148,9 @@ module _ (ts : List Table) where
   -- the pipeline
   start2-is : plainOf b2 s02 (item (siteOf 1 0) P1 ∷ item (siteOf 2 0) P2 ∷ ritems forget (confOf b2 s02 .items)) ≋ W2 tt P1 P2
   unfolding newOf confAs remark restrict fill ren
-  start2-is = in-new (in-new (in-par (in-box (inner P1 (fresh-of 81 (omega arith) (codeOf (term T1 0))) (fresh-of 82 (omega arith) (codeOf (term T1 0))))) (in-par (in-box (inner P2 (fresh-of 81 (omega arith) (codeOf (term T2 0))) (fresh-of 82 (omega arith) (codeOf (term T2 0))))) rfl)))
+  start2-is = in-new (in-new
+      (in-par (in-box (inner P1 (fresh-of 81 (omega arith) (codeOf (term T1 0))) (fresh-of 82 (omega arith) (codeOf (term T1 0)))))
+      (in-par (in-box (inner P2 (fresh-of 81 (omega arith) (codeOf (term T2 0))) (fresh-of 82 (omega arith) (codeOf (term T2 0))))) rfl)))
     where
       inner : (S : Proc (Unit {0}) []) → Fresh 81 S → Fresh 82 S → ppar (ren {r = two-scope} (closed 82 S) (under (theBound 81))) pnil ≋ ren {r = two-scope} S far
       inner S h k = trans par-nil (subst (λ (X : Proc (Unit {0}) two-scope). X ≋ ren {r = two-scope} S far) (sym (closed2 S h k)) rfl)
@@ -160,9 +162,11 @@ module _ (ts : List Table) where
       let si = root-sits T1 c in
       let few : start 1 T1 .minted ≤ 256 = leb-true (start 1 T1 .minted) 256 (snd _ _ (snd _ _ r)) in
       let vw = view b2 s02 e 1 refl in
-      subst₂ (λ (ρ : ℕ → Val ℕ) (I : List (Item (Unit {0}))). plainOf b2 s02 (item (siteOf 1 0) (proc [] tt (codeOf (term T1 0)) ρ) ∷ item (siteOf 2 0) P2 ∷ I) ≋ plainOf b2 s12 (item (siteOf 2 0) P2 ∷ ritems forget (confOf b2 s12 .items))) env-none
+      subst₂ (λ (ρ : ℕ → Val ℕ) (I : List (Item (Unit {0}))). plainOf b2 s02 (item (siteOf 1 0) (proc [] tt (codeOf (term T1 0)) ρ) ∷ item (siteOf 2 0) P2 ∷ I) ≋ plainOf b2 s12
+      (item (siteOf 2 0) P2 ∷ ritems forget (confOf b2 s12 .items))) env-none
       (sym (whole° (wrapperOf b2) 1 T1 (vw .C) (vw .D) (vw .core)) ∙ ap (ritems forget) (sym (vw .items-now)))
-      (grown-cong b2 s02 e (view b2 s02 e 1 refl) (orient b2 s02 e 1 refl) (refl, refl) (item (siteOf 2 0) P2 ∷ []) (low-names b2 s02 (codeOf (term T2 0)), tt) (λ k. ap (λ (t : Bool). cond t (P2 ∷ []) []) (ne-eqb (siteOf 1 k) 2 (λ q. omega arith)))
+      (grown-cong b2 s02 e (view b2 s02 e 1 refl) (orient b2 s02 e 1 refl) (refl, refl) (item (siteOf 2 0) P2 ∷ []) (low-names b2 s02 (codeOf (term T2 0)), tt)
+      (λ k. ap (λ (t : Bool). cond t (P2 ∷ []) []) (ne-eqb (siteOf 1 k) 2 (λ q. omega arith)))
       si noNames refl refl refl (fits-names si noNames refl) 0 (omega arith) [] refl few)
 
   second-step : Checked T2 → withinLimits (start 2 T2) ≡ true → (e : ready b2 s12 ≡ true) → plainOf b2 s12 (item (siteOf 2 0) P2 ∷ ritems forget (confOf b2 s12 .items)) ≋ plainOf b2 s22 (ritems forget (confOf b2 s22 .items))
@@ -196,7 +200,9 @@ unfolding LoadAgrees
 load-agrees b s e = (λ w. as-W1 w e, λ w. as-W2 w e)
   where
     as-W1 : b .wrapper ≡ 1 → load b ≡ ok s → plainly (process (confOf b s)) ≋ W1 tt (proc [] tt (codeOf (term (table b 1) 0)) public)
-    as-W1 w = subst (λ (x : ℕ). load (record { wrapper = x; tables = b .tables }) ≡ ok s → plainly (process (confOf (record { wrapper = x; tables = b .tables }) s)) ≋ W1 tt (proc [] tt (codeOf (term (table b 1) 0)) public)) (sym w) (one-agrees (b .tables) s)
+    as-W1 w = subst (λ (x : ℕ). load (record { wrapper = x; tables = b .tables }) ≡ ok s →
+        plainly (process (confOf (record { wrapper = x; tables = b .tables }) s)) ≋ W1 tt (proc [] tt (codeOf (term (table b 1) 0)) public)) (sym w) (one-agrees (b .tables) s)
 
     as-W2 : b .wrapper ≡ 2 → load b ≡ ok s → plainly (process (confOf b s)) ≋ W2 tt (proc [] tt (codeOf (term (table b 1) 0)) public) (proc [] tt (codeOf (term (table b 2) 0)) public)
-    as-W2 w = subst (λ (x : ℕ). load (record { wrapper = x; tables = b .tables }) ≡ ok s → plainly (process (confOf (record { wrapper = x; tables = b .tables }) s)) ≋ W2 tt (proc [] tt (codeOf (term (table b 1) 0)) public) (proc [] tt (codeOf (term (table b 2) 0)) public)) (sym w) (two-agrees (b .tables) s)
+    as-W2 w = subst (λ (x : ℕ). load (record { wrapper = x; tables = b .tables }) ≡ ok s →
+        plainly (process (confOf (record { wrapper = x; tables = b .tables }) s)) ≋ W2 tt (proc [] tt (codeOf (term (table b 1) 0)) public) (proc [] tt (codeOf (term (table b 2) 0)) public)) (sym w) (two-agrees (b .tables) s)

@@ -93,10 +93,12 @@ does-nil (suc n) v fit e ip iv di = absurd (clash e)
 skip : (p : ℕ) (ps : List ℕ) → isPublic p ≡ false → binders (p ∷ ps) ≡ binders ps
 skip p ps e = ap (λ (b : Bool). cond b (p ∷ binders ps) (binders ps)) e
 
-matched-to : (p : List ℕ) (n : ℕ) (v : List ℕ) (bs : List (List ℕ)) (Q : NPats) (W : Vals ℕ) (F : ℕ → Val ℕ → Val ℕ) → readsP p n ≡ Q → reads v n ≡ W → Takes Q W F → ((x : ℕ) (d : List ℕ) → F x (valOf d) ≡ valOf (lookup (binders p) bs x d)) → Matched p n v bs
+matched-to : (p : List ℕ) (n : ℕ) (v : List ℕ) (bs : List (List ℕ)) (Q : NPats) (W : Vals ℕ) (F : ℕ → Val ℕ → Val ℕ) → readsP p n ≡ Q → reads v n ≡ W → Takes Q W F →
+    ((x : ℕ) (d : List ℕ) → F x (valOf d) ≡ valOf (lookup (binders p) bs x d)) → Matched p n v bs
 matched-to p n v bs Q W F a b t w = record { F = F; takes = subst₂ (λ (x : NPats) (y : Vals ℕ). Takes x y F) (sym a) (sym b) t; words = w }
 
-does-tuple : (p : ℕ) (ps : List ℕ) → Does ps → isTuple p ≡ true → (n : ℕ) (v : List ℕ) (fit : Fit) → matches (p ∷ ps) (suc n) v ≡ done fit → items isPatternLeaf 5 (p ∷ ps) (suc n) ≡ done [] → items isName 11 v (suc n) ≡ done [] → distinct (binders (p ∷ ps)) ≡ true → Matched (p ∷ ps) (suc n) v (fit .bound)
+does-tuple : (p : ℕ) (ps : List ℕ) → Does ps → isTuple p ≡ true → (n : ℕ) (v : List ℕ) (fit : Fit) → matches (p ∷ ps) (suc n) v ≡ done fit → items isPatternLeaf 5 (p ∷ ps) (suc n) ≡ done [] →
+    items isName 11 v (suc n) ≡ done [] → distinct (binders (p ∷ ps)) ≡ true → Matched (p ∷ ps) (suc n) v (fit .bound)
 unfolding matches
 does-tuple p ps ih t n [] fit e ip iv di = absurd (clash (rw (t, matches) at e))
 does-tuple p ps ih t n (w ∷ ws) fit e ip iv di = go (eqb w p) refl
@@ -111,12 +113,14 @@ does-tuple p ps ih t n (w ∷ ws) fit e ip iv di = go (eqb w p) refl
         let Q = readsP ps (arity p + n) in
         let W = reads ws (arity p + n) in
         let h = halves (arity p) Q W (r .takes .σ) (r .takes .is) in
-        matched-to (p ∷ ps) (suc n) (w ∷ ws) (fit .bound) (pand (parts (firstP (arity p) Q)) (behindP (arity p) Q)) (vcons (tup (firstV (arity p) W)) (behindV (arity p) W)) (λ x d. valueOr (h .first .σ) (finds (firstP (arity p) Q) x) (h .F2 x d))
+        matched-to (p ∷ ps) (suc n) (w ∷ ws) (fit .bound) (pand (parts (firstP (arity p) Q)) (behindP (arity p) Q)) (vcons (tup (firstV (arity p) W)) (behindV (arity p) W))
+        (λ x d. valueOr (h .first .σ) (finds (firstP (arity p) Q) x) (h .F2 x d))
         (readsP-tuple p ps n t) (reads-tuple w ws n tw ∙ ap (λ (y : ℕ). vcons (tup (firstV (arity y) (reads ws (arity y + n)))) (behindV (arity y) (reads ws (arity y + n)))) same)
         (takes-and (parts (firstP (arity p) Q)) (behindP (arity p) Q) (tup (firstV (arity p) W)) (behindV (arity p) W) (h .first .σ) (h .F2) (h .first .is) (h .behind))
         (λ x d. h .first .at x (h .F2 x (valOf d)) ∙ h .joined x (valOf d) ∙ r .takes .at x (valOf d) ∙ r .words x d ∙ ap (λ (l : List ℕ). valOf (lookup l (fit .bound) x d)) (sym (skip p ps (tuple-not-public p t))))
 
-does-other : (p : ℕ) (ps : List ℕ) → Does ps → isTuple p ≡ false → (n : ℕ) (v : List ℕ) (fit : Fit) → matches (p ∷ ps) (suc n) v ≡ done fit → items isPatternLeaf 5 (p ∷ ps) (suc n) ≡ done [] → items isName 11 v (suc n) ≡ done [] → distinct (binders (p ∷ ps)) ≡ true → Matched (p ∷ ps) (suc n) v (fit .bound)
+does-other : (p : ℕ) (ps : List ℕ) → Does ps → isTuple p ≡ false → (n : ℕ) (v : List ℕ) (fit : Fit) → matches (p ∷ ps) (suc n) v ≡ done fit → items isPatternLeaf 5 (p ∷ ps) (suc n) ≡ done [] →
+    items isName 11 v (suc n) ≡ done [] → distinct (binders (p ∷ ps)) ≡ true → Matched (p ∷ ps) (suc n) v (fit .bound)
 unfolding matches
 does-other p ps ih t n v fit e ip iv di = let fr = first-rest v n iv in go (isPublic p) refl fr (leafy (isPatternLeaf p) refl) (ap (λ (x : List ℕ). reads x (suc n)) (fr .0) ∙ value-front (firstOf v) (restOf v) n (fr .1))
   where
@@ -124,14 +128,16 @@ does-other p ps ih t n v fit e ip iv di = let fr = first-rest v n iv in go (isPu
     leafy true q = sym (items-leaf isPatternLeaf 5 p ps n q) ∙ ip
     leafy false q = absurd (clash (sym (items-bad isPatternLeaf 5 p ps n q t) ∙ ip))
 
-    go : (b : Bool) → isPublic p ≡ b → (v ≡ firstOf v ++ restOf v) × (items isName 11 (firstOf v) 1 ≡ done []) × (items isName 11 (restOf v) n ≡ done []) → items isPatternLeaf 5 ps n ≡ done [] → reads v (suc n) ≡ vcons (valOf (firstOf v)) (reads (restOf v) n) → Matched (p ∷ ps) (suc n) v (fit .bound)
+    go : (b : Bool) → isPublic p ≡ b → (v ≡ firstOf v ++ restOf v) × (items isName 11 (firstOf v) 1 ≡ done []) × (items isName 11 (restOf v) n ≡ done []) → items isPatternLeaf 5 ps n ≡ done [] →
+        reads v (suc n) ≡ vcons (valOf (firstOf v)) (reads (restOf v) n) → Matched (p ∷ ps) (suc n) v (fit .bound)
     go true q fr ip′ rd =
         let (fit′, a, b) = bind-done _ _ _ (rw (t, q, matches) at e) in
         let di′ : not (has p (binders ps)) && distinct (binders ps) ≡ true = subst (λ (l : List ℕ). distinct l ≡ true) (binders-name p ps q) di in
         let r = ih n (restOf v) fit′ a ip′ (fr .2) (and-right (not (has p (binders ps))) (distinct (binders ps)) di′) in
         matched-to (p ∷ ps) (suc n) v (fit .bound) (pand (named p) (readsP ps n)) (vcons (valOf (firstOf v)) (reads (restOf v) n)) (λ x d. valueOr (λ z. valOf (firstOf v)) (find (named p) x) (r .F x d))
         (readsP-name p ps n t q) rd (takes-and (named p) (readsP ps n) (valOf (firstOf v)) (reads (restOf v) n) (λ z. valOf (firstOf v)) (r .F) refl (r .takes))
-        (λ x d. by-name x (r .F x) (eqb p x) refl (fit′ .bound) (not-true (has p (binders ps)) (and-left (not (has p (binders ps))) (distinct (binders ps)) di′)) (r .words x) d ∙ ap₂ (λ (l : List ℕ) (u : List (List ℕ)). valOf (lookup l u x d)) (sym (binders-name p ps q)) (ap (λ (y : Fit). y .bound) (done-inj b)))
+        (λ x d. by-name x (r .F x) (eqb p x) refl (fit′ .bound) (not-true (has p (binders ps)) (and-left (not (has p (binders ps))) (distinct (binders ps)) di′)) (r .words x) d
+        ∙ ap₂ (λ (l : List ℕ) (u : List (List ℕ)). valOf (lookup l u x d)) (sym (binders-name p ps q)) (ap (λ (y : Fit). y .bound) (done-inj b)))
       where
         by-name : (x : ℕ) (G : Val ℕ → Val ℕ) (c : Bool) → eqb p x ≡ c → (us : List (List ℕ)) → has p (binders ps) ≡ false → ((d : List ℕ) → G (valOf d) ≡ valOf (lookup (binders ps) us x d)) → (d : List ℕ)
             → valueOr {B = Unit {0}} (λ z. valOf (firstOf v)) (cond (eqb p x) (some tt) none) (G (valOf d)) ≡ valOf (lookup (p ∷ binders ps) (firstOf v ∷ us) x d)

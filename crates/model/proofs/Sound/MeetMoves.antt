@@ -78,7 +78,8 @@ module _ (b : Composition) (s : State) (e : ready b s ≡ true) (vw : View b s) 
   differ i j β ch g v γ n vs p q r = let z : some (output β ch g v) ≡ some (input γ n vs) = sym p ∙ ap (getElem? (vw .core .contents .particles)) r ∙ q in let y : _≡_ {A = ℕ} 0 1 = cc in omega arith
 
   module _ (i j β ch : ℕ) (g : STag) (v : List ℕ) (n : ℕ) (vs : List (List ℕ)) (gp : getElem? (vw .core .contents .particles) i ≡ some (output β ch g v)) (gq : getElem? (vw .core .contents .particles) j ≡ some (input β n vs))
-      (node : InputAt (vw .c .table) n) (wp : wfParticle (vw .c .table) (counts s) (length (vw .core .contents .boxes)) (output β ch g v) ≡ true) (wq : wfParticle (vw .c .table) (counts s) (length (vw .core .contents .boxes)) (input β n vs) ≡ true) where
+      (node : InputAt (vw .c .table) n) (wp : wfParticle (vw .c .table) (counts s) (length (vw .core .contents .boxes)) (output β ch g v) ≡ true)
+      (wq : wfParticle (vw .c .table) (counts s) (length (vw .core .contents .boxes)) (input β n vs) ≡ true) where
     abbrev pub ρ : Env
     ρ = envAt Tb n vs
 
@@ -179,18 +180,23 @@ module _ (b : Composition) (s : State) (e : ready b s ≡ true) (vw : View b s) 
         dP = subst (λ (o : Tag ℕ). Trans A (pout (part side i) ch (tagOut g) (valOf v)) (send ch o (valOf v)) (lone (part side i)) pnil) tag-is (Out fP)
 
         dQ : Trans A Q (recv ch (plain ι) (valOf v)) (joint (part side i) (part side j)) (leaves (node .again) Q (inst B0 (bd .σ)))
-        dQ = subst (λ (R : Proc Mark []). Trans A Q (recv ch (plain ι) (valOf v)) (joint (part side i) (part side j)) R) (after-is (node .again) (part side j) ch ι (shape (patOf (node .pat))) B0 (bd .σ)) (recv-of (modeOf (node .again)) fQ (bd .is) inst-ok)
+        dQ = subst (λ (R : Proc Mark []). Trans A Q (recv ch (plain ι) (valOf v)) (joint (part side i) (part side j)) R)
+            (after-is (node .again) (part side j) ch ι (shape (patOf (node .pat))) B0 (bd .σ)) (recv-of (modeOf (node .again)) fQ (bd .is) inst-ok)
 
         beyond-none : beyond A (ch ∷ names (valOf v)) ≡ []
         unfolding AllN
         beyond-none = out-beyond A ch (valOf v) (fP .0) (fP .2)
 
-        moved : Moves A (confOf b s .boxes) (whole (wrapperOf b) side Tb (vw .C) (vw .D) (vw .core)) tau (joint (part side i) (part side j)) (item (siteOf side β) (remark forget (inst B0 (bd .σ))) ∷ target (wrapperOf b) side Tb (vw .C) (vw .D) (vw .core) (vw .core .lobby) (without (node .again) (vw .core .contents .particles) i j))
-        moved = go-meet (wrapperOf b) side Tb (vw .C) (vw .D) (vw .core) A (confOf b s .boxes) (wf-all b s e) (each-now b s e vw) (node .again) (siteOf side β) (pout (part side i) ch (tagOut g) (valOf v)) Q (inst B0 (bd .σ)) (reach β lb) (plain ι) beyond-none dP dQ
+        moved : Moves A (confOf b s .boxes) (whole (wrapperOf b) side Tb (vw .C) (vw .D) (vw .core)) tau (joint (part side i) (part side j))
+            (item (siteOf side β) (remark forget (inst B0 (bd .σ))) ∷ target (wrapperOf b) side Tb (vw .C) (vw .D) (vw .core) (vw .core .lobby) (without (node .again) (vw .core .contents .particles) i j))
+        moved = go-meet (wrapperOf b) side Tb (vw .C) (vw .D) (vw .core) A (confOf b s .boxes) (wf-all b s e) (each-now b s e vw) (node .again) (siteOf side β)
+            (pout (part side i) ch (tagOut g) (valOf v)) Q (inst B0 (bd .σ)) (reach β lb) (plain ι) beyond-none dP dQ
             (output β ch g v) (input β n vs) i j refl Q-is gp gq (differ i j β ch g v β n vs gp gq)
 
-        moves-here : Moves A (confOf b s .boxes) (confOf b s .items) tau (joint (part side i) (part side j)) (item (siteOf side β) (proc [] tt (codeOf (node .body)) (envOf ρ')) ∷ target (wrapperOf b) side Tb (vw .C) (vw .D) (vw .core) (vw .core .lobby) (without (node .again) (vw .core .contents .particles) i j))
-        moves-here = subst₂ (λ (I : List (Item Mark)) (P : Proc (Unit {0}) []). Moves A (confOf b s .boxes) I tau (joint (part side i) (part side j)) (item (siteOf side β) P ∷ target (wrapperOf b) side Tb (vw .C) (vw .D) (vw .core) (vw .core .lobby) (without (node .again) (vw .core .contents .particles) i j)))
+        moves-here : Moves A (confOf b s .boxes) (confOf b s .items) tau (joint (part side i) (part side j))
+            (item (siteOf side β) (proc [] tt (codeOf (node .body)) (envOf ρ')) ∷ target (wrapperOf b) side Tb (vw .C) (vw .D) (vw .core) (vw .core .lobby) (without (node .again) (vw .core .contents .particles) i j))
+        moves-here = subst₂ (λ (I : List (Item Mark)) (P : Proc (Unit {0}) []). Moves A (confOf b s .boxes) I tau (joint (part side i) (part side j))
+            (item (siteOf side β) P ∷ target (wrapperOf b) side Tb (vw .C) (vw .D) (vw .core) (vw .core .lobby) (without (node .again) (vw .core .contents .particles) i j)))
             (sym (vw .items-now)) (ap (remark forget) body-is ∙ remark-proc forget [] (part side j) (codeOf (node .body)) (envOf ρ')) moved
 
         pub met : unfolds side (node .body) ρ' β (withParticles (vw .core .contents) (without (node .again) (vw .core .contents .particles) i j)) .minted ≤ 256
@@ -203,9 +209,11 @@ module _ (b : Composition) (s : State) (e : ready b s ≡ true) (vw : View b s) 
   meeting i j m h lim =
       let (p, gp, h1) = pick-get (vw .core .contents .particles) i _ m h in
       let (q, gq, h2) = pick-get (vw .core .contents .particles) j _ m h1 in
-      go p q gp gq (get-every (wfParticle Tb (counts s) nb) (vw .core .contents .particles) i p (vw .ok .contents .particles) gp) (get-every (wfParticle Tb (counts s) nb) (vw .core .contents .particles) j q (vw .ok .contents .particles) gq) h2
+      go p q gp gq (get-every (wfParticle Tb (counts s) nb) (vw .core .contents .particles) i p (vw .ok .contents .particles) gp)
+      (get-every (wfParticle Tb (counts s) nb) (vw .core .contents .particles) j q (vw .ok .contents .particles) gq) h2
     where
-      go : (p q : Particle) → getElem? (vw .core .contents .particles) i ≡ some p → getElem? (vw .core .contents .particles) j ≡ some q → wfParticle Tb (counts s) nb p ≡ true → wfParticle Tb (counts s) nb q ≡ true → meetParticles (vw .c) (vw .core) i j p q ≡ done m
+      go : (p q : Particle) → getElem? (vw .core .contents .particles) i ≡ some p → getElem? (vw .core .contents .particles) j ≡ some q → wfParticle Tb (counts s) nb p ≡ true →
+          wfParticle Tb (counts s) nb q ≡ true → meetParticles (vw .c) (vw .core) i j p q ≡ done m
           → (m .label ≡ silent) × Goes b s (after b s e vw m) tau (joint (part side i) (part side j))
       go (output β ch g v) (output γ ch' g' v') gp gq wp wq h = absurd (clash h)
       go (input β n vs) q gp gq wp wq h = absurd (clash h)
@@ -213,7 +221,8 @@ module _ (b : Composition) (s : State) (e : ready b s ≡ true) (vw : View b s) 
           let node = input-node ids A (counts s) (held-in b s) zero-in Tb (vw .checked) nb side γ n vs wq in
           at-node node (subst (λ (a : Term). meetTerm (vw .c) (vw .core) i j β ch g v γ (envAt Tb n vs) a ≡ done m) (node .is) h)
         where
-          at-node : (node : InputAt Tb n) → meetTerm (vw .c) (vw .core) i j β ch g v γ (envAt Tb n vs) (inp n (node .again) (node .chan) (node .tag) (node .pat) (node .body)) ≡ done m → (m .label ≡ silent) × Goes b s (after b s e vw m) tau (joint (part side i) (part side j))
+          at-node : (node : InputAt Tb n) → meetTerm (vw .c) (vw .core) i j β ch g v γ (envAt Tb n vs) (inp n (node .again) (node .chan) (node .tag) (node .pat) (node .body)) ≡ done m →
+              (m .label ≡ silent) × Goes b s (after b s e vw m) tau (joint (part side i) (part side j))
           at-node node h =
               let x = need-done _ _ _ _ h in
               let y = bind-done _ _ _ (x .1) in
@@ -221,5 +230,8 @@ module _ (b : Composition) (s : State) (e : ready b s ≡ true) (vw : View b s) 
               let same : γ ≡ β = sym (eqb-true β γ (fst _ _ (x .0))) in
               let gq' = subst (λ (k : ℕ). getElem? (vw .core .contents .particles) j ≡ some (input k n vs)) same gq in
               let wq' = subst (λ (k : ℕ). wfParticle Tb (counts s) nb (input k n vs) ≡ true) same wq in
-              subst (λ (k : Moved). (k .label ≡ silent) × Goes b s (after b s e vw k) tau (joint (part side i) (part side j))) (done-inj (z .1))
-              (refl, met i j β ch g v n vs gp gq' node wp wq' (y .0) (y .1) (z .0) (eqb-true ch (word (envAt Tb n vs) (node .chan)) (fst _ _ (snd _ _ (x .0)))) (snd _ _ (snd _ _ (x .0))) (leb-true _ 256 (snd _ _ (snd _ _ (roomy-of _ (at-limits (z .1) lim))))))
+              subst (λ (k : Moved). (k .label ≡ silent) × Goes b s (after b s e vw k) tau (joint (part side i) (part side j))) (done-inj (z .1)) (
+                refl,
+                met i j β ch g v n vs gp gq' node wp wq' (y .0) (y .1) (z .0) (eqb-true ch (word (envAt Tb n vs) (node .chan)) (fst _ _ (snd _ _ (x .0)))) (snd _ _ (snd _ _ (x .0)))
+                    (leb-true _ 256 (snd _ _ (snd _ _ (roomy-of _ (at-limits (z .1) lim))))),
+              )

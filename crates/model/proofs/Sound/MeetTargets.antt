@@ -115,7 +115,8 @@ module _ (b : Composition) (s : State) (e : ready b s ≡ true) (vw : View b s) 
 
   bag0 : (p : List Particle) → Bag (aim p) (R0 ++ map (plainP Tb side) p)
   bag0 p = bag-trans (bag-eq (regroup (ritems forget (vw .C)) (map (plainM (wrapperOf b) side) (vw .core .lobby)) (map (plainP Tb side) p) (ritems forget (vw .D))))
-      (bag-trans (bag-app {X = ritems forget (vw .C) ++ map (plainM (wrapperOf b) side) (vw .core .lobby)} {X' = ritems forget (vw .C) ++ map (plainM (wrapperOf b) side) (vw .core .lobby)} bag-refl (bag-comm (map (plainP Tb side) p) (ritems forget (vw .D))))
+      (bag-trans (bag-app {X = ritems forget (vw .C) ++ map (plainM (wrapperOf b) side) (vw .core .lobby)} {X' = ritems forget (vw .C) ++ map (plainM (wrapperOf b) side) (vw .core .lobby)} bag-refl
+      (bag-comm (map (plainP Tb side) p) (ritems forget (vw .D))))
       (bag-eq (regroup-back (ritems forget (vw .C)) (map (plainM (wrapperOf b) side) (vw .core .lobby)) (map (plainP Tb side) p) (ritems forget (vw .D)))))
     where
       regroup : (c m p d : List (Item (Unit {0}))) → c ++ ((m ++ p) ++ d) ≡ (c ++ m) ++ (p ++ d)
@@ -141,8 +142,12 @@ module _ (b : Composition) (s : State) (e : ready b s ≡ true) (vw : View b s) 
   none-parts : (p : List Particle) → every (wfParticle Tb (counts s) nb) p ≡ true → (k : ℕ) → nb ≤ k → select (map (plainP Tb side) p) (siteOf side k) ≡ []
   unfolding wfParticle
   none-parts [] h k l = refl
-  none-parts (output a ch g v ∷ p) h k l = ap (λ (c : Bool). cond c (plainP Tb side (output a ch g v) .what ∷ select (map (plainP Tb side) p) (siteOf side k)) (select (map (plainP Tb side) p) (siteOf side k))) (ne-eqb (siteOf side k) (siteOf side a) (λ q. let z = ltb-true a nb (fst _ _ (fst _ _ h)) in omega arith)) ∙ none-parts p (snd _ _ h) k l
-  none-parts (input a n vs ∷ p) h k l = ap (λ (c : Bool). cond c (plainP Tb side (input a n vs) .what ∷ select (map (plainP Tb side) p) (siteOf side k)) (select (map (plainP Tb side) p) (siteOf side k))) (ne-eqb (siteOf side k) (siteOf side a) (λ q. let z = ltb-true a nb (fst _ _ (fst _ _ h)) in omega arith)) ∙ none-parts p (snd _ _ h) k l
+  none-parts (output a ch g v ∷ p) h k l = ap
+      (λ (c : Bool). cond c (plainP Tb side (output a ch g v) .what ∷ select (map (plainP Tb side) p) (siteOf side k)) (select (map (plainP Tb side) p) (siteOf side k)))
+      (ne-eqb (siteOf side k) (siteOf side a) (λ q. let z = ltb-true a nb (fst _ _ (fst _ _ h)) in omega arith)) ∙ none-parts p (snd _ _ h) k l
+  none-parts (input a n vs ∷ p) h k l = ap
+      (λ (c : Bool). cond c (plainP Tb side (input a n vs) .what ∷ select (map (plainP Tb side) p) (siteOf side k)) (select (map (plainP Tb side) p) (siteOf side k)))
+      (ne-eqb (siteOf side k) (siteOf side a) (λ q. let z = ltb-true a nb (fst _ _ (fst _ _ h)) in omega arith)) ∙ none-parts p (snd _ _ h) k l
 
   pos : 1 ≤ side
   pos = positive (vw .c .side) (own .0) .0
@@ -152,7 +157,9 @@ module _ (b : Composition) (s : State) (e : ready b s ≡ true) (vw : View b s) 
 
   none-msgs : (l : List Message) (k : ℕ) → select (map (plainM (wrapperOf b) side) l) (siteOf side k) ≡ []
   none-msgs [] k = refl
-  none-msgs (m ∷ l) k = ap (λ (c : Bool). cond c (plainM (wrapperOf b) side m .what ∷ select (map (plainM (wrapperOf b) side) l) (siteOf side k)) (select (map (plainM (wrapperOf b) side) l) (siteOf side k))) (ne-eqb (siteOf side k) 0 (λ q. omega (arith, pos))) ∙ none-msgs l k
+  none-msgs (m ∷ l) k = ap
+      (λ (c : Bool). cond c (plainM (wrapperOf b) side m .what ∷ select (map (plainM (wrapperOf b) side) l) (siteOf side k)) (select (map (plainM (wrapperOf b) side) l) (siteOf side k)))
+      (ne-eqb (siteOf side k) 0 (λ q. omega (arith, pos))) ∙ none-msgs l k
 
   none-all : (p : List Particle) → every (wfParticle Tb (counts s) nb) p ≡ true → (k : ℕ) → nb ≤ k → select (R0 ++ map (plainP Tb side) p) (siteOf side k) ≡ []
   none-all p h k l =
@@ -182,16 +189,21 @@ module _ (b : Composition) (s : State) (e : ready b s ≡ true) (vw : View b s) 
       go (suc (suc (suc n))) f = let z = past (counts s) (suc (suc n)) (omega (arith, long)) in omega arith
 
   mine-top : mine (vw .c) top ≡ 256
-  mine-top = ⊎-elim (λ q. ap (countOf top) (eqb-true (vw .c .side) 1 q)) (λ q. ⊎-elim (λ r. ap (countOf top) (eqb-true (vw .c .side) 2 r)) (λ r. absurd (false≢true r)) (bool-cases (eqb (vw .c .side) 2) false q)) (bool-cases (eqb (vw .c .side) 1) (has (vw .c .side) (2 ∷ [])) (own .0))
+  mine-top = ⊎-elim (λ q. ap (countOf top) (eqb-true (vw .c .side) 1 q))
+      (λ q. ⊎-elim (λ r. ap (countOf top) (eqb-true (vw .c .side) 2 r)) (λ r. absurd (false≢true r)) (bool-cases (eqb (vw .c .side) 2) false q)) (bool-cases (eqb (vw .c .side) 1) (has (vw .c .side) (2 ∷ [])) (own .0))
 
   -- a body at a box, beside other items X, is the next state beside them
-  pub grown-cong : (X : List (Item (Unit {0}))) → Each (All b s) X → ((k : ℕ) → select X (siteOf side k) ≡ []) → {σ : List ℕ} {a : Term} → Sits Tb σ a → (ρ : Env) → ρ .names ≡ σ → Sized ρ → every (wfValue (counts s)) (ρ .vals) ≡ true → defined a ρ ≡ true
+  pub grown-cong : (X : List (Item (Unit {0}))) → Each (All b s) X → ((k : ℕ) → select X (siteOf side k) ≡ []) → {σ : List ℕ} {a : Term} → Sits Tb σ a → (ρ : Env) → ρ .names ≡ σ → Sized ρ →
+      every (wfValue (counts s)) (ρ .vals) ≡ true → defined a ρ ≡ true
       → (β : ℕ) → β < nb → (p0 : List Particle) → every (wfParticle Tb (counts s) nb) p0 ≡ true → unfolds side a ρ β (withParticles (vw .core .contents) p0) .minted ≤ 256
       → restrict (newOf b s) (fill (rplaces forget (confOf b s .boxes)) (at (item (siteOf side β) (proc [] tt (codeOf a) (envOf ρ)) ∷ (X ++ aim p0))))
-      ≋ restrict (newOf b (vw .next (withContents (vw .core) (unfolds side a ρ β (withParticles (vw .core .contents) p0))) (vw .left))) (fill (rplaces forget (confOf b (vw .next (withContents (vw .core) (unfolds side a ρ β (withParticles (vw .core .contents) p0))) (vw .left)) .boxes))
+      ≋ restrict (newOf b (vw .next (withContents (vw .core) (unfolds side a ρ β (withParticles (vw .core .contents) p0))) (vw .left)))
+      (fill (rplaces forget (confOf b (vw .next (withContents (vw .core) (unfolds side a ρ β (withParticles (vw .core .contents) p0))) (vw .left)) .boxes))
       (at (X ++ ritems forget (confOf b (vw .next (withContents (vw .core) (unfolds side a ρ β (withParticles (vw .core .contents) p0))) (vw .left)) .items))))
   unfolding process
-  grown-cong X eX aX {σ} {a} si ρ nm sz vs ft β lb p0 wp few = trans s1 (trans s2 (trans s3 (trans (subst (λ (Z : Conf (Unit {0})). process (unfold′ (mt side) (siteOf side) tt (codeOf a) (envOf ρ) (siteOf side β) C0) ≋ process Z) s4 rfl) (trans s5 (symm (ori .orient k few (X ++ ritems forget (confOf b s' .items))))))))
+  grown-cong X eX aX {σ} {a} si ρ nm sz vs ft β lb p0 wp few = trans s1
+      (trans s2 (trans s3 (trans (subst (λ (Z : Conf (Unit {0})). process (unfold′ (mt side) (siteOf side) tt (codeOf a) (envOf ρ) (siteOf side β) C0) ≋ process Z) s4 rfl)
+      (trans s5 (symm (ori .orient k few (X ++ ritems forget (confOf b s' .items))))))))
     where
       u0 : Contents
       u0 = withParticles (vw .core .contents) p0
@@ -217,15 +229,18 @@ module _ (b : Composition) (s : State) (e : ready b s ≡ true) (vw : View b s) 
       s1 : restrict (newOf b s) (fill (rplaces forget (confOf b s .boxes)) (at (item (siteOf side β) P ∷ (X ++ aim p0)))) ≋ restrict (newOf b s) (fill (rplaces forget (confOf b s .boxes)) (at (item (siteOf side β) P ∷ C0 .items)))
       s1 = in-news (newOf b s) (bag-fill (rplaces forget (confOf b s .boxes)) (bag-cons (item (siteOf side β) P) (bagX p0)))
 
-      s2 : restrict (newOf b s) (fill (rplaces forget (confOf b s .boxes)) (at (item (siteOf side β) P ∷ C0 .items))) ≋ restrict (ori .Nm (vw .core .contents .minted)) (fill (placesOf forget side 0 (vw .core .contents .boxes) (ori .Bo)) (at (item (siteOf side β) P ∷ C0 .items)))
-      s2 = subst (λ (t : State). restrict (newOf b t) (fill (rplaces forget (confOf b t .boxes)) (at (item (siteOf side β) P ∷ C0 .items))) ≋ restrict (ori .Nm (vw .core .contents .minted)) (fill (placesOf forget side 0 (vw .core .contents .boxes) (ori .Bo)) (at (item (siteOf side β) P ∷ C0 .items)))) (ori .is-now)
+      s2 : restrict (newOf b s) (fill (rplaces forget (confOf b s .boxes)) (at (item (siteOf side β) P ∷ C0 .items))) ≋ restrict (ori .Nm (vw .core .contents .minted))
+          (fill (placesOf forget side 0 (vw .core .contents .boxes) (ori .Bo)) (at (item (siteOf side β) P ∷ C0 .items)))
+      s2 = subst (λ (t : State). restrict (newOf b t) (fill (rplaces forget (confOf b t .boxes)) (at (item (siteOf side β) P ∷ C0 .items))) ≋ restrict (ori .Nm (vw .core .contents .minted))
+          (fill (placesOf forget side 0 (vw .core .contents .boxes) (ori .Bo)) (at (item (siteOf side β) P ∷ C0 .items)))) (ori .is-now)
           (ori .orient (vw .core) now-few (item (siteOf side β) P ∷ C0 .items))
         where
           now-few : vw .core .contents .minted ≤ 256
           now-few = leb-true (vw .core .contents .minted) 256 (snd _ _ (snd _ _ (vw .ok .contents .few)))
 
       noneX : (k : ℕ) → nb ≤ k → select (C0 .items) (siteOf side k) ≡ []
-      noneX k l = select-app (X ++ R0) (map (plainP Tb side) p0) (siteOf side k) ∙ ap (λ (z : List (Proc (Unit {0}) [])). z ++ select (map (plainP Tb side) p0) (siteOf side k)) (select-app X R0 (siteOf side k) ∙ ap (λ (z : List (Proc (Unit {0}) [])). z ++ select R0 (siteOf side k)) (aX k))
+      noneX k l = select-app (X ++ R0) (map (plainP Tb side) p0) (siteOf side k)
+          ∙ ap (λ (z : List (Proc (Unit {0}) [])). z ++ select (map (plainP Tb side) p0) (siteOf side k)) (select-app X R0 (siteOf side k) ∙ ap (λ (z : List (Proc (Unit {0}) [])). z ++ select R0 (siteOf side k)) (aX k))
           ∙ sym (select-app R0 (map (plainP Tb side) p0) (siteOf side k)) ∙ none-all p0 wp k l
 
       s3 : restrict (C0 .names) (fill (C0 .boxes) (at (item (siteOf side β) P ∷ C0 .items))) ≋ process (unfold′ (mt side) (siteOf side) tt (codeOf a) (envOf ρ) (siteOf side β) C0)
@@ -242,13 +257,15 @@ module _ (b : Composition) (s : State) (e : ready b s ≡ true) (vw : View b s) 
       s5 = in-news (ori .Nm (u .minted)) (bag-fill (placesOf forget side 0 (u .boxes) (ori .Bo)) (bag-trans (bag-sym (bagX (u .particles))) (bag-app {X = X} {X' = X} bag-refl (bag-eq (sym (vw .items-next k (vw .left) refl refl))))))
 
   -- from a body at a box to the next state
-  pub grown-goes : {who : Participants Mark} {σ : List ℕ} {a : Term} → Sits Tb σ a → (ρ : Env) → ρ .names ≡ σ → Sized ρ → every (wfValue (counts s)) (ρ .vals) ≡ true → defined a ρ ≡ true → (β : ℕ) → β < nb → (p0 : List Particle) → every (wfParticle Tb (counts s) nb) p0 ≡ true
+  pub grown-goes : {who : Participants Mark} {σ : List ℕ} {a : Term} → Sits Tb σ a → (ρ : Env) → ρ .names ≡ σ → Sized ρ → every (wfValue (counts s)) (ρ .vals) ≡ true → defined a ρ ≡ true → (β : ℕ) →
+      β < nb → (p0 : List Particle) → every (wfParticle Tb (counts s) nb) p0 ≡ true
       → unfolds side a ρ β (withParticles (vw .core .contents) p0) .minted ≤ 256
       → Moves (All b s) (confOf b s .boxes) (confOf b s .items) tau who (item (siteOf side β) (proc [] tt (codeOf a) (envOf ρ)) ∷ aim p0)
       → Goes b s (vw .next (withContents (vw .core) (unfolds side a ρ β (withParticles (vw .core .contents) p0))) (vw .left)) tau who
   grown-goes {who} {σ} {a} si ρ nm sz vs ft β lb p0 wp few mv = record {
     R = restrict (newOf b s) (fill (confOf b s .boxes) (at (mv .J)));
-    step = subst (λ (P : Proc Mark []). Trans (knownOf s) P tau who (restrict (newOf b s) (fill (confOf b s .boxes) (at (mv .J))))) (sym (process-is b s)) (under-news (newOf b s) (knownOf s) (good-all b s e) (fn-all b s e) (no-names (newOf b s)) (mv .step));
+    step = subst (λ (P : Proc Mark []). Trans (knownOf s) P tau who (restrict (newOf b s) (fill (confOf b s .boxes) (at (mv .J))))) (sym (process-is b s))
+        (under-news (newOf b s) (knownOf s) (good-all b s e) (fn-all b s e) (no-names (newOf b s)) (mv .step));
     to = subst₂ (λ (P Q : Proc (Unit {0}) []). P ≋ Q) (sym (plain-items b s (mv .J))) (sym (plain-process b s'))
         (trans (in-news (newOf b s) (bag-fill (rplaces forget (confOf b s .boxes)) (mv .bag))) (grown-cong [] tt (λ k. refl) si ρ nm sz vs ft β lb p0 wp few));
   }

@@ -110,21 +110,25 @@ minted-is s few x h =
 
 -- a name of the wrapper's own stands in no value
 pub no-word : (x : ℕ) → 64 ≤ x → x < 65536 → worded x ≡ true → ⊥
-no-word x l u h = ⊎-elim (λ p. ⊎-elim (λ q. let z = leb-true x 63 q in omega arith) (λ q. ⊎-elim (λ r. let z = leb-true 65536 x (fst _ _ r) in omega arith) (λ r. let z = leb-true 131072 x (fst _ _ r) in omega arith) (alt _ _ q)) (alt _ _ p)) (λ p. let z = leb-true 4000000 x (fst _ _ p) in omega arith) (alt _ _ h)
+no-word x l u h = ⊎-elim
+    (λ p. ⊎-elim (λ q. let z = leb-true x 63 q in omega arith)
+    (λ q. ⊎-elim (λ r. let z = leb-true 65536 x (fst _ _ r) in omega arith) (λ r. let z = leb-true 131072 x (fst _ _ r) in omega arith) (alt _ _ q)) (alt _ _ p)) (λ p. let z = leb-true 4000000 x (fst _ _ p) in omega arith) (alt _ _ h)
 
 -- the new names after a value has left
 pub new-left : (b : Composition) (s s' : State) (y : ℕ) (v : List ℕ) → ((n : ℕ) → side s n .core .contents .minted ≤ 256) → y < 81 → items isName 11 v 1 ≡ done [] → every worded v ≡ true
     → mintedOf s' ≡ mintedOf s → ((x : ℕ) → isMinted x ≡ true → known s' x ≡ known s x || mem x v) → newOf b s' ≡ minus (newOf b s) (y ∷ names (valOf v))
 unfolding newOf
 new-left b s s' y v few ly iv hv em hk =
-    sym (minus-app (map ownName (wrapperOf b .sides)) (keep (λ x. not (known s x)) (mintedOf s)) (y ∷ names (valOf v)) ∙ ap₂ (λ (p q : List ℕ). p ++ q) (minus-none (map ownName (wrapperOf b .sides)) (y ∷ names (valOf v)) own-out) (sym kept))
+    sym (minus-app (map ownName (wrapperOf b .sides)) (keep (λ x. not (known s x)) (mintedOf s)) (y ∷ names (valOf v))
+    ∙ ap₂ (λ (p q : List ℕ). p ++ q) (minus-none (map ownName (wrapperOf b .sides)) (y ∷ names (valOf v)) own-out) (sym kept))
   where
     small : (x : ℕ) → x < 4000000 → mem x (names (valOf v)) ≡ mem x v
     small x l = names-words x l (valOf v) ∙ ap (mem x) (val-written v iv)
 
     own-out : (x : ℕ) → T (mem x (map ownName (wrapperOf b .sides))) → mem x (y ∷ names (valOf v)) ≡ false
     own-out x m = let o = own-low b s x m in
-        out-of x (y ∷ names (valOf v)) (λ t. ⊎-elim (λ a. let q = eqb-true x y (T-true (eqb x y) a) in omega (arith, o .0)) (λ a. no-own v hv (subst (λ (c : Bool). T c) (small x (omega (arith, o .1))) a)) (or-cases (eqb x y) (mem x (names (valOf v))) t))
+        out-of x (y ∷ names (valOf v))
+        (λ t. ⊎-elim (λ a. let q = eqb-true x y (T-true (eqb x y) a) in omega (arith, o .0)) (λ a. no-own v hv (subst (λ (c : Bool). T c) (small x (omega (arith, o .1))) a)) (or-cases (eqb x y) (mem x (names (valOf v))) t))
       where
         T-true : (c : Bool) → T c → c ≡ true
         T-true true h = refl
@@ -132,11 +136,14 @@ new-left b s s' y v few ly iv hv em hk =
 
         no-own : (v : List ℕ) → every worded v ≡ true → T (mem x v) → ⊥
         no-own [] h t = t
-        no-own (w ∷ v) h t = ⊎-elim (λ a. no-word x (omega (arith, own-low b s x m .0)) (omega (arith, own-low b s x m .1)) (subst (λ (z : ℕ). worded z ≡ true) (sym (eqb-true x w (T-true (eqb x w) a))) (fst _ _ h))) (λ a. no-own v (snd _ _ h) a) (or-cases (eqb x w) (mem x v) t)
+        no-own (w ∷ v) h t = ⊎-elim
+            (λ a. no-word x (omega (arith, own-low b s x m .0)) (omega (arith, own-low b s x m .1)) (subst (λ (z : ℕ). worded z ≡ true) (sym (eqb-true x w (T-true (eqb x w) a))) (fst _ _ h)))
+            (λ a. no-own v (snd _ _ h) a) (or-cases (eqb x w) (mem x v) t)
 
     kept : keep (λ x. not (known s' x)) (mintedOf s') ≡ minus (keep (λ x. not (known s x)) (mintedOf s)) (y ∷ names (valOf v))
     kept = ap (keep (λ x. not (known s' x))) em ∙ keep-minus (λ x. not (known s x)) (λ x. not (known s' x)) (mintedOf s) (y ∷ names (valOf v))
-        (λ x m. ap not (hk x (minted-is s few x m)) ∙ nor (known s x) (mem x v) ∙ ap (λ (c : Bool). not (known s x) && not c) (sym (ap (λ (c : Bool). c || mem x (names (valOf v))) (ne-eqb x y (λ q. let h = minted-high b s x m in omega arith)) ∙ small x (high x m))))
+        (λ x m. ap not (hk x (minted-is s few x m)) ∙ nor (known s x) (mem x v)
+        ∙ ap (λ (c : Bool). not (known s x) && not c) (sym (ap (λ (c : Bool). c || mem x (names (valOf v))) (ne-eqb x y (λ q. let h = minted-high b s x m in omega arith)) ∙ small x (high x m))))
       where
         nor : (a c : Bool) → not (a || c) ≡ not a && not c
         nor true c = refl

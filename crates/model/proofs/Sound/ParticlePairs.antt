@@ -64,10 +64,14 @@ module _ (w : Wrapper) (side : ℕ) (T : Table) (C D : List (Item Mark)) (s : Co
         X = C ++ (L ++ r .pre);
         Y = r .mid;
         Z = r .post ++ D;
-        is = ap (λ (P : List (Item Mark)). C ++ ((L ++ P) ++ D)) (r .is ∙ ap₂ (λ (p q : ℕ). r .pre ++ partItem ids T side p x ∷ (r .mid ++ partItem ids T side q y ∷ r .post)) (omega arith) (omega arith)) ∙ two-in C L (r .pre) (r .mid) (r .post) D (partItem ids T side i x) (partItem ids T side j y);
+        is = ap (λ (P : List (Item Mark)). C ++ ((L ++ P) ++ D))
+            (r .is ∙ ap₂ (λ (p q : ℕ). r .pre ++ partItem ids T side p x ∷ (r .mid ++ partItem ids T side q y ∷ r .post)) (omega arith) (omega arith))
+            ∙ two-in C L (r .pre) (r .mid) (r .post) D (partItem ids T side i x) (partItem ids T side j y);
         gone = ap₂ (λ (p q : List (Item (Unit {0}))). p ++ (m ++ q)) (pre° (r .pre)) (ritems-app forget (r .post) D) ∙ two-out C° L° a m z D° ∙ ap (λ (q : List (Item (Unit {0}))). C° ++ ((L° ++ q) ++ D°)) (r .gone);
-        first-gone = ap₂ (λ (p q : List (Item (Unit {0}))). p ++ (m ++ plainP T side y ∷ q)) (pre° (r .pre)) (ritems-app forget (r .post) D) ∙ one-second C° L° a m z D° (plainP T side y) ∙ ap (λ (q : List (Item (Unit {0}))). C° ++ ((L° ++ q) ++ D°)) (r .first-gone);
-        second-gone = ap₂ (λ (p q : List (Item (Unit {0}))). p ++ plainP T side x ∷ (m ++ q)) (pre° (r .pre)) (ritems-app forget (r .post) D) ∙ one-first C° L° a m z D° (plainP T side x) ∙ ap (λ (q : List (Item (Unit {0}))). C° ++ ((L° ++ q) ++ D°)) (r .second-gone);
+        first-gone = ap₂ (λ (p q : List (Item (Unit {0}))). p ++ (m ++ plainP T side y ∷ q)) (pre° (r .pre)) (ritems-app forget (r .post) D) ∙ one-second C° L° a m z D° (plainP T side y)
+            ∙ ap (λ (q : List (Item (Unit {0}))). C° ++ ((L° ++ q) ++ D°)) (r .first-gone);
+        second-gone = ap₂ (λ (p q : List (Item (Unit {0}))). p ++ plainP T side x ∷ (m ++ q)) (pre° (r .pre)) (ritems-app forget (r .post) D) ∙ one-first C° L° a m z D° (plainP T side x)
+            ∙ ap (λ (q : List (Item (Unit {0}))). C° ++ ((L° ++ q) ++ D°)) (r .second-gone);
       }
     where
       pre° : (Q : List (Item Mark)) → ritems forget (C ++ (numbered (msgItem ids w side) 0 (s .lobby) ++ Q)) ≡ ritems forget C ++ (map (plainM w side) (s .lobby) ++ ritems forget Q)
@@ -87,7 +91,8 @@ module _ (w : Wrapper) (side : ℕ) (T : Table) (C D : List (Item Mark)) (s : Co
 
   -- what a meeting leaves: the output before the input, and behind it
   module _ (again : Bool) (b : ℕ) (Q B : Proc Mark []) (p q : Particle) (i j : ℕ) (Q° : ritem forget (item b Q) ≡ plainP T side q) where
-    pub before-bag : i < j → (a : PairAt i p j q) → Bag (ritems forget (a .X ++ item b pnil ∷ (a .Y ++ item b (leaves again Q B) ∷ a .Z))) (item b (remark forget B) ∷ target w side T C D s (s .lobby) (without again (s .contents .particles) i j))
+    pub before-bag : i < j → (a : PairAt i p j q) →
+        Bag (ritems forget (a .X ++ item b pnil ∷ (a .Y ++ item b (leaves again Q B) ∷ a .Z))) (item b (remark forget B) ∷ target w side T C D s (s .lobby) (without again (s .contents .particles) i j))
     unfolding remark
     before-bag lt a =
         bag-trans (bag-eq (three (a .X) (a .Y) (a .Z) (item b pnil) (item b (leaves again Q B)))) (bag-trans (gone-bag (ritems forget (a .X)) b (ritems forget (a .Y) ++ ritem forget (item b (leaves again Q B)) ∷ ritems forget (a .Z)))
@@ -98,12 +103,15 @@ module _ (w : Wrapper) (side : ℕ) (T : Table) (C D : List (Item Mark)) (s : Co
         last true = ap (λ (z : Item (Unit {0})). ritems forget (a .X) ++ (ritems forget (a .Y) ++ z ∷ ritems forget (a .Z))) Q° ∙ a .first-gone
         last false = a .gone ∙ ap (λ (c : Bool). target w side T C D s (s .lobby) (cond c (remove (remove (s .contents .particles) j) i) (remove (remove (s .contents .particles) i) j))) (sym (lt-ltb i j lt))
 
-    pub behind-bag : j < i → (a : PairAt j q i p) → Bag (ritems forget (a .X ++ item b (leaves again Q B) ∷ (a .Y ++ item b pnil ∷ a .Z))) (item b (remark forget B) ∷ target w side T C D s (s .lobby) (without again (s .contents .particles) i j))
+    pub behind-bag : j < i → (a : PairAt j q i p) →
+        Bag (ritems forget (a .X ++ item b (leaves again Q B) ∷ (a .Y ++ item b pnil ∷ a .Z))) (item b (remark forget B) ∷ target w side T C D s (s .lobby) (without again (s .contents .particles) i j))
     unfolding remark
     behind-bag lt a =
         bag-trans (bag-eq (three (a .X) (a .Y) (a .Z) (item b (leaves again Q B)) (item b pnil)))
         (bag-trans (body-first again b Q B (ritems forget (a .X)) (ritems forget (a .Y) ++ item b pnil ∷ ritems forget (a .Z)))
-        (bag-cons (item b (remark forget B)) (bag-trans (bag-app {X = ritems forget (a .X)} {X' = ritems forget (a .X)} bag-refl (bag-app {X = cond again (ritem forget (item b Q) ∷ []) []} {X' = cond again (ritem forget (item b Q) ∷ []) []} bag-refl (gone-bag (ritems forget (a .Y)) b (ritems forget (a .Z)))))
+        (bag-cons (item b (remark forget B))
+        (bag-trans (bag-app {X = ritems forget (a .X)} {X' = ritems forget (a .X)} bag-refl
+        (bag-app {X = cond again (ritem forget (item b Q) ∷ []) []} {X' = cond again (ritem forget (item b Q) ∷ []) []} bag-refl (gone-bag (ritems forget (a .Y)) b (ritems forget (a .Z)))))
         (bag-eq (last again)))))
       where
         last : (again : Bool) → ritems forget (a .X) ++ (cond again (ritem forget (item b Q) ∷ []) [] ++ (ritems forget (a .Y) ++ ritems forget (a .Z))) ≡ target w side T C D s (s .lobby) (without again (s .contents .particles) i j)

@@ -141,7 +141,11 @@ module _ (A : List ℕ) (bs : List (Place Mark)) (wf : Wf A bs) (ro : Rooted bs)
   pub data Up (i : ℕ) (m : Moved) : Type 0 where
     quiet : Quiet (lone (part (c .side) i)) m → Up i m
     shelved : (g : STag) (v : List ℕ) → shelves (c .wrapper) (c .side) ≡ true → getElem? (s .contents .particles) i ≡ some (output 0 2 g v) → isToParent g ≡ true
-        → m ≡ record { label = silent; val = []; core = record { contents = record { particles = remove (s .contents .particles) i; boxes = s .contents .boxes; minted = s .contents .minted }; lobby = s .lobby; shelf = s .shelf ++ (v ∷ []); taken = s .taken } } → Up i m
+        → m ≡ record {
+          label = silent;
+          val = [];
+          core = record { contents = record { particles = remove (s .contents .particles) i; boxes = s .contents .boxes; minted = s .contents .minted }; lobby = s .lobby; shelf = s .shelf ++ (v ∷ []); taken = s .taken };
+        } → Up i m
 
   up-at : (i b ch : ℕ) (g : STag) (v : List ℕ) (m : Moved) → getElem? (s .contents .particles) i ≡ some (output b ch g v) → isToParent g ≡ true → upFrom c s i b ch v ≡ done m → Up i m
   unfolding upFrom
@@ -242,7 +246,8 @@ module _ (A : List ℕ) (bs : List (Place Mark)) (wf : Wf A bs) (ro : Rooted bs)
     enter-moves kn ws m u e =
         let a = need-done _ _ _ _ e in
         let b = need-done _ _ _ _ (a .1) in (
-          moves-to (go-in A bs wf ro u E1 (E2 ++ (sideItems ids w (c .side) (c .table) s ++ D)) (ap (λ (L : List (Item Mark)). L ++ (sideItems ids w (c .side) (c .table) s ++ D)) at-enter ∙ append-assoc E1 (entering ids w (c .side) ∷ E2) (sideItems ids w (c .side) (c .table) s ++ D)) each)
+          moves-to (go-in A bs wf ro u E1 (E2 ++ (sideItems ids w (c .side) (c .table) s ++ D))
+              (ap (λ (L : List (Item Mark)). L ++ (sideItems ids w (c .side) (c .table) s ++ D)) at-enter ∙ append-assoc E1 (entering ids w (c .side) ∷ E2) (sideItems ids w (c .side) (c .table) s ++ D)) each)
               (bag-trans (bag-cons _ (bag-eq (whole° w (c .side) (c .table) C D s))) (add-msg w (c .side) (c .table) C D s (s .lobby) (record { status = down; chan = 0; val = ws }) (s .contents .particles))),
           a .0,
           b .0,

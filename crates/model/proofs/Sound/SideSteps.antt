@@ -53,7 +53,8 @@ module _ (b : Composition) (s : State) (e : ready b s ≡ true) where
     abbrev pub Qt : Participants Mark → Moved → Type 0
     Qt who m = Quiet (All b s) (confOf b s .boxes) (wf-all b s e) (rooted-all b s e) root-all (wrapperOf b) (vw .c) (vw .C) (vw .D) (vw .core) each-now (vw .ok .contents .box0) (vw .has) who m
 
-    now : {l : Label} {who : Participants Mark} {t : List (Item (Unit {0}))} → Moves (All b s) (confOf b s .boxes) (whole (wrapperOf b) (vw .c .side) (vw .c .table) (vw .C) (vw .D) (vw .core)) l who t → Moves (All b s) (confOf b s .boxes) (confOf b s .items) l who t
+    now : {l : Label} {who : Participants Mark} {t : List (Item (Unit {0}))} →
+        Moves (All b s) (confOf b s .boxes) (whole (wrapperOf b) (vw .c .side) (vw .c .table) (vw .C) (vw .D) (vw .core)) l who t → Moves (All b s) (confOf b s .boxes) (confOf b s .items) l who t
     now {l} {who} {t} m = subst (λ (I : List (Item Mark)). Moves (All b s) (confOf b s .boxes) I l who t) (sym (vw .items-now)) m
 
     marks-silent : (m : Moved) → m .label ≡ silent → marks (m .label) (m .val) (vw .left) ≡ vw .left
@@ -68,7 +69,8 @@ module _ (b : Composition) (s : State) (e : ready b s ≡ true) where
     unfoldable pub Done : Step → Label → Moved → Type 0
     Done x l m = (w : Participants Mark) × At (wrapperOf b) x w × Asks x l × Goes b s (after m) l w
 
-    silent-done : (x : Step) (l : Label) (m : Moved) (who : Participants Mark) → At (wrapperOf b) x who → (x .kind ≡ 1 → ⊥) → (x .kind ≡ 7 → ⊥) → m .label ≡ silent → SaysInv (wrapperOf b) (labelled (m .label) (vw .c .side) (m .val)) l → Goes b s (after m) tau who → Done x l m
+    silent-done : (x : Step) (l : Label) (m : Moved) (who : Participants Mark) → At (wrapperOf b) x who → (x .kind ≡ 1 → ⊥) → (x .kind ≡ 7 → ⊥) → m .label ≡ silent →
+        SaysInv (wrapperOf b) (labelled (m .label) (vw .c .side) (m .val)) l → Goes b s (after m) tau who → Done x l m
     unfolding Done
     silent-done x l m who a k1 k7 q sy g =
         let lt : l ≡ tau = subst (λ (y : Rattle.model.specs.Step.Label). SaysInv (wrapperOf b) (labelled y (vw .c .side) (m .val)) l) q sy in
@@ -91,8 +93,11 @@ module _ (b : Composition) (s : State) (e : ready b s ≡ true) where
         go (r .0) (r .1) (r .2) (r .3)
       where
         go : (n : Message) → getElem? (vw .core .lobby) (x .i) ≡ some n
-            → Moves (All b s) (confOf b s .boxes) (whole (wrapperOf b) (vw .c .side) (vw .c .table) (vw .C) (vw .D) (vw .core)) (send (wrapperOf b .outlet (vw .c .side)) (plain iparent) (valOf (n .val))) (lone (lobby (vw .c .side) (x .i))) (target (wrapperOf b) (vw .c .side) (vw .c .table) (vw .C) (vw .D) (vw .core) (remove (vw .core .lobby) (x .i)) (vw .core .contents .particles))
-            → m ≡ record { label = leaves; val = n .val; core = record { contents = vw .core .contents; lobby = remove (vw .core .lobby) (x .i); shelf = vw .core .shelf; taken = vw .core .taken } } → (w : Participants Mark) × At (wrapperOf b) x w × Asks x l × Goes b s (after m) l w
+            → Moves (All b s) (confOf b s .boxes) (whole (wrapperOf b) (vw .c .side) (vw .c .table) (vw .C) (vw .D) (vw .core))
+            (send (wrapperOf b .outlet (vw .c .side)) (plain iparent) (valOf (n .val))) (lone (lobby (vw .c .side) (x .i)))
+            (target (wrapperOf b) (vw .c .side) (vw .c .table) (vw .C) (vw .D) (vw .core) (remove (vw .core .lobby) (x .i)) (vw .core .contents .particles))
+            → m ≡ record { label = leaves; val = n .val; core = record { contents = vw .core .contents; lobby = remove (vw .core .lobby) (x .i); shelf = vw .core .shelf; taken = vw .core .taken } } →
+            (w : Participants Mark) × At (wrapperOf b) x w × Asks x l × Goes b s (after m) l w
         go n g mv em =
             let k : Core = record { contents = vw .core .contents; lobby = remove (vw .core .lobby) (x .i); shelf = vw .core .shelf; taken = vw .core .taken } in
             let sv = subst (λ (y : Moved). SaysInv (wrapperOf b) (labelled (y .label) (vw .c .side) (y .val)) l) em sy in
@@ -102,7 +107,8 @@ module _ (b : Composition) (s : State) (e : ready b s ≡ true) where
             let vv : valOf (n .val) ≡ sv .0 = label-val (n .val) (sv .0) words (sv .1) (sv .2) in
             let gg : Goes b s (vw .next k (markAll (vw .left) (n .val))) (send (wrapperOf b .outlet (vw .c .side)) (plain iparent) (valOf (n .val))) (lone (lobby (vw .c .side) (x .i))) =
             goes-out b s e (vw .next k (markAll (vw .left) (n .val)))
-            (new-left b s (vw .next k (markAll (vw .left) (n .val))) (wrapperOf b .outlet (vw .c .side)) (n .val) (few b s e) outwards-low (shaped-items (n .val) sh) words (vw .minted-next k (markAll (vw .left) (n .val)) refl) (vw .known-next k (n .val)))
+            (new-left b s (vw .next k (markAll (vw .left) (n .val))) (wrapperOf b .outlet (vw .c .side)) (n .val) (few b s e) outwards-low (shaped-items (n .val) sh) words
+            (vw .minted-next k (markAll (vw .left) (n .val)) refl) (vw .known-next k (n .val)))
             (vw .boxes-next k (markAll (vw .left) (n .val)) refl)
             (moves-to (now mv) (bag-eq (sym (vw .items-next k (markAll (vw .left) (n .val)) refl refl)))) in
             subst (λ (y : Moved). (w : Participants Mark) × At (wrapperOf b) x w × Asks x l × Goes b s (after y) l w) (sym em)
@@ -114,7 +120,8 @@ module _ (b : Composition) (s : State) (e : ready b s ≡ true) where
     unfolding Done isValue
     enter-done x l m k1 sd i0 j0 en sy =
         let ws = x .words in
-        let r = enter-moves (All b s) (confOf b s .boxes) (wf-all b s e) (rooted-all b s e) root-all (wrapperOf b) (vw .c) (vw .C) (vw .D) (vw .core) each-now (vw .ok .contents .box0) (vw .has) (vw .E1) (vw .E2) (vw .at-enter) (known s) ws m inert en in
+        let r = enter-moves (All b s) (confOf b s .boxes) (wf-all b s e) (rooted-all b s e) root-all (wrapperOf b) (vw .c) (vw .C) (vw .D) (vw .core) each-now (vw .ok .contents .box0) (vw .has)
+        (vw .E1) (vw .E2) (vw .at-enter) (known s) ws m inert en in
         let k : Core = record { contents = vw .core .contents; lobby = vw .core .lobby ++ (record { status = down; chan = 0; val = ws } ∷ []); shelf = vw .core .shelf; taken = vw .core .taken } in
         let sv = subst (λ (y : Moved). SaysInv (wrapperOf b) (labelled (y .label) (vw .c .side) (y .val)) l) (r .3) sy in
         let sh = snd _ _ (r .1) in
@@ -131,7 +138,8 @@ module _ (b : Composition) (s : State) (e : ready b s ≡ true) where
         → Up (All b s) (confOf b s .boxes) (wf-all b s e) (rooted-all b s e) root-all (wrapperOf b) (vw .c) (vw .C) (vw .D) (vw .core) each-now (vw .ok .contents .box0) (vw .has) (x .i) m
         → SaysInv (wrapperOf b) (labelled (m .label) (vw .c .side) (m .val)) l → Done x l m
     unfolding limits
-    up-done x l m lim k3 sd j0 ws (quiet q) sy = silent-done x l m (lone (part (vw .c .side) (x .i))) (at-up (wrapperOf b) x (vw .c .side) k3 sd j0 ws) (not-kind x 3 1 k3 (λ z. omega arith)) (not-kind x 3 7 k3 (λ z. omega arith)) (q .label) sy (quiet-goes q)
+    up-done x l m lim k3 sd j0 ws (quiet q) sy = silent-done x l m (lone (part (vw .c .side) (x .i))) (at-up (wrapperOf b) x (vw .c .side) k3 sd j0 ws) (not-kind x 3 1 k3 (λ z. omega arith))
+        (not-kind x 3 7 k3 (λ z. omega arith)) (q .label) sy (quiet-goes q)
     up-done x l m lim k3 sd j0 ws (shelved g v st get tp em) sy =
         silent-done x l m (lone (part (vw .c .side) (x .i))) (at-up (wrapperOf b) x (vw .c .side) k3 sd j0 ws) (not-kind x 3 1 k3 (λ z. omega arith)) (not-kind x 3 7 k3 (λ z. omega arith)) (ap (λ (y : Moved). y .label) em) sy
         (subst (λ (y : Moved). Goes b s (after y) tau (lone (part (vw .c .side) (x .i)))) (sym em)
@@ -142,11 +150,21 @@ module _ (b : Composition) (s : State) (e : ready b s ≡ true) where
         room : (h : List (List ℕ)) (v : List ℕ) → leb (length (h ++ (v ∷ []))) 32 ≡ true → length h < 32
         room h v q = omega (arith, leb-true (length (h ++ (v ∷ []))) 32 q, length-append h (v ∷ []))
 
-        free : limits (record { contents = record { particles = remove (vw .core .contents .particles) (x .i); boxes = vw .core .contents .boxes; minted = vw .core .contents .minted }; lobby = vw .core .lobby; shelf = vw .core .shelf ++ (v ∷ []); taken = vw .core .taken }) ≡ true → isGone s (vw .c .side) (length (vw .core .shelf)) ≡ false
+        free : limits (record {
+          contents = record { particles = remove (vw .core .contents .particles) (x .i); boxes = vw .core .contents .boxes; minted = vw .core .contents .minted };
+          lobby = vw .core .lobby;
+          shelf = vw .core .shelf ++ (v ∷ []);
+          taken = vw .core .taken;
+        }) ≡ true → isGone s (vw .c .side) (length (vw .core .shelf)) ≡ false
         free q = vw .free (room (vw .core .shelf) v (snd _ _ (snd _ _ q)))
 
         k : Core
-        k = record { contents = record { particles = remove (vw .core .contents .particles) (x .i); boxes = vw .core .contents .boxes; minted = vw .core .contents .minted }; lobby = vw .core .lobby; shelf = vw .core .shelf ++ (v ∷ []); taken = vw .core .taken }
+        k = record {
+          contents = record { particles = remove (vw .core .contents .particles) (x .i); boxes = vw .core .contents .boxes; minted = vw .core .contents .minted };
+          lobby = vw .core .lobby;
+          shelf = vw .core .shelf ++ (v ∷ []);
+          taken = vw .core .taken;
+        }
 
     module _ (meeting : (i j : ℕ) (m : Moved) → meet (vw .c) (vw .core) i j ≡ done m → limits (m .core) ≡ true → (m .label ≡ silent) × Goes b s (after m) tau (joint (part (vw .c .side) i) (part (vw .c .side) j))) where
       inner-done : (x : Step) (l : Label) (m : Moved) → x .side ≡ vw .c .side → inner (vw .c) (vw .core) x ≡ done m → limits (m .core) ≡ true → SaysInv (wrapperOf b) (labelled (m .label) (vw .c .side) (m .val)) l → Done x l m
@@ -154,22 +172,35 @@ module _ (b : Composition) (s : State) (e : ready b s ≡ true) where
       inner-done x l m sd i lim sy =
           let a = need-done _ _ _ _ i in
           let ws = empty-words (x .words) (a .0) in
-          ⊎-elim (λ p. let k4 = eqb-true (x .kind) 4 (p .0) in let q = descend-quiet (All b s) (confOf b s .boxes) (wf-all b s e) (rooted-all b s e) root-all (wrapperOf b) (vw .c) (vw .C) (vw .D) (vw .core) each-now (vw .ok .contents .box0) (vw .has) (x .i) (x .j) m (p .1) in
-          silent-done x l m (joint (part (vw .c .side) (x .i)) (boxed (vw .c .side) (x .j))) (at-descend (wrapperOf b) x (vw .c .side) k4 sd ws) (not-kind x 4 1 k4 (λ z. omega arith)) (not-kind x 4 7 k4 (λ z. omega arith)) (q .label) sy (quiet-goes q)) (λ p.
+          ⊎-elim (λ p. let k4 = eqb-true (x .kind) 4 (p .0) in
+          let q = descend-quiet (All b s) (confOf b s .boxes) (wf-all b s e) (rooted-all b s e) root-all (wrapperOf b) (vw .c) (vw .C) (vw .D) (vw .core) each-now (vw .ok .contents .box0) (vw .has) (x .i) (x .j) m (p .1) in
+          silent-done x l m (joint (part (vw .c .side) (x .i)) (boxed (vw .c .side) (x .j))) (at-descend (wrapperOf b) x (vw .c .side) k4 sd ws) (not-kind x 4 1 k4 (λ z. omega arith))
+          (not-kind x 4 7 k4 (λ z. omega arith)) (q .label) sy (quiet-goes q)) (λ p.
           ⊎-elim (λ p. let k5 = eqb-true (x .kind) 5 (p .0) in let q = meeting (x .i) (x .j) m (p .1) lim in
-          silent-done x l m (joint (part (vw .c .side) (x .i)) (part (vw .c .side) (x .j))) (at-meet (wrapperOf b) x (vw .c .side) k5 sd ws) (not-kind x 5 1 k5 (λ z. omega arith)) (not-kind x 5 7 k5 (λ z. omega arith)) (q .0) sy (q .1)) (λ p. let d = need-done _ _ _ _ (p .1) in let j0 = eqb-true (x .j) 0 (d .0) in
-          ⊎-elim (λ p. let k2 = eqb-true (x .kind) 2 (p .0) in let q = down-quiet (All b s) (confOf b s .boxes) (wf-all b s e) (rooted-all b s e) root-all (wrapperOf b) (vw .c) (vw .C) (vw .D) (vw .core) each-now (vw .ok .contents .box0) (vw .has) (x .i) m (p .1) in
-          silent-done x l m (joint (lobby (vw .c .side) (x .i)) (boxed (vw .c .side) 0)) (at-down (wrapperOf b) x (vw .c .side) k2 sd j0 ws) (not-kind x 2 1 k2 (λ z. omega arith)) (not-kind x 2 7 k2 (λ z. omega arith)) (q .label) sy (quiet-goes q)) (λ p.
-          ⊎-elim (λ p. up-done x l m lim (eqb-true (x .kind) 3 (p .0)) sd j0 ws (up-moves (All b s) (confOf b s .boxes) (wf-all b s e) (rooted-all b s e) root-all (wrapperOf b) (vw .c) (vw .C) (vw .D) (vw .core) each-now (vw .ok .contents .box0) (vw .has) (x .i) m (p .1)) sy) (λ p.
-          ⊎-elim (λ p. let k6 = eqb-true (x .kind) 6 (p .0) in let q = pass-quiet (All b s) (confOf b s .boxes) (wf-all b s e) (rooted-all b s e) root-all (wrapperOf b) (vw .c) (vw .C) (vw .D) (vw .core) each-now (vw .ok .contents .box0) (vw .has) (vw .C1) (vw .C2) (vw .at-pass) (x .i) m (p .1) in
-          silent-done x l m (joint (lobby (vw .c .side) (x .i)) (passer (vw .c .side))) (at-pass (wrapperOf b) x (vw .c .side) k6 sd j0 ws) (not-kind x 6 1 k6 (λ z. omega arith)) (not-kind x 6 7 k6 (λ z. omega arith)) (q .label) sy (quiet-goes q)) (λ p.
+          silent-done x l m (joint (part (vw .c .side) (x .i)) (part (vw .c .side) (x .j))) (at-meet (wrapperOf b) x (vw .c .side) k5 sd ws) (not-kind x 5 1 k5 (λ z. omega arith))
+          (not-kind x 5 7 k5 (λ z. omega arith)) (q .0) sy (q .1)) (λ p. let d = need-done _ _ _ _ (p .1) in let j0 = eqb-true (x .j) 0 (d .0) in
+          ⊎-elim (λ p. let k2 = eqb-true (x .kind) 2 (p .0) in
+          let q = down-quiet (All b s) (confOf b s .boxes) (wf-all b s e) (rooted-all b s e) root-all (wrapperOf b) (vw .c) (vw .C) (vw .D) (vw .core) each-now (vw .ok .contents .box0) (vw .has) (x .i) m (p .1) in
+          silent-done x l m (joint (lobby (vw .c .side) (x .i)) (boxed (vw .c .side) 0)) (at-down (wrapperOf b) x (vw .c .side) k2 sd j0 ws) (not-kind x 2 1 k2 (λ z. omega arith))
+          (not-kind x 2 7 k2 (λ z. omega arith)) (q .label) sy (quiet-goes q)) (λ p.
+          ⊎-elim (λ p. up-done x l m lim (eqb-true (x .kind) 3 (p .0)) sd j0 ws
+          (up-moves (All b s) (confOf b s .boxes) (wf-all b s e) (rooted-all b s e) root-all (wrapperOf b) (vw .c) (vw .C) (vw .D) (vw .core) each-now (vw .ok .contents .box0) (vw .has) (x .i) m (p .1)) sy) (λ p.
+          ⊎-elim (λ p. let k6 = eqb-true (x .kind) 6 (p .0) in
+          let q = pass-quiet (All b s) (confOf b s .boxes) (wf-all b s e) (rooted-all b s e) root-all (wrapperOf b) (vw .c) (vw .C) (vw .D) (vw .core) each-now (vw .ok .contents .box0) (vw .has)
+          (vw .C1) (vw .C2) (vw .at-pass) (x .i) m (p .1) in
+          silent-done x l m (joint (lobby (vw .c .side) (x .i)) (passer (vw .c .side))) (at-pass (wrapperOf b) x (vw .c .side) k6 sd j0 ws) (not-kind x 6 1 k6 (λ z. omega arith))
+          (not-kind x 6 7 k6 (λ z. omega arith)) (q .label) sy (quiet-goes q)) (λ p.
           ⊎-elim (λ p. leave-done x l m (eqb-true (x .kind) 7 (p .0)) sd j0 ws (p .1) sy) (λ p. absurd (clash (p .1)))
           (choose-done _ _ _ _ (p .1))) (choose-done _ _ _ _ (p .1))) (choose-done _ _ _ _ (p .1))) (choose-done _ _ _ _ (d .1))) (choose-done _ _ _ _ (p .1))) (choose-done _ _ _ _ (a .1))
 
-      module _ (taking : (x : Step) (l : Label) (m : Moved) (r : Route) → x .kind ≡ 8 → x .words ≡ [] → x .side ≡ vw .c .side → routeTo (wrapperOf b .routes) (vw .c .side) (x .j) ≡ done r → takes (r .source) (shelfOf s (r .source)) (vw .core) (x .i) ≡ done m → SaysInv (wrapperOf b) (labelled (m .label) (vw .c .side) (m .val)) l → Done x l m) where
-        pub local-done : (x : Step) (l : Label) (m : Moved) → x .side ≡ vw .c .side → local (vw .c) (known s) (shelfOf s) (vw .core) x ≡ done m → limits (m .core) ≡ true → SaysInv (wrapperOf b) (labelled (m .label) (vw .c .side) (m .val)) l → Done x l m
+      module _ (taking : (x : Step) (l : Label) (m : Moved) (r : Route) → x .kind ≡ 8 → x .words ≡ [] → x .side ≡ vw .c .side → routeTo (wrapperOf b .routes) (vw .c .side) (x .j) ≡ done r →
+          takes (r .source) (shelfOf s (r .source)) (vw .core) (x .i) ≡ done m → SaysInv (wrapperOf b) (labelled (m .label) (vw .c .side) (m .val)) l → Done x l m) where
+        pub local-done : (x : Step) (l : Label) (m : Moved) → x .side ≡ vw .c .side → local (vw .c) (known s) (shelfOf s) (vw .core) x ≡ done m → limits (m .core) ≡ true →
+            SaysInv (wrapperOf b) (labelled (m .label) (vw .c .side) (m .val)) l → Done x l m
         unfolding local
         local-done x l m sd r lim sy =
             ⊎-elim (λ p. let a = need-done _ _ _ _ (p .1) in enter-done x l m (eqb-true (x .kind) 1 (p .0)) sd (eqb-true (x .i) 0 (fst _ _ (a .0))) (eqb-true (x .j) 0 (snd _ _ (a .0))) (a .1) sy)
-            (λ p. ⊎-elim (λ q. let a = need-done _ _ _ _ (q .1) in let g = bind-done _ _ _ (a .1) in taking x l m (g .0) (eqb-true (x .kind) 8 (q .0)) (empty-words (x .words) (a .0)) sd (ap (λ (z : Setting). routeTo (z .wrapper .routes) (vw .c .side) (x .j)) (sym (vw .c-is)) ∙ g .1) (g .2) sy) (λ q. inner-done x l m sd (q .1) lim sy) (choose-done _ _ _ _ (p .1)))
+            (λ p. ⊎-elim (λ q. let a = need-done _ _ _ _ (q .1) in let g = bind-done _ _ _ (a .1) in
+            taking x l m (g .0) (eqb-true (x .kind) 8 (q .0)) (empty-words (x .words) (a .0)) sd (ap (λ (z : Setting). routeTo (z .wrapper .routes) (vw .c .side) (x .j)) (sym (vw .c-is)) ∙ g .1)
+            (g .2) sy) (λ q. inner-done x l m sd (q .1) lim sy) (choose-done _ _ _ _ (p .1)))
             (choose-done _ _ _ _ r)

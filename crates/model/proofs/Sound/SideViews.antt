@@ -143,7 +143,8 @@ map-at {A} f (k ∷ X) n Y = ap (λ (r : List A). f k ∷ r) (map-at f X n Y)
 
 pub places-same : (s s′ : State) (ns : List ℕ) (acc : List (Place Mark)) → ((m : ℕ) → has m ns ≡ true → side s m .core .contents .boxes ≡ side s′ m .core .contents .boxes) → allPlaces ids s ns acc ≡ allPlaces ids s′ ns acc
 places-same s s′ [] acc h = refl
-places-same s s′ (n ∷ ns) acc h = ap (λ (l : List Box). allPlaces ids s ns (placesOf ids n 0 l acc)) (h n (has-here n ns)) ∙ places-same s s′ ns (placesOf ids n 0 (side s′ n .core .contents .boxes) acc) (λ m q. h m (or-right (eqb m n) (has m ns) q))
+places-same s s′ (n ∷ ns) acc h = ap (λ (l : List Box). allPlaces ids s ns (placesOf ids n 0 l acc)) (h n (has-here n ns))
+    ∙ places-same s s′ ns (placesOf ids n 0 (side s′ n .core .contents .boxes) acc) (λ m q. h m (or-right (eqb m n) (has m ns) q))
 
 pub has-all : {c : Place Mark} (s : State) (ns : List ℕ) (acc : List (Place Mark)) → Has c acc → Has c (allPlaces ids s ns acc)
 has-all s [] acc h = h
@@ -226,7 +227,8 @@ module _ (b : Composition) (s : State) (e : ready b s ≡ true) (n : ℕ) (h : h
 
   pub SH-same : (k : Core) (l : List Bool) → k .shelf ≡ side s n .core .shelf → k .taken ≡ side s n .core .taken → SH (with-side k l) ≡ SH s
   unfolding SH
-  SH-same k l p q = by-same (shelfAt (with-side k l)) (shelfAt s) (wrapperOf b .sides) (λ m z. ap₂ (λ (g : ℕ → Bool) (v : List (List ℕ)). shelfItems ids g m 0 v) (gone-same k l q m) (by-side k l (λ (o u : Side). o .core .shelf ≡ u .core .shelf) p (λ o. refl) m))
+  SH-same k l p q = by-same (shelfAt (with-side k l)) (shelfAt s) (wrapperOf b .sides)
+      (λ m z. ap₂ (λ (g : ℕ → Bool) (v : List (List ℕ)). shelfItems ids g m 0 v) (gone-same k l q m) (by-side k l (λ (o u : Side). o .core .shelf ≡ u .core .shelf) p (λ o. refl) m))
 
   pub grouped : (f h x y : List (Item Mark)) → (f ++ (h ++ x)) ++ y ≡ f ++ (h ++ (x ++ y))
   grouped f h x y = simp append-assoc
@@ -238,7 +240,8 @@ module _ (b : Composition) (s : State) (e : ready b s ≡ true) (n : ℕ) (h : h
   -- where the side's wrapper inputs stand
   pub at-passes : F ≡ (map (enters ids (wrapperOf b)) (wrapperOf b .sides) ++ map (passes ids (wrapperOf b)) (sp .X)) ++ passes ids (wrapperOf b) n ∷ (map (passes ids (wrapperOf b)) (sp .Y) ++ map (takes ids) (wrapperOf b .routes))
   unfolding F
-  at-passes = ap (λ (l : List (Item Mark)). map (enters ids (wrapperOf b)) (wrapperOf b .sides) ++ (l ++ map (takes ids) (wrapperOf b .routes))) (ap (map (passes ids (wrapperOf b))) (sp .is) ∙ map-at (passes ids (wrapperOf b)) (sp .X) n (sp .Y))
+  at-passes = ap (λ (l : List (Item Mark)). map (enters ids (wrapperOf b)) (wrapperOf b .sides) ++ (l ++ map (takes ids) (wrapperOf b .routes)))
+      (ap (map (passes ids (wrapperOf b))) (sp .is) ∙ map-at (passes ids (wrapperOf b)) (sp .X) n (sp .Y))
       ∙ shuffle (map (enters ids (wrapperOf b)) (wrapperOf b .sides)) (map (passes ids (wrapperOf b)) (sp .X)) (passes ids (wrapperOf b) n) (map (passes ids (wrapperOf b)) (sp .Y)) (map (takes ids) (wrapperOf b .routes))
     where
       shuffle : (a x : List (Item Mark)) (p : Item Mark) (y r : List (Item Mark)) → a ++ ((x ++ p ∷ y) ++ r) ≡ (a ++ x) ++ p ∷ (y ++ r)
@@ -246,7 +249,8 @@ module _ (b : Composition) (s : State) (e : ready b s ≡ true) (n : ℕ) (h : h
 
   pub at-enters : F ≡ map (enters ids (wrapperOf b)) (sp .X) ++ enters ids (wrapperOf b) n ∷ (map (enters ids (wrapperOf b)) (sp .Y) ++ (map (passes ids (wrapperOf b)) (wrapperOf b .sides) ++ map (takes ids) (wrapperOf b .routes)))
   unfolding F
-  at-enters = ap (λ (l : List (Item Mark)). l ++ (map (passes ids (wrapperOf b)) (wrapperOf b .sides) ++ map (takes ids) (wrapperOf b .routes))) (ap (map (enters ids (wrapperOf b))) (sp .is) ∙ map-at (enters ids (wrapperOf b)) (sp .X) n (sp .Y))
+  at-enters = ap (λ (l : List (Item Mark)). l ++ (map (passes ids (wrapperOf b)) (wrapperOf b .sides) ++ map (takes ids) (wrapperOf b .routes)))
+      (ap (map (enters ids (wrapperOf b))) (sp .is) ∙ map-at (enters ids (wrapperOf b)) (sp .X) n (sp .Y))
       ∙ append-assoc (map (enters ids (wrapperOf b)) (sp .X)) (enters ids (wrapperOf b) n ∷ map (enters ids (wrapperOf b)) (sp .Y)) _
 
   pub more-after : (P Q R : List (Item Mark)) (x : Item Mark) → F ≡ P ++ x ∷ Q → F ++ R ≡ P ++ x ∷ (Q ++ R)
@@ -281,14 +285,17 @@ module _ (b : Composition) (s : State) (e : ready b s ≡ true) (n : ℕ) (h : h
       three f g h = ritems-app forget f (g ++ h) ∙ ap (λ (r : List (Item (Unit {0}))). ritems forget f ++ r) (ritems-app forget g h)
 
       now : target (wrapperOf b) n (table b n) (F ++ (SH s ++ SX)) SY (side s n .core) (k .lobby) (k .contents .particles) ≡ P ++ Q
-      now = sym (whole° (wrapperOf b) n (table b n) (F ++ (SH s ++ SX)) SY k) ∙ ap (ritems forget) (grouped F (SH s) SX (sideItems ids (wrapperOf b) n (table b n) k ++ SY)) ∙ three F (SH s) (SX ++ (sideItems ids (wrapperOf b) n (table b n) k ++ SY))
-          ∙ ap (λ (r : List (Item (Unit {0}))). ritems forget F ++ (r ++ R)) (SH° s ∙ ap (bySide (shelfAt° s)) (sp .is) ∙ by-app (shelfAt° s) (sp .X) n (sp .Y)) ∙ flat (ritems forget F) (bySide (shelfAt° s) (sp .X)) B (bySide (shelfAt° s) (sp .Y)) R
+      now = sym (whole° (wrapperOf b) n (table b n) (F ++ (SH s ++ SX)) SY k) ∙ ap (ritems forget) (grouped F (SH s) SX (sideItems ids (wrapperOf b) n (table b n) k ++ SY))
+          ∙ three F (SH s) (SX ++ (sideItems ids (wrapperOf b) n (table b n) k ++ SY))
+          ∙ ap (λ (r : List (Item (Unit {0}))). ritems forget F ++ (r ++ R)) (SH° s ∙ ap (bySide (shelfAt° s)) (sp .is) ∙ by-app (shelfAt° s) (sp .X) n (sp .Y))
+          ∙ flat (ritems forget F) (bySide (shelfAt° s) (sp .X)) B (bySide (shelfAt° s) (sp .Y)) R
 
       other : (m : ℕ) → (m ≡ n → ⊥) → shelfAt° (with-side k l) m ≡ shelfAt° s m
       other m z = ap₂ (λ (g : ℕ → Bool) (u : List (List ℕ)). shelfItems forget g m 0 u) (gone-same k l q m) (ap (λ (o : Side). o .core .shelf) (off-n k l m z))
 
       mine : shelfAt° (with-side k l) n ≡ B ++ it ∷ []
-      mine = ap₂ (λ (g : ℕ → Bool) (u : List (List ℕ)). shelfItems forget g n 0 u) (gone-same k l q n) (ap (λ (o : Side). o .core .shelf) (at-n k l) ∙ p) ∙ shelf-more (isGone s n) n 0 (side s n .core .shelf) v (subst (λ (i : ℕ). isGone s n i ≡ false) (omega arith) g)
+      mine = ap₂ (λ (g : ℕ → Bool) (u : List (List ℕ)). shelfItems forget g n 0 u) (gone-same k l q n) (ap (λ (o : Side). o .core .shelf) (at-n k l) ∙ p)
+          ∙ shelf-more (isGone s n) n 0 (side s n .core .shelf) v (subst (λ (i : ℕ). isGone s n i ≡ false) (omega arith) g)
 
       later : ritems forget (confOf b (with-side k l) .items) ≡ P ++ it ∷ Q
       later = ap (ritems forget) (items-of (with-side k l)) ∙ three F (SH (with-side k l)) (bySide (own (with-side k l)) (wrapperOf b .sides))
@@ -333,13 +340,18 @@ module _ (b : Composition) (s : State) (e : ready b s ≡ true) (n : ℕ) (h : h
     has = box-in;
     C1 = map (enters ids (wrapperOf b)) (wrapperOf b .sides) ++ map (passes ids (wrapperOf b)) (sp .X);
     C2 = (map (passes ids (wrapperOf b)) (sp .Y) ++ map (takes ids) (wrapperOf b .routes)) ++ (SH s ++ SX);
-    at-pass = more-after (map (enters ids (wrapperOf b)) (wrapperOf b .sides) ++ map (passes ids (wrapperOf b)) (sp .X)) (map (passes ids (wrapperOf b)) (sp .Y) ++ map (takes ids) (wrapperOf b .routes)) (SH s ++ SX) (passes ids (wrapperOf b) n) at-passes;
+    at-pass = more-after (map (enters ids (wrapperOf b)) (wrapperOf b .sides) ++ map (passes ids (wrapperOf b)) (sp .X))
+        (map (passes ids (wrapperOf b)) (sp .Y) ++ map (takes ids) (wrapperOf b .routes)) (SH s ++ SX) (passes ids (wrapperOf b) n) at-passes;
     E1 = map (enters ids (wrapperOf b)) (sp .X);
     E2 = (map (enters ids (wrapperOf b)) (sp .Y) ++ (map (passes ids (wrapperOf b)) (wrapperOf b .sides) ++ map (takes ids) (wrapperOf b .routes))) ++ (SH s ++ SX);
-    at-enter = more-after (map (enters ids (wrapperOf b)) (sp .X)) (map (enters ids (wrapperOf b)) (sp .Y) ++ (map (passes ids (wrapperOf b)) (wrapperOf b .sides) ++ map (takes ids) (wrapperOf b .routes))) (SH s ++ SX) (enters ids (wrapperOf b) n) at-enters;
-    items-next = λ k l p q. ap (ritems forget) (items-of (with-side k l) ∙ ap₂ (λ (x y : List (Item Mark)). F ++ (x ++ y)) (SH-same k l p q) (own-split k l) ∙ sym (grouped F (SH s) SX (sideItems ids (wrapperOf b) n (table b n) k ++ SY))) ∙ whole° (wrapperOf b) n (table b n) (F ++ (SH s ++ SX)) SY k;
+    at-enter = more-after (map (enters ids (wrapperOf b)) (sp .X))
+        (map (enters ids (wrapperOf b)) (sp .Y) ++ (map (passes ids (wrapperOf b)) (wrapperOf b .sides) ++ map (takes ids) (wrapperOf b .routes))) (SH s ++ SX) (enters ids (wrapperOf b) n) at-enters;
+    items-next = λ k l p q. ap (ritems forget)
+        (items-of (with-side k l) ∙ ap₂ (λ (x y : List (Item Mark)). F ++ (x ++ y)) (SH-same k l p q) (own-split k l) ∙ sym (grouped F (SH s) SX (sideItems ids (wrapperOf b) n (table b n) k ++ SY)))
+        ∙ whole° (wrapperOf b) n (table b n) (F ++ (SH s ++ SX)) SY k;
     boxes-next = boxes-as;
-    minted-next = λ k l p. by-same (λ m. upto (side (with-side k l) m .core .contents .minted) (mintOf m)) (λ m. upto (side s m .core .contents .minted) (mintOf m)) allSides (λ m z. ap (λ (i : ℕ). upto i (mintOf m)) (by-side k l (λ (o u : Side). o .core .contents .minted ≡ u .core .contents .minted) p (λ o. refl) m));
+    minted-next = λ k l p. by-same (λ m. upto (side (with-side k l) m .core .contents .minted) (mintOf m)) (λ m. upto (side s m .core .contents .minted) (mintOf m)) allSides
+        (λ m z. ap (λ (i : ℕ). upto i (mintOf m)) (by-side k l (λ (o u : Side). o .core .contents .minted ≡ u .core .contents .minted) p (λ o. refl) m));
     known-next = λ k v x m. put-or (λ o. marked (o .left) x) s n (record { core = k; left = markAll (side s n .left) v }) (mem x v) pos lt (marked-all v (side s n .left) x (left-size b s n e (which (b .wrapper) n h)) m);
     known-same = λ k x. put-one (λ o. marked (o .left) x) s n (record { core = k; left = side s n .left }) refl;
     shelve = shelving;

@@ -46,8 +46,12 @@ module _ (b : Composition) (s : State) (e : ready b s ≡ true) where
       let em = done-inj (a .1) in
       let lt : l ≡ tau = subst (λ (y : Moved). SaysInv (wrapperOf b) (labelled (y .label) n (y .val)) l) (sym em) sy in
       subst (λ (y : Moved). (w : Participants Mark) × At (wrapperOf b) x w × Asks x l × Goes b s (putSide s n (sideAfter (side s n) (done y))) l w) em
-      (subst (λ (y : Label). (w : Participants Mark) × At (wrapperOf b) x w × Asks x y × Goes b s (took-state b s e n h (x .j) r fr (x .i) v) y w) (sym lt)
-      (joint (shelf (r .source) (x .i)) (taker (r .source) (r .receiver)), at-take (wrapperOf b) x (rg .0) r (rg .1) k8 (sd ∙ sym (rg .2)) (sym (route-j (wrapperOf b .routes) n (x .j) r fr)) ws, asks-tau (λ z. omega arith) (λ z. omega arith), gg))
+      (subst (λ (y : Label). (w : Participants Mark) × At (wrapperOf b) x w × Asks x y × Goes b s (took-state b s e n h (x .j) r fr (x .i) v) y w) (sym lt) (
+        joint (shelf (r .source) (x .i)) (taker (r .source) (r .receiver)),
+        at-take (wrapperOf b) x (rg .0) r (rg .1) k8 (sd ∙ sym (rg .2)) (sym (route-j (wrapperOf b .routes) n (x .j) r fr)) ws,
+        asks-tau (λ z. omega arith) (λ z. omega arith),
+        gg,
+      ))
 
   own-side : (k : Step) (l : Label) (h : hasSide (wrapperOf b) (k .side) ≡ true) (r : Res Moved) → settled (local (setting b (k .side)) (known s) (shelfOf s) (side s (k .side) .core) k) ≡ r → SaysInv (wrapperOf b) (answerOf (k .side) r) l
       → SoundRes b s k l (record { answer = answerOf (k .side) r; after = putSide s (k .side) (sideAfter (side s (k .side)) r) })
@@ -67,7 +71,8 @@ module _ (b : Composition) (s : State) (e : ready b s ≡ true) where
       go false h = absurd (rw (step-lacks b s k e h) at sy)
 
   -- an answer that is no refusal has a label
-  told-side : (k : Step) (h : hasSide (wrapperOf b) (k .side) ≡ true) (r : Res Moved) → settled (local (setting b (k .side)) (known s) (shelfOf s) (side s (k .side) .core) k) ≡ r → IsLabelled (answerOf (k .side) r) → (l : Label) × Says (wrapperOf b) (answerOf (k .side) r) l
+  told-side : (k : Step) (h : hasSide (wrapperOf b) (k .side) ≡ true) (r : Res Moved) → settled (local (setting b (k .side)) (known s) (shelfOf s) (side s (k .side) .core) k) ≡ r →
+      IsLabelled (answerOf (k .side) r) → (l : Label) × Says (wrapperOf b) (answerOf (k .side) r) l
   told-side k h (refuse n) q y = absurd y
   told-side k h (done m) q y = spoken-says (wrapperOf b) (k .side) (counts s) (m .label) (m .val) (side-keeps b s e (k .side) h k m q .said)
 

@@ -67,7 +67,8 @@ sole w n k p q = go (eqb w 1) (eqb w 2) p q
 -- a shelf of which one place more is taken
 pub shelf-same : (gone gone′ : ℕ → Bool) (q n : ℕ) (l : List (List ℕ)) → ((x : ℕ) → n ≤ x → x < n + length l → gone′ x ≡ gone x) → shelfItems forget gone′ q n l ≡ shelfItems forget gone q n l
 shelf-same gone gone′ q n [] h = refl
-shelf-same gone gone′ q n (v ∷ l) h = ap₂ (λ (t : Bool) (r : List (Item (Unit {0}))). cond t [] (shelfItem forget q n v ∷ []) ++ r) (h n (omega arith) (omega arith)) (shelf-same gone gone′ q (suc n) l (λ x a c. h x (omega arith) (omega arith)))
+shelf-same gone gone′ q n (v ∷ l) h = ap₂ (λ (t : Bool) (r : List (Item (Unit {0}))). cond t [] (shelfItem forget q n v ∷ []) ++ r) (h n (omega arith) (omega arith))
+    (shelf-same gone gone′ q (suc n) l (λ x a c. h x (omega arith) (omega arith)))
 
 pub record OnShelf (gone gone′ : ℕ → Bool) (q n : ℕ) (l : List (List ℕ)) (i : ℕ) (v : List ℕ) : Type 0 where
   pub P : List (Item Mark)
@@ -75,13 +76,16 @@ pub record OnShelf (gone gone′ : ℕ → Bool) (q n : ℕ) (l : List (List ℕ
   pub is : shelfItems ids gone q n l ≡ P ++ shelfItem ids q (n + i) v ∷ Q
   pub gone-is : ritems forget P ++ ritems forget Q ≡ shelfItems forget gone′ q n l
 
-pub on-shelf : (gone gone′ : ℕ → Bool) (q n : ℕ) (l : List (List ℕ)) (i : ℕ) (v : List ℕ) → getElem? l i ≡ some v → gone (n + i) ≡ false → gone′ (n + i) ≡ true → ((x : ℕ) → (x ≡ n + i → ⊥) → n ≤ x → x < n + length l → gone′ x ≡ gone x) → OnShelf gone gone′ q n l i v
+pub on-shelf : (gone gone′ : ℕ → Bool) (q n : ℕ) (l : List (List ℕ)) (i : ℕ) (v : List ℕ) → getElem? l i ≡ some v → gone (n + i) ≡ false → gone′ (n + i) ≡ true →
+    ((x : ℕ) → (x ≡ n + i → ⊥) → n ≤ x → x < n + length l → gone′ x ≡ gone x) → OnShelf gone gone′ q n l i v
 on-shelf gone gone′ q n [] i v e f g h = absurd (let z : _≡_ {A = ℕ} 0 1 = cc in omega arith)
 on-shelf gone gone′ q n (u ∷ l) zero v e f g h = record {
   P = [];
   Q = shelfItems ids gone q (suc n) l;
   is = ap₂ (λ (t : Bool) (x : List ℕ). cond t [] (shelfItem ids q n x ∷ []) ++ shelfItems ids gone q (suc n) l) (subst (λ (z : ℕ). gone z ≡ false) n0 f) uv ∙ ap (λ (z : ℕ). shelfItem ids q z v ∷ shelfItems ids gone q (suc n) l) (sym n0);
-  gone-is = shelf-marks ids forget gone q (suc n) l ∙ sym (ap (λ (t : Bool). cond t [] (shelfItem forget q n u ∷ []) ++ shelfItems forget gone′ q (suc n) l) (subst (λ (z : ℕ). gone′ z ≡ true) n0 g) ∙ shelf-same gone gone′ q (suc n) l (λ x a c. h x (λ z. omega (arith, z, a)) (omega arith) (omega arith)));
+  gone-is = shelf-marks ids forget gone q (suc n) l
+      ∙ sym (ap (λ (t : Bool). cond t [] (shelfItem forget q n u ∷ []) ++ shelfItems forget gone′ q (suc n) l) (subst (λ (z : ℕ). gone′ z ≡ true) n0 g)
+      ∙ shelf-same gone gone′ q (suc n) l (λ x a c. h x (λ z. omega (arith, z, a)) (omega arith) (omega arith)));
 }
   where
     n0 : n + 0 ≡ n
@@ -94,8 +98,10 @@ on-shelf gone gone′ q n (u ∷ l) (suc i) v e f g h =
     record {
       P = cond (gone n) [] (shelfItem ids q n u ∷ []) ++ r .P;
       Q = r .Q;
-      is = ap (λ (z : List (Item Mark)). cond (gone n) [] (shelfItem ids q n u ∷ []) ++ z) (r .is ∙ ap (λ (z : ℕ). r .P ++ shelfItem ids q z v ∷ r .Q) (omega arith)) ∙ sym (append-assoc (cond (gone n) [] (shelfItem ids q n u ∷ [])) (r .P) (shelfItem ids q (n + suc i) v ∷ r .Q));
-      gone-is = ap (λ (z : List (Item (Unit {0}))). z ++ ritems forget (r .Q)) (ritems-app forget (cond (gone n) [] (shelfItem ids q n u ∷ [])) (r .P)) ∙ append-assoc (ritems forget (cond (gone n) [] (shelfItem ids q n u ∷ []))) (ritems forget (r .P)) (ritems forget (r .Q))
+      is = ap (λ (z : List (Item Mark)). cond (gone n) [] (shelfItem ids q n u ∷ []) ++ z) (r .is ∙ ap (λ (z : ℕ). r .P ++ shelfItem ids q z v ∷ r .Q) (omega arith))
+          ∙ sym (append-assoc (cond (gone n) [] (shelfItem ids q n u ∷ [])) (r .P) (shelfItem ids q (n + suc i) v ∷ r .Q));
+      gone-is = ap (λ (z : List (Item (Unit {0}))). z ++ ritems forget (r .Q)) (ritems-app forget (cond (gone n) [] (shelfItem ids q n u ∷ [])) (r .P))
+          ∙ append-assoc (ritems forget (cond (gone n) [] (shelfItem ids q n u ∷ []))) (ritems forget (r .P)) (ritems forget (r .Q))
           ∙ ap₂ (λ (y z : List (Item (Unit {0}))). y ++ z) (head (gone n) ∙ ap (λ (t : Bool). cond t [] (shelfItem forget q n u ∷ [])) (sym (h n (λ z. omega (arith, z)) (omega arith) (omega arith)))) (r .gone-is);
     }
   where
@@ -200,10 +206,12 @@ module _ (b : Composition) (s : State) (e : ready b s ≡ true) (n : ℕ) (h : h
 
       SH-now : SH b s e n h s ≡ Xs ++ ((on .P ++ shelfItem ids m i v ∷ on .Q) ++ Ys)
       unfolding SH
-      SH-now = ap (bySide (shelfAt b s e n h s)) (Mm .is) ∙ by-app (shelfAt b s e n h s) (Mm .X) m (Mm .Y) ∙ ap (λ (l : List (Item Mark)). bySide (shelfAt b s e n h s) (Mm .X) ++ (l ++ bySide (shelfAt b s e n h s) (Mm .Y))) (on .is ∙ ap (λ (z : ℕ). on .P ++ shelfItem ids m z v ∷ on .Q) (omega arith))
+      SH-now = ap (bySide (shelfAt b s e n h s)) (Mm .is) ∙ by-app (shelfAt b s e n h s) (Mm .X) m (Mm .Y)
+          ∙ ap (λ (l : List (Item Mark)). bySide (shelfAt b s e n h s) (Mm .X) ++ (l ++ bySide (shelfAt b s e n h s) (Mm .Y))) (on .is ∙ ap (λ (z : ℕ). on .P ++ shelfItem ids m z v ∷ on .Q) (omega arith))
 
       others : (q : ℕ) → hasSide (wrapperOf b) q ≡ true → (q ≡ m → ⊥) → shelfAt° b s e n h s′ q ≡ shelfAt° b s e n h s q
-      others q hq ne = ap (shelfItems forget (isGone s′ q) q 0) (same-shelf q) ∙ shelf-same (isGone s q) (isGone s′ q) q 0 (side s q .core .shelf) (λ x a c. gone-else i v q x l32 (omega (arith, c, shelf-few b s e q)) (positive q (which (b .wrapper) q hq) .0) (λ z. ne (z .0)))
+      others q hq ne = ap (shelfItems forget (isGone s′ q) q 0) (same-shelf q)
+          ∙ shelf-same (isGone s q) (isGone s′ q) q 0 (side s q .core .shelf) (λ x a c. gone-else i v q x l32 (omega (arith, c, shelf-few b s e q)) (positive q (which (b .wrapper) q hq) .0) (λ z. ne (z .0)))
 
       in-X : (q : ℕ) → has q (Mm .X) ≡ true → hasSide (wrapperOf b) q ≡ true
       in-X q z = ap (has q) (Mm .is) ∙ has-app q (Mm .X) (m ∷ Mm .Y) ∙ ap (λ (t : Bool). t || has q (m ∷ Mm .Y)) z
@@ -234,21 +242,27 @@ module _ (b : Composition) (s : State) (e : ready b s ≡ true) (n : ℕ) (h : h
           shuffle : (a : List (Item Mark)) (t : Item Mark) (c x p q y o : List (Item Mark)) → a ++ t ∷ ((c ++ (x ++ p)) ++ (q ++ (y ++ o))) ≡ (a ++ t ∷ c) ++ ((x ++ ((p ++ q) ++ y)) ++ o)
           shuffle a t c x p q y o = simp append-assoc
 
-      rest-is : ritems forget (F b s e n h ++ ((Xs ++ ((on .P ++ on .Q) ++ Ys)) ++ O)) ≡ target (wrapperOf b) n (table b n) (F b s e n h ++ (SH b s e n h s′ ++ SX b s e n h)) (SY b s e n h) (side s n .core) (side s n .core .lobby) (side s n .core .contents .particles)
+      rest-is : ritems forget (F b s e n h ++ ((Xs ++ ((on .P ++ on .Q) ++ Ys)) ++ O)) ≡ target (wrapperOf b) n (table b n) (F b s e n h ++ (SH b s e n h s′ ++ SX b s e n h)) (SY b s e n h)
+          (side s n .core) (side s n .core .lobby) (side s n .core .contents .particles)
       rest-is = three (F b s e n h) (Xs ++ ((on .P ++ on .Q) ++ Ys)) O
-          ∙ ap (λ (x : List (Item (Unit {0}))). ritems forget (F b s e n h) ++ (x ++ ritems forget O)) (three Xs (on .P ++ on .Q) Ys ∙ ap (λ (x : List (Item (Unit {0}))). ritems forget Xs ++ (x ++ ritems forget Ys)) (ritems-app forget (on .P) (on .Q)) ∙ sym SH-after)
+          ∙ ap (λ (x : List (Item (Unit {0}))). ritems forget (F b s e n h) ++ (x ++ ritems forget O))
+          (three Xs (on .P ++ on .Q) Ys ∙ ap (λ (x : List (Item (Unit {0}))). ritems forget Xs ++ (x ++ ritems forget Ys)) (ritems-app forget (on .P) (on .Q)) ∙ sym SH-after)
           ∙ sym (three (F b s e n h) (SH b s e n h s′) O) ∙ ap (ritems forget) (sym (grouped b s e n h (F b s e n h) (SH b s e n h s′) (SX b s e n h) (sideItems ids (wrapperOf b) n (table b n) (side s n .core) ++ SY b s e n h)))
           ∙ whole° (wrapperOf b) n (table b n) (F b s e n h ++ (SH b s e n h s′ ++ SX b s e n h)) (SY b s e n h) (side s n .core)
 
       after-is : target (wrapperOf b) n (table b n) (F b s e n h ++ (SH b s e n h s′ ++ SX b s e n h)) (SY b s e n h) (side s n .core) (took i v .lobby) (took i v .contents .particles) ≡ ritems forget (confOf b s′ .items)
-      after-is = sym (whole° (wrapperOf b) n (table b n) (F b s e n h ++ (SH b s e n h s′ ++ SX b s e n h)) (SY b s e n h) (took i v)) ∙ ap (ritems forget) (grouped b s e n h (F b s e n h) (SH b s e n h s′) (SX b s e n h) (sideItems ids (wrapperOf b) n (table b n) (took i v) ++ SY b s e n h)
+      after-is = sym (whole° (wrapperOf b) n (table b n) (F b s e n h ++ (SH b s e n h s′ ++ SX b s e n h)) (SY b s e n h) (took i v))
+          ∙ ap (ritems forget) (grouped b s e n h (F b s e n h) (SH b s e n h s′) (SX b s e n h) (sideItems ids (wrapperOf b) n (table b n) (took i v) ++ SY b s e n h)
           ∙ sym (items-of b s e n h s′ ∙ ap (λ (x : List (Item Mark)). F b s e n h ++ (SH b s e n h s′ ++ x)) (own-split b s e n h (took i v) (side s n .left))))
 
       -- what is left, with the message for the lobby, is the state after
       pub taken-bag : Bag (item 0 (pout tt 2 (plain (ichild (ownName (r .receiver)))) (valOf v)) ∷ ritems forget (F b s e n h ++ ((Xs ++ ((on .P ++ on .Q) ++ Ys)) ++ O))) (ritems forget (confOf b s′ .items))
       taken-bag = bag-trans (bag-cons _ (bag-eq rest-is))
-          (bag-trans (bag-eq (ap (λ (k : ℕ). item 0 (pout tt 2 (plain (ichild (ownName k))) (valOf v)) ∷ target (wrapperOf b) n (table b n) (F b s e n h ++ (SH b s e n h s′ ++ SX b s e n h)) (SY b s e n h) (side s n .core) (side s n .core .lobby) (side s n .core .contents .particles)) (at-route .2)))
-          (bag-trans (add-msg (wrapperOf b) n (table b n) (F b s e n h ++ (SH b s e n h s′ ++ SX b s e n h)) (SY b s e n h) (side s n .core) (side s n .core .lobby) (record { status = down; chan = 2; val = v }) (side s n .core .contents .particles)) (bag-eq after-is)))
+          (bag-trans (bag-eq (ap
+          (λ (k : ℕ). item 0 (pout tt 2 (plain (ichild (ownName k))) (valOf v)) ∷ target (wrapperOf b) n (table b n) (F b s e n h ++ (SH b s e n h s′ ++ SX b s e n h)) (SY b s e n h)
+          (side s n .core) (side s n .core .lobby) (side s n .core .contents .particles)) (at-route .2)))
+          (bag-trans (add-msg (wrapperOf b) n (table b n) (F b s e n h ++ (SH b s e n h s′ ++ SX b s e n h)) (SY b s e n h) (side s n .core) (side s n .core .lobby)
+          (record { status = down; chan = 2; val = v }) (side s n .core .contents .particles)) (bag-eq after-is)))
 
       moves : Goes b s s′ tau (joint (shelf m i) (taker m (r .receiver)))
       moves = goes-silent b s e s′ same-new same-boxes

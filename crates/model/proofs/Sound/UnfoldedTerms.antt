@@ -34,16 +34,24 @@ module _ (T : Table) (side : ℕ) (Bo : List (Place (Unit {0}))) (R : List (Item
   abbrev pub confS : Contents → Conf (Unit {0})
   confS u = record { boxes = placesOf forget side 0 (u .boxes) Bo; items = R ++ map (plainP T side) (u .particles); names = Nm (u .minted); sites = length (u .boxes); serial = u .minted }
 
-  module _ (mt : ℕ → ℕ) (k : Counts) (m0 N : ℕ) (agree : (m : ℕ) → m < N → mt m ≡ 65536 * side + m) (more : (m : ℕ) → m0 ≤ m → m < N → Nm (suc m) ≡ Nm m ++ mt m ∷ []) (fresh : (j : ℕ) → j < N → held k (65536 * side + j) ≡ true) (small : (j : ℕ) → j < N → 65536 * side + j < 4000000) where
+  module _ (mt : ℕ → ℕ) (k : Counts) (m0 N : ℕ) (agree : (m : ℕ) → m < N → mt m ≡ 65536 * side + m) (more : (m : ℕ) → m0 ≤ m → m < N → Nm (suc m) ≡ Nm m ++ mt m ∷ [])
+      (fresh : (j : ℕ) → j < N → held k (65536 * side + j) ≡ true) (small : (j : ℕ) → j < N → 65536 * side + j < 4000000) where
     added : (u : Contents) (p : Particle) (b : ℕ) (P : Proc (Unit {0}) []) → plainP T side p ≡ record { site = siteOf side b; what = P }
         → record { boxes = confS u .boxes; items = confS u .items ++ record { site = siteOf side b; what = P } ∷ []; names = confS u .names; sites = confS u .sites; serial = confS u .serial } ≡ confS (addParticle u p)
     added u p b P e = λ t. record { boxes = confS u .boxes; items = q t; names = confS u .names; sites = confS u .sites; serial = confS u .serial }
       where
         q : (R ++ map (plainP T side) (u .particles)) ++ record { site = siteOf side b; what = P } ∷ [] ≡ R ++ map (plainP T side) (u .particles ++ p ∷ [])
-        q = append-assoc R (map (plainP T side) (u .particles)) (record { site = siteOf side b; what = P } ∷ []) ∙ ap (λ (l : List (Item (Unit {0}))). R ++ l) (ap (λ (i : Item (Unit {0})). map (plainP T side) (u .particles) ++ i ∷ []) (sym e) ∙ sym (map-add (plainP T side) (u .particles) p))
+        q = append-assoc R (map (plainP T side) (u .particles)) (record { site = siteOf side b; what = P } ∷ [])
+            ∙ ap (λ (l : List (Item (Unit {0}))). R ++ l) (ap (λ (i : Item (Unit {0})). map (plainP T side) (u .particles) ++ i ∷ []) (sym e) ∙ sym (map-add (plainP T side) (u .particles) p))
 
     boxed-in : (u : Contents) (b n n' : ℕ) → 1 ≤ length (u .boxes) → n ≡ n'
-        → record { boxes = record { site = siteOf side (length (u .boxes)); parent = siteOf side b; name = n; mark = tt } ∷ confS u .boxes; items = confS u .items; names = confS u .names; sites = suc (confS u .sites); serial = confS u .serial } ≡ confS (addBox u n' b)
+        → record {
+          boxes = record { site = siteOf side (length (u .boxes)); parent = siteOf side b; name = n; mark = tt } ∷ confS u .boxes;
+          items = confS u .items;
+          names = confS u .names;
+          sites = suc (confS u .sites);
+          serial = confS u .serial;
+        } ≡ confS (addBox u n' b)
     boxed-in u b n n' l e = λ t. record { boxes = q t; items = confS u .items; names = confS u .names; sites = z t; serial = confS u .serial }
       where
         bx : Box
@@ -56,7 +64,8 @@ module _ (T : Table) (side : ℕ) (Bo : List (Place (Unit {0}))) (R : List (Item
         off = ne-eqb (length (u .boxes)) 0 (λ r. omega arith)
 
         same : record { site = siteOf side (length (u .boxes)); parent = siteOf side b; name = n; mark = tt } ≡ placeOf forget side (length (u .boxes)) bx
-        same = ap (λ (x : ℕ). record { site = siteOf side (length (u .boxes)); parent = siteOf side b; name = x; mark = tt }) e ∙ ap (λ (t : Bool). record { site = siteOf side (length (u .boxes)); parent = cond t 0 (siteOf side b); name = cond t (ownName side) n'; mark = tt }) (sym off)
+        same = ap (λ (x : ℕ). record { site = siteOf side (length (u .boxes)); parent = siteOf side b; name = x; mark = tt }) e
+            ∙ ap (λ (t : Bool). record { site = siteOf side (length (u .boxes)); parent = cond t 0 (siteOf side b); name = cond t (ownName side) n'; mark = tt }) (sym off)
 
         q : record { site = siteOf side (length (u .boxes)); parent = siteOf side b; name = n; mark = tt } ∷ placesOf forget side 0 (u .boxes) Bo ≡ placesOf forget side 0 (u .boxes ++ bx ∷ []) Bo
         q = ap (λ (x : Place (Unit {0})). x ∷ placesOf forget side 0 (u .boxes) Bo) same ∙ sym (places-app forget side 0 (u .boxes) bx Bo ∙ ap (λ (j : ℕ). placeOf forget side j bx ∷ placesOf forget side 0 (u .boxes) Bo) (omega arith))
@@ -71,7 +80,8 @@ module _ (T : Table) (side : ℕ) (Bo : List (Place (Unit {0}))) (R : List (Item
         q : Nm (u .minted) ++ mt (u .minted) ∷ [] ≡ Nm (u .minted + 1)
         q = sym e ∙ ap Nm z
 
-    pub unfolded : {σ : List ℕ} {a : Term} → Sits T σ a → (ρ : Env) → ρ .names ≡ σ → Sized ρ → every (wfValue k) (ρ .vals) ≡ true → defined a ρ ≡ true → (b : ℕ) (u : Contents) → 1 ≤ length (u .boxes) → m0 ≤ u .minted → unfolds side a ρ b u .minted ≤ N
+    pub unfolded : {σ : List ℕ} {a : Term} → Sits T σ a → (ρ : Env) → ρ .names ≡ σ → Sized ρ → every (wfValue k) (ρ .vals) ≡ true → defined a ρ ≡ true → (b : ℕ) (u : Contents) →
+        1 ≤ length (u .boxes) → m0 ≤ u .minted → unfolds side a ρ b u .minted ≤ N
         → unfold′ mt (siteOf side) tt (codeOf a) (envOf ρ) (siteOf side b) (confS u) ≡ confS (unfolds side a ρ b u)
     unfolding unfolds unfold′ codeOf defined proc
     unfolded s-nil ρ nm ln vs ft b u l m n = refl

@@ -85,7 +85,8 @@ module _ (b : Composition) (s : State) (few : (n : ℕ) → sideIn s n .core .co
       bad p q r t = omega (arith, p, q, r, t)
 
 -- a body at b, unfolded there
-module _ (side : ℕ) (s2 : side ≤ 2) (Al : List ℕ) (m : ℕ) (next : (y : ℕ) → In Al y → (i : ℕ) → m ≤ i → eqb (mt side i) y ≡ false) (C : Conf (Unit {0})) (cm : C .serial ≡ m) (b : ℕ) (lt : b < C .sites) (wf : Wf Al (C .boxes)) (re : Reach (C .boxes) (siteOf side b))
+module _ (side : ℕ) (s2 : side ≤ 2) (Al : List ℕ) (m : ℕ) (next : (y : ℕ) → In Al y → (i : ℕ) → m ≤ i → eqb (mt side i) y ≡ false) (C : Conf (Unit {0})) (cm : C .serial ≡ m) (b : ℕ)
+    (lt : b < C .sites) (wf : Wf Al (C .boxes)) (re : Reach (C .boxes) (siteOf side b))
     (em : (k : ℕ) → C .sites ≤ k → select (C .items) (siteOf side k) ≡ []) (ea : Each Al (C .items)) (c : Code) (ρ : ℕ → Val ℕ) (so : CSound [] c ρ) (en : (n : ℕ) → AllV (ρ n) (In Al)) where
   abbrev Other : ℕ → Type 0
   Other y = Unit {0}
@@ -128,5 +129,6 @@ module _ (side : ℕ) (s2 : side ≤ 2) (Al : List ℕ) (m : ℕ) (next : (y : �
   unfolding with'
   body-unfolds =
       let r = unfold-ok (mt side) (mt-fresh side s2) Other (λ i. tt) (siteOf side) far tt c ρ (siteOf side b) C so (λ n. AllV-map (ρ n) old (en n)) is-ok (λ j l. ne-eqb (siteOf side j) (siteOf side b) (λ q. omega arith)) re in
-      trans (in-news (C .names) (fill-cong (C .boxes) (at (item (siteOf side b) (proc [] tt c ρ) ∷ C .items)) (λ k. ppar (parallel (select (C .items) k)) (upd (λ k. pnil) (siteOf side b) (ppar (proc [] tt c ρ) pnil) k)) (body-there (proc [] tt c ρ))))
+      trans (in-news (C .names)
+      (fill-cong (C .boxes) (at (item (siteOf side b) (proc [] tt c ρ) ∷ C .items)) (λ k. ppar (parallel (select (C .items) k)) (upd (λ k. pnil) (siteOf side b) (ppar (proc [] tt c ρ) pnil) k)) (body-there (proc [] tt c ρ))))
       (trans (r .1 (λ k. pnil) nothing) (bare U))

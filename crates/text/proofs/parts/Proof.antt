@@ -67,7 +67,13 @@ loop-less : tie.Need-loop-less Inv-loop μ-loop
 loop-less c = search needs
 
 loop-again : tie.Need-loop-again Inv-loop μ-loop
-loop-again c = let s = c .before .before .before .before in let l = c .before .before .loop in let n : length (l .all) ≡ length allSides = sym (length-map (l .all) now) ∙ l .inv .1 in (search needs, length-map (set (l .all) (l .k) _) now ∙ length-set (l .all) (l .k) _ ∙ n, λ j h. ap (λ (x : List (List ℕ)). getD x j []) (map-set now (l .all) (l .k) _) ∙ part-more (map now (l .all)) (l .k) _ (λ (x : ℕ). take (getD (s .args .t3) x 0) (drop (s .args .wide * x) (s .args .list .now))) (omega (arith, l .inv .1, c .before .loop-test .taken)) (part-size (s .args .wide * l .k) (getD (s .args .t3) (l .k) 0) _) (l .inv .2) j h)
+loop-again c = let s = c .before .before .before .before in let l = c .before .before .loop in let n : length (l .all) ≡ length allSides = sym (length-map (l .all) now) ∙ l .inv .1 in (
+  search needs,
+  length-map (set (l .all) (l .k) _) now ∙ length-set (l .all) (l .k) _ ∙ n,
+  λ j h. ap (λ (x : List (List ℕ)). getD x j []) (map-set now (l .all) (l .k) _)
+      ∙ part-more (map now (l .all)) (l .k) _ (λ (x : ℕ). take (getD (s .args .t3) x 0) (drop (s .args .wide * x) (s .args .list .now))) (omega (arith, l .inv .1, c .before .loop-test .taken))
+      (part-size (s .args .wide * l .k) (getD (s .args .t3) (l .k) 0) _) (l .inv .2) j h,
+)
 
 returns : tie.Need-returns Inv-loop μ-loop
 returns c = let l = c .before .loop in (l .inv .1, λ k h. l .inv .2 k (omega (arith, h, c .loop-test .left)))

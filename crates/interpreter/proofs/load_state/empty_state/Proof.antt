@@ -4,7 +4,7 @@ use Rattle.interpreter.proofs.load_state.empty_state.Statement.{stateme
 use Rattle.interpreter.proofs.load_state.empty_state.Tie as tie
 
 returns : tie.Need-returns
-returns c = all-nothing (c .empty-side .result) (c .empty-side .ensures)
+returns c = all-nothing (c .empty .result) (c .empty .ensures)
 
 pub empty-state-spec : {M : Type 1} → statement M
 empty-state-spec = tie.close

@@ -25,7 +25,7 @@ returns-2 c =
     let t = table (x .args .nodes .now) (x .args .pool .now) in
     let n = x .args .n in
     let h = hasSide (described (x .args .wrapper)) n in
-    side-off h (startSide (start n t)) _ (sym (c .before .before .has-side .ensures) ∙ c .before .if1 .left) (c .empty-side .ensures)
+    side-off h (startSide (start n t)) _ (sym (c .before .before .has-side .ensures) ∙ c .before .if1 .left) (c .empty .ensures)
 
 pub side-at-spec : {M : Type 1} → statement M
 side-at-spec =

@@ -15,7 +15,8 @@ bad-requires : tie.Need-bad-requires
 bad-requires c κs = search needs
 
 returns : tie.Need-returns
-returns c = let a = c .before .before .before .before .args in c .bad .ensures ∙ sym (line-bad (a .s .now) (a .from) (a .to) (c .before .before .find .result) (search needs) (search needs) (c .before .before .find .ensures .0) (c .before .before .find .ensures .1) (c .before .if1 .taken))
+returns c = let a = c .before .before .before .before .args in c .bad .ensures
+    ∙ sym (line-bad (a .s .now) (a .from) (a .to) (c .before .before .find .result) (search needs) (search needs) (c .before .before .find .ensures .0) (c .before .before .find .ensures .1) (c .before .if1 .taken))
 
 shared-slice-read-letter : tie.Need-shared-slice-read-letter
 shared-slice-read-letter c = search needs
@@ -24,7 +25,9 @@ alone-requires : tie.Need-alone-requires
 alone-requires c κs = search needs
 
 returns-2 : tie.Need-returns-2
-returns-2 c = let a = c .before .before .before .before .before .before .args in c .alone .ensures ∙ sym (line-alone (a .s .now) (a .from) (a .to) (c .before .before .before .before .find .result) (search needs) (search needs) (c .before .before .before .before .find .ensures .0) (c .before .if2 .taken) (c .before .before .before .if1 .left))
+returns-2 c = let a = c .before .before .before .before .before .before .args in c .alone .ensures
+    ∙ sym (line-alone (a .s .now) (a .from) (a .to) (c .before .before .before .before .find .result) (search needs) (search needs) (c .before .before .before .before .find .ensures .0)
+    (c .before .if2 .taken) (c .before .before .before .if1 .left))
 
 add-with-numbers : tie.Need-add-with-numbers
 add-with-numbers c = search needs
@@ -33,7 +36,9 @@ with-numbers-requires : tie.Need-with-numbers-requires
 with-numbers-requires c κs = search needs
 
 returns-3 : tie.Need-returns-3
-returns-3 c = let a = c .before .before .before .before .before .before .args in c .with-numbers .ensures ∙ sym (line-numbers (a .s .now) (a .from) (a .to) (c .before .before .before .before .find .result) (search needs) (search needs) (c .before .before .before .before .find .ensures .0) (search needs) (c .before .before .before .if1 .left))
+returns-3 c = let a = c .before .before .before .before .before .before .args in c .with-numbers .ensures
+    ∙ sym (line-numbers (a .s .now) (a .from) (a .to) (c .before .before .before .before .find .result) (search needs) (search needs) (c .before .before .before .before .find .ensures .0)
+    (search needs) (c .before .before .before .if1 .left))
 
 pub line-at-spec : {M : Type 1} → statement M
 line-at-spec =

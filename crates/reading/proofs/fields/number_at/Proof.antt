@@ -40,7 +40,9 @@ add-w : tie.Need-add-w Inv-loop μ-loop
 add-w c = search needs
 
 returns-4 : tie.Need-returns-4 Inv-loop μ-loop
-returns-4 c = sym (ap answerOf (c .before .before .before .before .before .before .loop .inv .2 ∙ large _ _ _ _ _ (c .before .before .before .before .before .loop-test .taken) (search needs) (c .before .before .before .wide .ensures) (c .before .before .if2 .left) (c .before .if3 .left) (search needs)))
+returns-4 c = sym (ap answerOf
+    (c .before .before .before .before .before .before .loop .inv .2
+    ∙ large _ _ _ _ _ (c .before .before .before .before .before .loop-test .taken) (search needs) (c .before .before .before .wide .ensures) (c .before .before .if2 .left) (c .before .if3 .left) (search needs)))
 
 add-at : tie.Need-add-at Inv-loop μ-loop
 add-at c = search needs
@@ -49,7 +51,12 @@ loop-less : tie.Need-loop-less Inv-loop μ-loop
 loop-less c = search needs
 
 loop-again : tie.Need-loop-again Inv-loop μ-loop
-loop-again c = (search needs, search needs, c .before .before .before .before .before .before .loop .inv .2 ∙ digit _ _ _ _ _ (c .before .before .before .before .before .loop-test .taken) (search needs) (c .before .before .before .wide .ensures) (c .before .before .if2 .left) (c .before .if3 .left))
+loop-again c = (
+  search needs,
+  search needs,
+  c .before .before .before .before .before .before .loop .inv .2
+      ∙ digit _ _ _ _ _ (c .before .before .before .before .before .loop-test .taken) (search needs) (c .before .before .before .wide .ensures) (c .before .before .if2 .left) (c .before .if3 .left),
+)
 
 cast-t14 : tie.Need-cast-t14 Inv-loop μ-loop
 cast-t14 c = search needs

@@ -17,22 +17,27 @@ on-n-requires : tie.Need-on-n-requires
 on-n-requires c κs = c .before .before .before .before .before .pre
 
 returns-3 : tie.Need-returns-3
-returns-3 c = let a = c .before .before .before .before .before .before .args in λ i old e h. by-letter i _ (a .l .len) (a .l .words) old _ _ (c .before .before .before .before .if1 .left) _ (letter-n i _ _ (c .before .before .if3 .taken)) (c .on-n .ensures i old _ _ e h)
+returns-3 c = let a = c .before .before .before .before .before .before .args in
+    λ i old e h. by-letter i _ (a .l .len) (a .l .words) old _ _ (c .before .before .before .before .if1 .left) _ (letter-n i _ _ (c .before .before .if3 .taken)) (c .on-n .ensures i old _ _ e h)
 
 on-v-requires : tie.Need-on-v-requires
 on-v-requires c κs = c .before .before .before .before .before .before .pre
 
 returns-4 : tie.Need-returns-4
-returns-4 c = let a = c .before .before .before .before .before .before .before .args in λ i old e h. by-letter i _ (a .l .len) (a .l .words) old _ _ (c .before .before .before .before .before .if1 .left) _ (letter-v i _ _ (c .before .before .if4 .taken)) (c .on-v .ensures i old _ _ e h)
+returns-4 c = let a = c .before .before .before .before .before .before .before .args in
+    λ i old e h. by-letter i _ (a .l .len) (a .l .words) old _ _ (c .before .before .before .before .before .if1 .left) _ (letter-v i _ _ (c .before .before .if4 .taken)) (c .on-v .ensures i old _ _ e h)
 
 on-s-requires : tie.Need-on-s-requires
 on-s-requires c κs = (c .before .before .before .before .before .before .before .pre, c .before .before .before .before .before .if1 .left)
 
 returns-5 : tie.Need-returns-5
-returns-5 c = let a = c .before .before .before .before .before .before .before .before .args in λ i old e h. by-letter i _ (a .l .len) (a .l .words) old _ _ (c .before .before .before .before .before .before .if1 .left) _ (letter-s i _ _ (c .before .before .if5 .taken)) (c .on-s .ensures i old _ _ e h)
+returns-5 c = let a = c .before .before .before .before .before .before .before .before .args in
+    λ i old e h. by-letter i _ (a .l .len) (a .l .words) old _ _ (c .before .before .before .before .before .before .if1 .left) _ (letter-s i _ _ (c .before .before .if5 .taken)) (c .on-s .ensures i old _ _ e h)
 
 returns-6 : tie.Need-returns-6
-returns-6 c = let a = c .before .before .before .before .before .before .args in λ i old e h. by-none i _ (a .l .len) (a .l .words) old _ (a .p) e h (c .before .before .before .before .if1 .left) (letter-other i _ _ (c .before .before .before .if2 .left) (c .before .before .if3 .left) (c .before .if4 .left) (c .if5 .left))
+returns-6 c = let a = c .before .before .before .before .before .before .args in
+    λ i old e h. by-none i _ (a .l .len) (a .l .words) old _ (a .p) e h (c .before .before .before .before .if1 .left)
+    (letter-other i _ _ (c .before .before .before .if2 .left) (c .before .before .if3 .left) (c .before .if4 .left) (c .if5 .left))
 
 pub on-line-spec : {M : Type 1} → statement M
 on-line-spec =

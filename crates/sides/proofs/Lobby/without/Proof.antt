@@ -30,7 +30,11 @@ returns c =
     let l = c .before .before .args .t1 in
     let n = c .before .loop in
     let full : length (l .msgs) ≡ 16 = search unmap in
-    record { view = gap-view (l .msgs) _ viewMessage (n .k) (l .len) (l .len - 1) (n .self .msgs) (n .inv .0) (omega arith) (omega arith) (n .inv .3); len = refl; fits = fits-gap fitsMessage (l .msgs) 16 full _ (n .k) (l .len) (l .len - 1) (n .self .msgs) (n .inv .0) (omega arith) (omega arith) (n .inv .3) }
+    record {
+      view = gap-view (l .msgs) _ viewMessage (n .k) (l .len) (l .len - 1) (n .self .msgs) (n .inv .0) (omega arith) (omega arith) (n .inv .3);
+      len = refl;
+      fits = fits-gap fitsMessage (l .msgs) 16 full _ (n .k) (l .len) (l .len - 1) (n .self .msgs) (n .inv .0) (omega arith) (omega arith) (n .inv .3);
+    }
 
 pub without-spec : {M : Type 1} → statement M
 without-spec =

@@ -14,7 +14,8 @@ minted-within-requires : tie.Need-minted-within-requires
 minted-within-requires c κs = search needs
 
 returns : tie.Need-returns
-returns c = goes-on _ _ _ (sym (c .before .before .before .before .particles-within .ensures) ∙ c .before .before .before .if1 .taken) (goes-on _ _ _ (sym (c .before .before .boxes-within .ensures) ∙ c .before .if2 .taken) (c .minted-within .ensures))
+returns c = goes-on _ _ _ (sym (c .before .before .before .before .particles-within .ensures) ∙ c .before .before .before .if1 .taken)
+    (goes-on _ _ _ (sym (c .before .before .boxes-within .ensures) ∙ c .before .if2 .taken) (c .minted-within .ensures))
 
 returns-2 : tie.Need-returns-2
 returns-2 c = goes-on _ _ _ (sym (c .before .before .before .particles-within .ensures) ∙ c .before .before .if1 .taken) (stops _ _ (sym (c .before .boxes-within .ensures) ∙ c .if2 .left))

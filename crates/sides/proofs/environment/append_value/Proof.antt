@@ -48,7 +48,8 @@ returns c =
     let w = x .args .w in
     let k = c .before .before .before .before .before .before .before .before .slot-of .result in
     let p = c .before .before .before .before .before .before .before .before .slot-of .ensures in
-    let same = slot-words e n w (x .pre .1) (x .pre .2) (x .pre .3) k (c .before .before .before .before .before .before .before .if1 .taken) (c .before .before .before .before .before .wide .result) p (c .before .before .before .before .before .wide .ensures) in
+    let same = slot-words e n w (x .pre .1) (x .pre .2) (x .pre .3) k (c .before .before .before .before .before .before .before .if1 .taken)
+    (c .before .before .before .before .before .wide .result) p (c .before .before .before .before .before .wide .ensures) in
     subst (λ (y : List ℕ). (c .before .before .append-words .result ≡ x .args .m + length y) × (c .before .before .append-words .last .0 ≡ sets (x .args .v .now) (1 + x .args .m) y)) same (c .before .before .append-words .ensures)
 
 slice-write-v : tie.Need-slice-write-v

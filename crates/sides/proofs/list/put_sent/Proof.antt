@@ -9,7 +9,8 @@ put-substituted-requires c κs = let x = c .before .before .before .before .befo
 returns : tie.Need-returns
 returns c =
     let x = c .before .before .before .before .before .before .before .before .before .before .before in
-    sent-back (x .args .rows .now) (x .args .i) (x .pre .0) (x .pre .1) _ _ (x .args .at) (x .args .channel) (x .args .tag) _ (x .pre .6) (c .before .before .before .before .before .before .put-head .ensures) (c .before .before .put-substituted .ensures)
+    sent-back (x .args .rows .now) (x .args .i) (x .pre .0) (x .pre .1) _ _ (x .args .at) (x .args .channel) (x .args .tag) _ (x .pre .6)
+    (c .before .before .before .before .before .before .put-head .ensures) (c .before .before .put-substituted .ensures)
 
 pub put-sent-spec : {M : Type 1} → statement M
 put-sent-spec =

@@ -44,7 +44,8 @@ returns-3 c =
     let k8 : l .k < 8 = omega arith in
     let r = c .before .before .before .before .before .before .before .before .before .before .args .r .now in
     let n = c .before .before .before .before .before .wide .result in
-    row-fits-input r n false (c .before .before .before .before .before .wide .ensures) (c .before .before .before .before .before .before .before .if1 .left) (fits-fails fitsPlace (placesOf r) 8 (places-count r) (l .k) n [] (omega arith) (omega arith) (place-fits r (l .k) false k8 (lt-leb _ 16 (c .if3 .left))))
+    row-fits-input r n false (c .before .before .before .before .before .wide .ensures) (c .before .before .before .before .before .before .before .if1 .left)
+    (fits-fails fitsPlace (placesOf r) 8 (places-count r) (l .k) n [] (omega arith) (omega arith) (place-fits r (l .k) false k8 (lt-leb _ 16 (c .if3 .left))))
 
 returns-4 : tie.Need-returns-4 Inv-loop μ-loop
 returns-4 c =

@@ -19,7 +19,8 @@ enum-told : tie.Need-enum-told
 enum-told c = search needs
 
 lowest-bad-child-requires : tie.Need-lowest-bad-child-requires
-lowest-bad-child-requires c κs = few (table (c .before .before .before .before .before .before .before .args .nodes .now) (c .before .before .before .before .before .before .before .args .pool .now)) (sym (c .before .before .before .before .sizes-ok .ensures) ∙ c .before .before .before .if1 .taken)
+lowest-bad-child-requires c κs = few (table (c .before .before .before .before .before .before .before .args .nodes .now) (c .before .before .before .before .before .before .before .args .pool .now))
+    (sym (c .before .before .before .before .sizes-ok .ensures) ∙ c .before .before .before .if1 .taken)
 
 enum-known-n-2 : tie.Need-enum-known-n-2
 enum-known-n-2 c = search needs
@@ -46,7 +47,35 @@ enum-told-4 : tie.Need-enum-told-4
 enum-told-4 c = search needs
 
 lowest-bad-scope-requires : tie.Need-lowest-bad-scope-requires
-lowest-bad-scope-requires c κs = (walks-root (table (c .before .before .before .before .before .before .before .before .before .before .before .before .before .before .before .before .args .nodes .now) (c .before .before .before .before .before .before .before .before .before .before .before .before .before .before .before .before .args .pool .now)) (pass5 (table (c .before .before .before .before .before .before .before .before .before .before .before .before .before .before .before .before .args .nodes .now) (c .before .before .before .before .before .before .before .before .before .before .before .before .before .before .before .before .args .pool .now)) (pass4 (table (c .before .before .before .before .before .before .before .before .before .before .before .before .before .before .before .before .args .nodes .now) (c .before .before .before .before .before .before .before .before .before .before .before .before .before .before .before .before .args .pool .now)) (pass3 (table (c .before .before .before .before .before .before .before .before .before .before .before .before .before .before .before .before .args .nodes .now) (c .before .before .before .before .before .before .before .before .before .before .before .before .before .before .before .before .args .pool .now)) (pass2 (table (c .before .before .before .before .before .before .before .before .before .before .before .before .before .before .before .before .args .nodes .now) (c .before .before .before .before .before .before .before .before .before .before .before .before .before .before .before .before .args .pool .now)) (pass1 (table (c .before .before .before .before .before .before .before .before .before .before .before .before .before .before .before .before .args .nodes .now) (c .before .before .before .before .before .before .before .before .before .before .before .before .before .before .before .before .args .pool .now)) (sym (c .before .before .before .before .before .before .before .before .before .before .before .before .before .sizes-ok .ensures) ∙ c .before .before .before .before .before .before .before .before .before .before .before .before .if1 .taken)) (sym (c .before .before .before .before .before .before .before .before .before .before .before .lowest-bad-kind .ensures (c .before .before .before .before .before .before .before .before .before .before .before .before .before .before .before .before .args .pool .now)) ∙ c .before .before .before .before .before .before .before .before .before .enum-told .given .1)) (sym (c .before .before .before .before .before .before .before .before .lowest-bad-child .ensures (c .before .before .before .before .before .before .before .before .before .before .before .before .before .before .before .before .args .pool .now)) ∙ c .before .before .before .before .before .before .enum-told2 .given .1)) (sym (c .before .before .before .before .before .lowest-bad-name .ensures (c .before .before .before .before .before .before .before .before .before .before .before .before .before .before .before .before .args .pool .now)) ∙ c .before .before .before .enum-told3 .given .1)) (sym (c .before .before .lowest-bad-place .ensures) ∙ c .enum-told4 .given .1)), few (table (c .before .before .before .before .before .before .before .before .before .before .before .before .before .before .before .before .args .nodes .now) (c .before .before .before .before .before .before .before .before .before .before .before .before .before .before .before .before .args .pool .now)) (sym (c .before .before .before .before .before .before .before .before .before .before .before .before .before .sizes-ok .ensures) ∙ c .before .before .before .before .before .before .before .before .before .before .before .before .if1 .taken))
+lowest-bad-scope-requires c κs = (
+  walks-root (table (c .before .before .before .before .before .before .before .before .before .before .before .before .before .before .before .before .args .nodes .now)
+      (c .before .before .before .before .before .before .before .before .before .before .before .before .before .before .before .before .args .pool .now))
+      (pass5 (table (c .before .before .before .before .before .before .before .before .before .before .before .before .before .before .before .before .args .nodes .now)
+      (c .before .before .before .before .before .before .before .before .before .before .before .before .before .before .before .before .args .pool .now))
+      (pass4 (table (c .before .before .before .before .before .before .before .before .before .before .before .before .before .before .before .before .args .nodes .now)
+      (c .before .before .before .before .before .before .before .before .before .before .before .before .before .before .before .before .args .pool .now))
+      (pass3 (table (c .before .before .before .before .before .before .before .before .before .before .before .before .before .before .before .before .args .nodes .now)
+      (c .before .before .before .before .before .before .before .before .before .before .before .before .before .before .before .before .args .pool .now))
+      (pass2 (table (c .before .before .before .before .before .before .before .before .before .before .before .before .before .before .before .before .args .nodes .now)
+      (c .before .before .before .before .before .before .before .before .before .before .before .before .before .before .before .before .args .pool .now))
+      (pass1 (table (c .before .before .before .before .before .before .before .before .before .before .before .before .before .before .before .before .args .nodes .now)
+      (c .before .before .before .before .before .before .before .before .before .before .before .before .before .before .before .before .args .pool .now))
+      (sym (c .before .before .before .before .before .before .before .before .before .before .before .before .before .sizes-ok .ensures)
+      ∙ c .before .before .before .before .before .before .before .before .before .before .before .before .if1 .taken))
+      (sym (c .before .before .before .before .before .before .before .before .before .before .before .lowest-bad-kind .ensures
+      (c .before .before .before .before .before .before .before .before .before .before .before .before .before .before .before .before .args .pool .now))
+      ∙ c .before .before .before .before .before .before .before .before .before .enum-told .given .1))
+      (sym (c .before .before .before .before .before .before .before .before .lowest-bad-child .ensures
+      (c .before .before .before .before .before .before .before .before .before .before .before .before .before .before .before .before .args .pool .now))
+      ∙ c .before .before .before .before .before .before .enum-told2 .given .1))
+      (sym (c .before .before .before .before .before .lowest-bad-name .ensures
+      (c .before .before .before .before .before .before .before .before .before .before .before .before .before .before .before .before .args .pool .now))
+      ∙ c .before .before .before .enum-told3 .given .1)) (sym (c .before .before .lowest-bad-place .ensures) ∙ c .enum-told4 .given .1)),
+  few (table (c .before .before .before .before .before .before .before .before .before .before .before .before .before .before .before .before .args .nodes .now)
+      (c .before .before .before .before .before .before .before .before .before .before .before .before .before .before .before .before .args .pool .now))
+      (sym (c .before .before .before .before .before .before .before .before .before .before .before .before .before .sizes-ok .ensures)
+      ∙ c .before .before .before .before .before .before .before .before .before .before .before .before .if1 .taken),
+)
 
 enum-known-n-5 : tie.Need-enum-known-n-5
 enum-known-n-5 c = search needs
@@ -55,22 +84,116 @@ enum-told-5 : tie.Need-enum-told-5
 enum-told-5 c = search needs
 
 returns : tie.Need-returns
-returns c = fail2 (table (c .before .before .before .before .before .before .before .before .args .nodes .now) (c .before .before .before .before .before .before .before .before .args .pool .now)) _ (pass1 (table (c .before .before .before .before .before .before .before .before .args .nodes .now) (c .before .before .before .before .before .before .before .before .args .pool .now)) (sym (c .before .before .before .before .before .sizes-ok .ensures) ∙ c .before .before .before .before .if1 .taken)) (sym (c .before .before .before .lowest-bad-kind .ensures (c .before .before .before .before .before .before .before .before .args .pool .now)) ∙ c .before .n .given .1)
+returns c = fail2 (table (c .before .before .before .before .before .before .before .before .args .nodes .now) (c .before .before .before .before .before .before .before .before .args .pool .now)) _
+    (pass1 (table (c .before .before .before .before .before .before .before .before .args .nodes .now) (c .before .before .before .before .before .before .before .before .args .pool .now))
+    (sym (c .before .before .before .before .before .sizes-ok .ensures) ∙ c .before .before .before .before .if1 .taken))
+    (sym (c .before .before .before .lowest-bad-kind .ensures (c .before .before .before .before .before .before .before .before .args .pool .now)) ∙ c .before .n .given .1)
 
 returns-2 : tie.Need-returns-2
-returns-2 c = fail3 (table (c .before .before .before .before .before .before .before .before .before .before .before .args .nodes .now) (c .before .before .before .before .before .before .before .before .before .before .before .args .pool .now)) _ (pass2 (table (c .before .before .before .before .before .before .before .before .before .before .before .args .nodes .now) (c .before .before .before .before .before .before .before .before .before .before .before .args .pool .now)) (pass1 (table (c .before .before .before .before .before .before .before .before .before .before .before .args .nodes .now) (c .before .before .before .before .before .before .before .before .before .before .before .args .pool .now)) (sym (c .before .before .before .before .before .before .before .before .sizes-ok .ensures) ∙ c .before .before .before .before .before .before .before .if1 .taken)) (sym (c .before .before .before .before .before .before .lowest-bad-kind .ensures (c .before .before .before .before .before .before .before .before .before .before .before .args .pool .now)) ∙ c .before .before .before .before .enum-told .given .1)) (sym (c .before .before .before .lowest-bad-child .ensures (c .before .before .before .before .before .before .before .before .before .before .before .args .pool .now)) ∙ c .before .n2 .given .1)
+returns-2 c = fail3 (table (c .before .before .before .before .before .before .before .before .before .before .before .args .nodes .now)
+    (c .before .before .before .before .before .before .before .before .before .before .before .args .pool .now)) _
+    (pass2 (table (c .before .before .before .before .before .before .before .before .before .before .before .args .nodes .now)
+    (c .before .before .before .before .before .before .before .before .before .before .before .args .pool .now))
+    (pass1 (table (c .before .before .before .before .before .before .before .before .before .before .before .args .nodes .now)
+    (c .before .before .before .before .before .before .before .before .before .before .before .args .pool .now))
+    (sym (c .before .before .before .before .before .before .before .before .sizes-ok .ensures) ∙ c .before .before .before .before .before .before .before .if1 .taken))
+    (sym (c .before .before .before .before .before .before .lowest-bad-kind .ensures (c .before .before .before .before .before .before .before .before .before .before .before .args .pool .now))
+    ∙ c .before .before .before .before .enum-told .given .1))
+    (sym (c .before .before .before .lowest-bad-child .ensures (c .before .before .before .before .before .before .before .before .before .before .before .args .pool .now)) ∙ c .before .n2 .given .1)
 
 returns-3 : tie.Need-returns-3
-returns-3 c = fail4 (table (c .before .before .before .before .before .before .before .before .before .before .before .before .before .before .args .nodes .now) (c .before .before .before .before .before .before .before .before .before .before .before .before .before .before .args .pool .now)) _ (pass3 (table (c .before .before .before .before .before .before .before .before .before .before .before .before .before .before .args .nodes .now) (c .before .before .before .before .before .before .before .before .before .before .before .before .before .before .args .pool .now)) (pass2 (table (c .before .before .before .before .before .before .before .before .before .before .before .before .before .before .args .nodes .now) (c .before .before .before .before .before .before .before .before .before .before .before .before .before .before .args .pool .now)) (pass1 (table (c .before .before .before .before .before .before .before .before .before .before .before .before .before .before .args .nodes .now) (c .before .before .before .before .before .before .before .before .before .before .before .before .before .before .args .pool .now)) (sym (c .before .before .before .before .before .before .before .before .before .before .before .sizes-ok .ensures) ∙ c .before .before .before .before .before .before .before .before .before .before .if1 .taken)) (sym (c .before .before .before .before .before .before .before .before .before .lowest-bad-kind .ensures (c .before .before .before .before .before .before .before .before .before .before .before .before .before .before .args .pool .now)) ∙ c .before .before .before .before .before .before .before .enum-told .given .1)) (sym (c .before .before .before .before .before .before .lowest-bad-child .ensures (c .before .before .before .before .before .before .before .before .before .before .before .before .before .before .args .pool .now)) ∙ c .before .before .before .before .enum-told2 .given .1)) (sym (c .before .before .before .lowest-bad-name .ensures (c .before .before .before .before .before .before .before .before .before .before .before .before .before .before .args .pool .now)) ∙ c .before .n3 .given .1)
+returns-3 c = fail4 (table (c .before .before .before .before .before .before .before .before .before .before .before .before .before .before .args .nodes .now)
+    (c .before .before .before .before .before .before .before .before .before .before .before .before .before .before .args .pool .now)) _
+    (pass3 (table (c .before .before .before .before .before .before .before .before .before .before .before .before .before .before .args .nodes .now)
+    (c .before .before .before .before .before .before .before .before .before .before .before .before .before .before .args .pool .now))
+    (pass2 (table (c .before .before .before .before .before .before .before .before .before .before .before .before .before .before .args .nodes .now)
+    (c .before .before .before .before .before .before .before .before .before .before .before .before .before .before .args .pool .now))
+    (pass1 (table (c .before .before .before .before .before .before .before .before .before .before .before .before .before .before .args .nodes .now)
+    (c .before .before .before .before .before .before .before .before .before .before .before .before .before .before .args .pool .now))
+    (sym (c .before .before .before .before .before .before .before .before .before .before .before .sizes-ok .ensures)
+    ∙ c .before .before .before .before .before .before .before .before .before .before .if1 .taken))
+    (sym (c .before .before .before .before .before .before .before .before .before .lowest-bad-kind .ensures
+    (c .before .before .before .before .before .before .before .before .before .before .before .before .before .before .args .pool .now))
+    ∙ c .before .before .before .before .before .before .before .enum-told .given .1))
+    (sym (c .before .before .before .before .before .before .lowest-bad-child .ensures
+    (c .before .before .before .before .before .before .before .before .before .before .before .before .before .before .args .pool .now)) ∙ c .before .before .before .before .enum-told2 .given .1))
+    (sym (c .before .before .before .lowest-bad-name .ensures (c .before .before .before .before .before .before .before .before .before .before .before .before .before .before .args .pool .now)) ∙ c .before .n3 .given .1)
 
 returns-4 : tie.Need-returns-4
-returns-4 c = fail5 (table (c .before .before .before .before .before .before .before .before .before .before .before .before .before .before .before .before .before .args .nodes .now) (c .before .before .before .before .before .before .before .before .before .before .before .before .before .before .before .before .before .args .pool .now)) _ (pass4 (table (c .before .before .before .before .before .before .before .before .before .before .before .before .before .before .before .before .before .args .nodes .now) (c .before .before .before .before .before .before .before .before .before .before .before .before .before .before .before .before .before .args .pool .now)) (pass3 (table (c .before .before .before .before .before .before .before .before .before .before .before .before .before .before .before .before .before .args .nodes .now) (c .before .before .before .before .before .before .before .before .before .before .before .before .before .before .before .before .before .args .pool .now)) (pass2 (table (c .before .before .before .before .before .before .before .before .before .before .before .before .before .before .before .before .before .args .nodes .now) (c .before .before .before .before .before .before .before .before .before .before .before .before .before .before .before .before .before .args .pool .now)) (pass1 (table (c .before .before .before .before .before .before .before .before .before .before .before .before .before .before .before .before .before .args .nodes .now) (c .before .before .before .before .before .before .before .before .before .before .before .before .before .before .before .before .before .args .pool .now)) (sym (c .before .before .before .before .before .before .before .before .before .before .before .before .before .before .sizes-ok .ensures) ∙ c .before .before .before .before .before .before .before .before .before .before .before .before .before .if1 .taken)) (sym (c .before .before .before .before .before .before .before .before .before .before .before .before .lowest-bad-kind .ensures (c .before .before .before .before .before .before .before .before .before .before .before .before .before .before .before .before .before .args .pool .now)) ∙ c .before .before .before .before .before .before .before .before .before .before .enum-told .given .1)) (sym (c .before .before .before .before .before .before .before .before .before .lowest-bad-child .ensures (c .before .before .before .before .before .before .before .before .before .before .before .before .before .before .before .before .before .args .pool .now)) ∙ c .before .before .before .before .before .before .before .enum-told2 .given .1)) (sym (c .before .before .before .before .before .before .lowest-bad-name .ensures (c .before .before .before .before .before .before .before .before .before .before .before .before .before .before .before .before .before .args .pool .now)) ∙ c .before .before .before .before .enum-told3 .given .1)) (sym (c .before .before .before .lowest-bad-place .ensures) ∙ c .before .n4 .given .1)
+returns-4 c = fail5 (table (c .before .before .before .before .before .before .before .before .before .before .before .before .before .before .before .before .before .args .nodes .now)
+    (c .before .before .before .before .before .before .before .before .before .before .before .before .before .before .before .before .before .args .pool .now)) _
+    (pass4 (table (c .before .before .before .before .before .before .before .before .before .before .before .before .before .before .before .before .before .args .nodes .now)
+    (c .before .before .before .before .before .before .before .before .before .before .before .before .before .before .before .before .before .args .pool .now))
+    (pass3 (table (c .before .before .before .before .before .before .before .before .before .before .before .before .before .before .before .before .before .args .nodes .now)
+    (c .before .before .before .before .before .before .before .before .before .before .before .before .before .before .before .before .before .args .pool .now))
+    (pass2 (table (c .before .before .before .before .before .before .before .before .before .before .before .before .before .before .before .before .before .args .nodes .now)
+    (c .before .before .before .before .before .before .before .before .before .before .before .before .before .before .before .before .before .args .pool .now))
+    (pass1 (table (c .before .before .before .before .before .before .before .before .before .before .before .before .before .before .before .before .before .args .nodes .now)
+    (c .before .before .before .before .before .before .before .before .before .before .before .before .before .before .before .before .before .args .pool .now))
+    (sym (c .before .before .before .before .before .before .before .before .before .before .before .before .before .before .sizes-ok .ensures)
+    ∙ c .before .before .before .before .before .before .before .before .before .before .before .before .before .if1 .taken))
+    (sym (c .before .before .before .before .before .before .before .before .before .before .before .before .lowest-bad-kind .ensures
+    (c .before .before .before .before .before .before .before .before .before .before .before .before .before .before .before .before .before .args .pool .now))
+    ∙ c .before .before .before .before .before .before .before .before .before .before .enum-told .given .1))
+    (sym (c .before .before .before .before .before .before .before .before .before .lowest-bad-child .ensures
+    (c .before .before .before .before .before .before .before .before .before .before .before .before .before .before .before .before .before .args .pool .now))
+    ∙ c .before .before .before .before .before .before .before .enum-told2 .given .1))
+    (sym (c .before .before .before .before .before .before .lowest-bad-name .ensures
+    (c .before .before .before .before .before .before .before .before .before .before .before .before .before .before .before .before .before .args .pool .now))
+    ∙ c .before .before .before .before .enum-told3 .given .1)) (sym (c .before .before .before .lowest-bad-place .ensures) ∙ c .before .n4 .given .1)
 
 returns-5 : tie.Need-returns-5
-returns-5 c = fail6 (table (c .before .before .before .before .before .before .before .before .before .before .before .before .before .before .before .before .before .before .before .before .args .nodes .now) (c .before .before .before .before .before .before .before .before .before .before .before .before .before .before .before .before .before .before .before .before .args .pool .now)) _ (pass5 (table (c .before .before .before .before .before .before .before .before .before .before .before .before .before .before .before .before .before .before .before .before .args .nodes .now) (c .before .before .before .before .before .before .before .before .before .before .before .before .before .before .before .before .before .before .before .before .args .pool .now)) (pass4 (table (c .before .before .before .before .before .before .before .before .before .before .before .before .before .before .before .before .before .before .before .before .args .nodes .now) (c .before .before .before .before .before .before .before .before .before .before .before .before .before .before .before .before .before .before .before .before .args .pool .now)) (pass3 (table (c .before .before .before .before .before .before .before .before .before .before .before .before .before .before .before .before .before .before .before .before .args .nodes .now) (c .before .before .before .before .before .before .before .before .before .before .before .before .before .before .before .before .before .before .before .before .args .pool .now)) (pass2 (table (c .before .before .before .before .before .before .before .before .before .before .before .before .before .before .before .before .before .before .before .before .args .nodes .now) (c .before .before .before .before .before .before .before .before .before .before .before .before .before .before .before .before .before .before .before .before .args .pool .now)) (pass1 (table (c .before .before .before .before .before .before .before .before .before .before .before .before .before .before .before .before .before .before .before .before .args .nodes .now) (c .before .before .before .before .before .before .before .before .before .before .before .before .before .before .before .before .before .before .before .before .args .pool .now)) (sym (c .before .before .before .before .before .before .before .before .before .before .before .before .before .before .before .before .before .sizes-ok .ensures) ∙ c .before .before .before .before .before .before .before .before .before .before .before .before .before .before .before .before .if1 .taken)) (sym (c .before .before .before .before .before .before .before .before .before .before .before .before .before .before .before .lowest-bad-kind .ensures (c .before .before .before .before .before .before .before .before .before .before .before .before .before .before .before .before .before .before .before .before .args .pool .now)) ∙ c .before .before .before .before .before .before .before .before .before .before .before .before .before .enum-told .given .1)) (sym (c .before .before .before .before .before .before .before .before .before .before .before .before .lowest-bad-child .ensures (c .before .before .before .before .before .before .before .before .before .before .before .before .before .before .before .before .before .before .before .before .args .pool .now)) ∙ c .before .before .before .before .before .before .before .before .before .before .enum-told2 .given .1)) (sym (c .before .before .before .before .before .before .before .before .before .lowest-bad-name .ensures (c .before .before .before .before .before .before .before .before .before .before .before .before .before .before .before .before .before .before .before .before .args .pool .now)) ∙ c .before .before .before .before .before .before .before .enum-told3 .given .1)) (sym (c .before .before .before .before .before .before .lowest-bad-place .ensures) ∙ c .before .before .before .before .enum-told4 .given .1)) (sym (c .before .before .before .lowest-bad-scope .ensures) ∙ c .before .n5 .given .1)
+returns-5 c = fail6 (table
+    (c .before .before .before .before .before .before .before .before .before .before .before .before .before .before .before .before .before .before .before .before .args .nodes .now)
+    (c .before .before .before .before .before .before .before .before .before .before .before .before .before .before .before .before .before .before .before .before .args .pool .now)) _
+    (pass5 (table (c .before .before .before .before .before .before .before .before .before .before .before .before .before .before .before .before .before .before .before .before .args .nodes .now)
+    (c .before .before .before .before .before .before .before .before .before .before .before .before .before .before .before .before .before .before .before .before .args .pool .now))
+    (pass4 (table (c .before .before .before .before .before .before .before .before .before .before .before .before .before .before .before .before .before .before .before .before .args .nodes .now)
+    (c .before .before .before .before .before .before .before .before .before .before .before .before .before .before .before .before .before .before .before .before .args .pool .now))
+    (pass3 (table (c .before .before .before .before .before .before .before .before .before .before .before .before .before .before .before .before .before .before .before .before .args .nodes .now)
+    (c .before .before .before .before .before .before .before .before .before .before .before .before .before .before .before .before .before .before .before .before .args .pool .now))
+    (pass2 (table (c .before .before .before .before .before .before .before .before .before .before .before .before .before .before .before .before .before .before .before .before .args .nodes .now)
+    (c .before .before .before .before .before .before .before .before .before .before .before .before .before .before .before .before .before .before .before .before .args .pool .now))
+    (pass1 (table (c .before .before .before .before .before .before .before .before .before .before .before .before .before .before .before .before .before .before .before .before .args .nodes .now)
+    (c .before .before .before .before .before .before .before .before .before .before .before .before .before .before .before .before .before .before .before .before .args .pool .now))
+    (sym (c .before .before .before .before .before .before .before .before .before .before .before .before .before .before .before .before .before .sizes-ok .ensures)
+    ∙ c .before .before .before .before .before .before .before .before .before .before .before .before .before .before .before .before .if1 .taken))
+    (sym (c .before .before .before .before .before .before .before .before .before .before .before .before .before .before .before .lowest-bad-kind .ensures
+    (c .before .before .before .before .before .before .before .before .before .before .before .before .before .before .before .before .before .before .before .before .args .pool .now))
+    ∙ c .before .before .before .before .before .before .before .before .before .before .before .before .before .enum-told .given .1))
+    (sym (c .before .before .before .before .before .before .before .before .before .before .before .before .lowest-bad-child .ensures
+    (c .before .before .before .before .before .before .before .before .before .before .before .before .before .before .before .before .before .before .before .before .args .pool .now))
+    ∙ c .before .before .before .before .before .before .before .before .before .before .enum-told2 .given .1))
+    (sym (c .before .before .before .before .before .before .before .before .before .lowest-bad-name .ensures
+    (c .before .before .before .before .before .before .before .before .before .before .before .before .before .before .before .before .before .before .before .before .args .pool .now))
+    ∙ c .before .before .before .before .before .before .before .enum-told3 .given .1))
+    (sym (c .before .before .before .before .before .before .lowest-bad-place .ensures) ∙ c .before .before .before .before .enum-told4 .given .1)) (sym (c .before .before .before .lowest-bad-scope .ensures) ∙ c .before .n5 .given .1)
 
 returns-6 : tie.Need-returns-6
-returns-6 c = pass6 (table (c .before .before .before .before .before .before .before .before .before .before .before .before .before .before .before .before .before .before .before .args .nodes .now) (c .before .before .before .before .before .before .before .before .before .before .before .before .before .before .before .before .before .before .before .args .pool .now)) (pass5 (table (c .before .before .before .before .before .before .before .before .before .before .before .before .before .before .before .before .before .before .before .args .nodes .now) (c .before .before .before .before .before .before .before .before .before .before .before .before .before .before .before .before .before .before .before .args .pool .now)) (pass4 (table (c .before .before .before .before .before .before .before .before .before .before .before .before .before .before .before .before .before .before .before .args .nodes .now) (c .before .before .before .before .before .before .before .before .before .before .before .before .before .before .before .before .before .before .before .args .pool .now)) (pass3 (table (c .before .before .before .before .before .before .before .before .before .before .before .before .before .before .before .before .before .before .before .args .nodes .now) (c .before .before .before .before .before .before .before .before .before .before .before .before .before .before .before .before .before .before .before .args .pool .now)) (pass2 (table (c .before .before .before .before .before .before .before .before .before .before .before .before .before .before .before .before .before .before .before .args .nodes .now) (c .before .before .before .before .before .before .before .before .before .before .before .before .before .before .before .before .before .before .before .args .pool .now)) (pass1 (table (c .before .before .before .before .before .before .before .before .before .before .before .before .before .before .before .before .before .before .before .args .nodes .now) (c .before .before .before .before .before .before .before .before .before .before .before .before .before .before .before .before .before .before .before .args .pool .now)) (sym (c .before .before .before .before .before .before .before .before .before .before .before .before .before .before .before .before .sizes-ok .ensures) ∙ c .before .before .before .before .before .before .before .before .before .before .before .before .before .before .before .if1 .taken)) (sym (c .before .before .before .before .before .before .before .before .before .before .before .before .before .before .lowest-bad-kind .ensures (c .before .before .before .before .before .before .before .before .before .before .before .before .before .before .before .before .before .before .before .args .pool .now)) ∙ c .before .before .before .before .before .before .before .before .before .before .before .before .enum-told .given .1)) (sym (c .before .before .before .before .before .before .before .before .before .before .before .lowest-bad-child .ensures (c .before .before .before .before .before .before .before .before .before .before .before .before .before .before .before .before .before .before .before .args .pool .now)) ∙ c .before .before .before .before .before .before .before .before .before .enum-told2 .given .1)) (sym (c .before .before .before .before .before .before .before .before .lowest-bad-name .ensures (c .before .before .before .before .before .before .before .before .before .before .before .before .before .before .before .before .before .before .before .args .pool .now)) ∙ c .before .before .before .before .before .before .enum-told3 .given .1)) (sym (c .before .before .before .before .before .lowest-bad-place .ensures) ∙ c .before .before .before .enum-told4 .given .1)) (sym (c .before .before .lowest-bad-scope .ensures) ∙ c .enum-told5 .given .1)
+returns-6 c = pass6 (table (c .before .before .before .before .before .before .before .before .before .before .before .before .before .before .before .before .before .before .before .args .nodes .now)
+    (c .before .before .before .before .before .before .before .before .before .before .before .before .before .before .before .before .before .before .before .args .pool .now))
+    (pass5 (table (c .before .before .before .before .before .before .before .before .before .before .before .before .before .before .before .before .before .before .before .args .nodes .now)
+    (c .before .before .before .before .before .before .before .before .before .before .before .before .before .before .before .before .before .before .before .args .pool .now))
+    (pass4 (table (c .before .before .before .before .before .before .before .before .before .before .before .before .before .before .before .before .before .before .before .args .nodes .now)
+    (c .before .before .before .before .before .before .before .before .before .before .before .before .before .before .before .before .before .before .before .args .pool .now))
+    (pass3 (table (c .before .before .before .before .before .before .before .before .before .before .before .before .before .before .before .before .before .before .before .args .nodes .now)
+    (c .before .before .before .before .before .before .before .before .before .before .before .before .before .before .before .before .before .before .before .args .pool .now))
+    (pass2 (table (c .before .before .before .before .before .before .before .before .before .before .before .before .before .before .before .before .before .before .before .args .nodes .now)
+    (c .before .before .before .before .before .before .before .before .before .before .before .before .before .before .before .before .before .before .before .args .pool .now))
+    (pass1 (table (c .before .before .before .before .before .before .before .before .before .before .before .before .before .before .before .before .before .before .before .args .nodes .now)
+    (c .before .before .before .before .before .before .before .before .before .before .before .before .before .before .before .before .before .before .before .args .pool .now))
+    (sym (c .before .before .before .before .before .before .before .before .before .before .before .before .before .before .before .before .sizes-ok .ensures)
+    ∙ c .before .before .before .before .before .before .before .before .before .before .before .before .before .before .before .if1 .taken))
+    (sym (c .before .before .before .before .before .before .before .before .before .before .before .before .before .before .lowest-bad-kind .ensures
+    (c .before .before .before .before .before .before .before .before .before .before .before .before .before .before .before .before .before .before .before .args .pool .now))
+    ∙ c .before .before .before .before .before .before .before .before .before .before .before .before .enum-told .given .1))
+    (sym (c .before .before .before .before .before .before .before .before .before .before .before .lowest-bad-child .ensures
+    (c .before .before .before .before .before .before .before .before .before .before .before .before .before .before .before .before .before .before .before .args .pool .now))
+    ∙ c .before .before .before .before .before .before .before .before .before .enum-told2 .given .1))
+    (sym (c .before .before .before .before .before .before .before .before .lowest-bad-name .ensures
+    (c .before .before .before .before .before .before .before .before .before .before .before .before .before .before .before .before .before .before .before .args .pool .now))
+    ∙ c .before .before .before .before .before .before .enum-told3 .given .1))
+    (sym (c .before .before .before .before .before .lowest-bad-place .ensures) ∙ c .before .before .before .enum-told4 .given .1)) (sym (c .before .before .lowest-bad-scope .ensures) ∙ c .enum-told5 .given .1)
 
 returns-7 : tie.Need-returns-7
 returns-7 c = size-bad (table (c .before .before .before .before .args .nodes .now) (c .before .before .before .before .args .pool .now)) (sym (c .before .sizes-ok .ensures) ∙ c .if1 .left)

@@ -43,15 +43,25 @@ loop-again : tie.Need-loop-again Inv-loop μ-loop
 loop-again c =
     let l = c .before .before .before .before .before .loop in
     let ns = c .before .before .before .before .before .before .before .before .args .nodes .now in
-    let k = getD (c .before .before .before .before .before .before .times-child .result .of) (l .n) 0 in
-    (l .inv .0, search needs, l .inv .2, λ pool. l .inv .3 pool ∙ bad-more (check3 (table ns pool)) _ (l .n) (c .before .before .before .before .loop-test .taken) (sym (tree-is ns pool (l .n) k _ (c .before .before .before .node-at .ensures) (c .before .before .before .before .before .before .times-child .ensures pool (l .n) (omega arith))) ∙ sym (c .before .tree-ok .ensures) ∙ c .if1 .taken))
+    let k = getD (c .before .before .before .before .before .before .times-child .result .of) (l .n) 0 in (
+      l .inv .0,
+      search needs,
+      l .inv .2,
+      λ pool. l .inv .3 pool
+          ∙ bad-more (check3 (table ns pool)) _ (l .n) (c .before .before .before .before .loop-test .taken)
+          (sym (tree-is ns pool (l .n) k _ (c .before .before .before .node-at .ensures) (c .before .before .before .before .before .before .times-child .ensures pool (l .n) (omega arith)))
+          ∙ sym (c .before .tree-ok .ensures) ∙ c .if1 .taken),
+    )
 
 returns : tie.Need-returns Inv-loop μ-loop
 returns c =
     let l = c .before .before .before .before .before .loop in
     let ns = c .before .before .before .before .before .before .before .before .args .nodes .now in
     let k = getD (c .before .before .before .before .before .before .times-child .result .of) (l .n) 0 in
-    λ pool. ap lowestOf (sym (l .inv .3 pool ∙ bad-here (check3 (table ns pool)) _ (l .n) (c .before .before .before .before .loop-test .taken) (sym (tree-is ns pool (l .n) k _ (c .before .before .before .node-at .ensures) (c .before .before .before .before .before .before .times-child .ensures pool (l .n) (omega arith))) ∙ sym (c .before .tree-ok .ensures) ∙ c .if1 .left)))
+    λ pool. ap lowestOf (sym
+    (l .inv .3 pool ∙ bad-here (check3 (table ns pool)) _ (l .n) (c .before .before .before .before .loop-test .taken)
+    (sym (tree-is ns pool (l .n) k _ (c .before .before .before .node-at .ensures) (c .before .before .before .before .before .before .times-child .ensures pool (l .n) (omega arith)))
+    ∙ sym (c .before .tree-ok .ensures) ∙ c .if1 .left)))
 
 returns-2 : tie.Need-returns-2 Inv-loop μ-loop
 returns-2 c = λ pool. ap lowestOf (sym (c .before .loop .inv .3 pool ∙ bad-none (check3 (table (c .before .before .before .before .args .nodes .now) pool)) _ (c .before .loop .n) (c .loop-test .left)))

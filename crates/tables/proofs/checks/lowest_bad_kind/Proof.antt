@@ -35,14 +35,19 @@ loop-less c = search needs
 loop-again : tie.Need-loop-again Inv-loop μ-loop
 loop-again c =
     let l = c .before .before .before .before .loop in
-    let ns = c .before .before .before .before .before .before .args .nodes .now in
-    (l .inv .0, search needs, λ pool. l .inv .2 pool ∙ bad-more (check2 (table ns pool)) _ (l .n) (c .before .before .before .loop-test .taken) (sym (kind-is ns pool (l .n) _ (c .before .before .node-at .ensures)) ∙ sym (c .before .kind-ok .ensures) ∙ c .if1 .taken))
+    let ns = c .before .before .before .before .before .before .args .nodes .now in (
+      l .inv .0,
+      search needs,
+      λ pool. l .inv .2 pool
+          ∙ bad-more (check2 (table ns pool)) _ (l .n) (c .before .before .before .loop-test .taken) (sym (kind-is ns pool (l .n) _ (c .before .before .node-at .ensures)) ∙ sym (c .before .kind-ok .ensures) ∙ c .if1 .taken),
+    )
 
 returns : tie.Need-returns Inv-loop μ-loop
 returns c =
     let l = c .before .before .before .before .loop in
     let ns = c .before .before .before .before .before .before .args .nodes .now in
-    λ pool. ap lowestOf (sym (l .inv .2 pool ∙ bad-here (check2 (table ns pool)) _ (l .n) (c .before .before .before .loop-test .taken) (sym (kind-is ns pool (l .n) _ (c .before .before .node-at .ensures)) ∙ sym (c .before .kind-ok .ensures) ∙ c .if1 .left)))
+    λ pool. ap lowestOf (sym
+    (l .inv .2 pool ∙ bad-here (check2 (table ns pool)) _ (l .n) (c .before .before .before .loop-test .taken) (sym (kind-is ns pool (l .n) _ (c .before .before .node-at .ensures)) ∙ sym (c .before .kind-ok .ensures) ∙ c .if1 .left)))
 
 returns-2 : tie.Need-returns-2 Inv-loop μ-loop
 returns-2 c = λ pool. ap lowestOf (sym (c .before .loop .inv .2 pool ∙ bad-none (check2 (table (c .before .before .before .args .nodes .now) pool)) _ (c .before .loop .n) (c .loop-test .left)))

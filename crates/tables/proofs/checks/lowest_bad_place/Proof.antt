@@ -35,15 +35,20 @@ loop-again : tie.Need-loop-again Inv-loop μ-loop
 loop-again c =
     let l = c .before .before .before .before .loop in
     let ns = c .before .before .before .before .before .before .before .args .nodes .now in
-    let pool = c .before .before .before .before .before .before .before .args .pool .now in
-    (l .inv .0, search needs, l .inv .2 ∙ bad-more (check5 (table ns pool)) _ (l .n) (c .before .before .before .loop-test .taken) (sym (places-are ns pool (l .n) _ (c .before .before .node-at .ensures)) ∙ sym (c .before .places-ok .ensures) ∙ c .if1 .taken))
+    let pool = c .before .before .before .before .before .before .before .args .pool .now in (
+      l .inv .0,
+      search needs,
+      l .inv .2
+          ∙ bad-more (check5 (table ns pool)) _ (l .n) (c .before .before .before .loop-test .taken) (sym (places-are ns pool (l .n) _ (c .before .before .node-at .ensures)) ∙ sym (c .before .places-ok .ensures) ∙ c .if1 .taken),
+    )
 
 returns : tie.Need-returns Inv-loop μ-loop
 returns c =
     let l = c .before .before .before .before .loop in
     let ns = c .before .before .before .before .before .before .before .args .nodes .now in
     let pool = c .before .before .before .before .before .before .before .args .pool .now in
-    ap lowestOf (sym (l .inv .2 ∙ bad-here (check5 (table ns pool)) _ (l .n) (c .before .before .before .loop-test .taken) (sym (places-are ns pool (l .n) _ (c .before .before .node-at .ensures)) ∙ sym (c .before .places-ok .ensures) ∙ c .if1 .left)))
+    ap lowestOf (sym (l .inv .2
+    ∙ bad-here (check5 (table ns pool)) _ (l .n) (c .before .before .before .loop-test .taken) (sym (places-are ns pool (l .n) _ (c .before .before .node-at .ensures)) ∙ sym (c .before .places-ok .ensures) ∙ c .if1 .left)))
 
 returns-2 : tie.Need-returns-2 Inv-loop μ-loop
 returns-2 c = ap lowestOf (sym (c .before .loop .inv .2 ∙ bad-none (check5 (table (c .before .before .before .before .args .nodes .now) (c .before .before .before .before .args .pool .now))) _ (c .before .loop .n) (c .loop-test .left)))

@@ -23,10 +23,12 @@ same-length : tie.Need-same-length
 same-length c = search needs
 
 returns : tie.Need-returns
-returns c = let a = c .before .before .before .before .before .before .args in counted-more (a .of .now) (getD (uses (a .k)) (a .f) 0) (a .w) (sym (c .before .before .before .before .use-of .ensures) ∙ c .before .before .before .if1 .taken) (c .before .before .if2 .taken) (c .if3 .taken)
+returns c = let a = c .before .before .before .before .before .before .args in
+    counted-more (a .of .now) (getD (uses (a .k)) (a .f) 0) (a .w) (sym (c .before .before .before .before .use-of .ensures) ∙ c .before .before .before .if1 .taken) (c .before .before .if2 .taken) (c .if3 .taken)
 
 returns-2 : tie.Need-returns-2
-returns-2 c = let a = c .before .before .before .before .before .before .args in counted-full (a .of .now) (getD (uses (a .k)) (a .f) 0) (a .w) (sym (c .before .before .before .before .use-of .ensures) ∙ c .before .before .before .if1 .taken) (c .if3 .left)
+returns-2 c = let a = c .before .before .before .before .before .before .args in
+    counted-full (a .of .now) (getD (uses (a .k)) (a .f) 0) (a .w) (sym (c .before .before .before .before .use-of .ensures) ∙ c .before .before .before .if1 .taken) (c .if3 .left)
 
 returns-3 : tie.Need-returns-3
 returns-3 c = let a = c .before .before .before .before .args in counted-over (a .of .now) (getD (uses (a .k)) (a .f) 0) (a .w) (c .if2 .left)

@@ -36,7 +36,13 @@ loop-less : tie.Need-loop-less Inv-loop μ-loop
 loop-less c = search needs
 
 loop-again : tie.Need-loop-again Inv-loop μ-loop
-loop-again c = let l = c .before .before .before .before .before .loop in (l .inv .0, search needs, c .before .count-node .ensures .len ∙ l .inv .2, λ pool m h. times-more _ pool (l .n) _ (c .before .before .node-at .ensures) m (l .of) _ (omega (arith, l .inv .2)) (c .before .count-node .ensures) (l .inv .3 pool m h))
+loop-again c = let l = c .before .before .before .before .before .loop in (
+  l .inv .0,
+  search needs,
+  c .before .count-node .ensures .len
+      ∙ l .inv .2,
+  λ pool m h. times-more _ pool (l .n) _ (c .before .before .node-at .ensures) m (l .of) _ (omega (arith, l .inv .2)) (c .before .count-node .ensures) (l .inv .3 pool m h),
+)
 
 returns : tie.Need-returns Inv-loop μ-loop
 returns c = let l = c .before .loop in λ pool m h. times-all _ pool m _ (l .n) _ (omega arith) (l .inv .3 pool m h)

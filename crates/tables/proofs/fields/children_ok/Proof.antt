@@ -21,7 +21,9 @@ all-of-four-requires : tie.Need-all-of-four-requires
 all-of-four-requires c κs = search needs
 
 returns : tie.Need-returns
-returns c = fields-by (childOk (c .before .before .before .before .before .args .n) (c .before .before .before .before .before .args .count)) (c .before .before .before .before .before .args .x) _ _ _ _ _ (c .all-of-four .ensures) (c .before .before .before .before .child-ok .ensures) (c .before .before .before .child-ok2 .ensures) (c .before .before .child-ok3 .ensures) (c .before .child-ok4 .ensures)
+returns c = fields-by (childOk (c .before .before .before .before .before .args .n) (c .before .before .before .before .before .args .count))
+    (c .before .before .before .before .before .args .x) _ _ _ _ _ (c .all-of-four .ensures) (c .before .before .before .before .child-ok .ensures) (c .before .before .before .child-ok2 .ensures)
+    (c .before .before .child-ok3 .ensures) (c .before .child-ok4 .ensures)
 
 pub children-ok-spec : {M : Type 1} → statement M
 children-ok-spec =

@@ -21,7 +21,9 @@ all-of-four-requires : tie.Need-all-of-four-requires
 all-of-four-requires c κs = search needs
 
 returns : tie.Need-returns
-returns c = kind-known _ _ (c .before .before .before .before .before .if1 .taken) (fields-by unusedOk (c .before .before .before .before .before .before .args .x) _ _ _ _ _ (c .all-of-four .ensures) (c .before .before .before .before .unused-ok .ensures) (c .before .before .before .unused-ok2 .ensures) (c .before .before .unused-ok3 .ensures) (c .before .unused-ok4 .ensures))
+returns c = kind-known _ _ (c .before .before .before .before .before .if1 .taken)
+    (fields-by unusedOk (c .before .before .before .before .before .before .args .x) _ _ _ _ _ (c .all-of-four .ensures) (c .before .before .before .before .unused-ok .ensures)
+    (c .before .before .before .unused-ok2 .ensures) (c .before .before .unused-ok3 .ensures) (c .before .unused-ok4 .ensures))
 
 returns-2 : tie.Need-returns-2
 returns-2 c = kind-unknown _ (c .if1 .left)

@@ -21,7 +21,8 @@ all-of-four-requires : tie.Need-all-of-four-requires
 all-of-four-requires c κs = search needs
 
 returns : tie.Need-returns
-returns c = fields-by nameOk (c .before .before .before .before .before .args .x) _ _ _ _ _ (c .all-of-four .ensures) (c .before .before .before .before .name-ok .ensures) (c .before .before .before .name-ok2 .ensures) (c .before .before .name-ok3 .ensures) (c .before .name-ok4 .ensures)
+returns c = fields-by nameOk (c .before .before .before .before .before .args .x) _ _ _ _ _ (c .all-of-four .ensures) (c .before .before .before .before .name-ok .ensures)
+    (c .before .before .before .name-ok2 .ensures) (c .before .before .name-ok3 .ensures) (c .before .name-ok4 .ensures)
 
 pub names-ok-spec : {M : Type 1} → statement M
 names-ok-spec =

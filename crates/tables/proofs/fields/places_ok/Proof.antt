@@ -21,7 +21,8 @@ all-of-four-requires : tie.Need-all-of-four-requires
 all-of-four-requires c κs = search needs
 
 returns : tie.Need-returns
-returns c = fields-by (placeOk (c .before .before .before .before .before .before .args .pool .now)) (c .before .before .before .before .before .before .args .x) _ _ _ _ _ (c .all-of-four .ensures) (c .before .before .before .before .place-ok .ensures) (c .before .before .before .place-ok2 .ensures) (c .before .before .place-ok3 .ensures) (c .before .place-ok4 .ensures)
+returns c = fields-by (placeOk (c .before .before .before .before .before .before .args .pool .now)) (c .before .before .before .before .before .before .args .x) _ _ _ _ _ (c .all-of-four .ensures)
+    (c .before .before .before .before .place-ok .ensures) (c .before .before .before .place-ok2 .ensures) (c .before .before .place-ok3 .ensures) (c .before .place-ok4 .ensures)
 
 pub places-ok-spec : {M : Type 1} → statement M
 places-ok-spec =

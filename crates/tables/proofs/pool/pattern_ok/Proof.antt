@@ -16,10 +16,12 @@ enum-known-k : tie.Need-enum-known-k
 enum-known-k c = search needs
 
 add-e : tie.Need-add-e
-add-e c = let g = words-found _ (c .before .before .before .before .before .args .pool .now) (c .before .before .before .before .before .args .p) _ (sym (c .before .before .before .size-at .ensures) ∙ c .before .k .given .1) in omega (arith, g)
+add-e c = let g = words-found _ (c .before .before .before .before .before .args .pool .now) (c .before .before .before .before .before .args .p) _
+    (sym (c .before .before .before .size-at .ensures) ∙ c .before .k .given .1) in omega (arith, g)
 
 mul-distinct-in : tie.Need-mul-distinct-in
-mul-distinct-in c = let g = words-found _ (c .before .before .before .before .before .args .pool .now) (c .before .before .before .before .before .args .p) _ (sym (c .before .before .before .size-at .ensures) ∙ c .before .k .given .1) in omega (arith, g)
+mul-distinct-in c = let g = words-found _ (c .before .before .before .before .before .args .pool .now) (c .before .before .before .before .before .args .p) _
+    (sym (c .before .before .before .size-at .ensures) ∙ c .before .k .given .1) in omega (arith, g)
 
 sub-distinct-in : tie.Need-sub-distinct-in
 sub-distinct-in c = search needs
@@ -28,7 +30,8 @@ part-distinct-in-start : tie.Need-part-distinct-in-start
 part-distinct-in-start c = search needs
 
 part-distinct-in-end : tie.Need-part-distinct-in-end
-part-distinct-in-end c = let g = words-found _ (c .before .before .before .before .before .args .pool .now) (c .before .before .before .before .before .args .p) _ (sym (c .before .before .before .size-at .ensures) ∙ c .before .k .given .1) in omega (arith, g)
+part-distinct-in-end c = let g = words-found _ (c .before .before .before .before .before .args .pool .now) (c .before .before .before .before .before .args .p) _
+    (sym (c .before .before .before .size-at .ensures) ∙ c .before .k .given .1) in omega (arith, g)
 
 distinct-in-requires : tie.Need-distinct-in-requires
 distinct-in-requires c κs = search needs
@@ -41,7 +44,8 @@ returns c =
     let a = c .before .before .before .before .before .before .before .args in
     let k = c .before .before .before .k .given .0 .0 in
     let e : a .p + k - a .p ≡ k = omega arith in
-    c .distinct-in .ensures ∙ ap (λ (j : ℕ). distinct (binders (take j (drop (a .p) (a .pool .now))))) e ∙ pat-at (a .pool .now) (a .p) k (sym (c .before .before .before .before .before .size-at .ensures) ∙ c .before .before .before .k .given .1)
+    c .distinct-in .ensures ∙ ap (λ (j : ℕ). distinct (binders (take j (drop (a .p) (a .pool .now))))) e
+    ∙ pat-at (a .pool .now) (a .p) k (sym (c .before .before .before .before .before .size-at .ensures) ∙ c .before .before .before .k .given .1)
 
 returns-2 : tie.Need-returns-2
 returns-2 c = pat-bad _ _ (sym (c .before .before .size-at .ensures) ∙ c .enum-told .given .1)

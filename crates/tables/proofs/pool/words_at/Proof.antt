@@ -42,7 +42,9 @@ part-result-end-2 : tie.Need-part-result-end-2
 part-result-end-2 c = search needs
 
 returns : tie.Need-returns
-returns c = let a = c .before .before .before .before .before .before .args in let g = words-found _ (a .pool .now) (a .p) _ (sym (c .before .before .before .before .size-at .ensures) ∙ c .before .before .k .given .1) in let k = c .before .before .k .given .0 .0 in let e : a .p + k - a .p ≡ k = omega arith in ap (λ (j : ℕ). take j (drop (a .p) (a .pool .now))) e ∙ sym (g .0)
+returns c = let a = c .before .before .before .before .before .before .args in
+    let g = words-found _ (a .pool .now) (a .p) _ (sym (c .before .before .before .before .size-at .ensures) ∙ c .before .before .k .given .1) in let k = c .before .before .k .given .0 .0 in
+    let e : a .p + k - a .p ≡ k = omega arith in ap (λ (j : ℕ). take j (drop (a .p) (a .pool .now))) e ∙ sym (g .0)
 
 returns-2 : tie.Need-returns-2
 returns-2 c = let a = c .before .before .before .before .before .args in sym (words-bad _ (a .pool .now) (a .p) (sym (c .before .before .before .size-at .ensures) ∙ c .before .enum-told .given .1))

@@ -70,7 +70,8 @@ over-over-requires : (t : ℕ) → over-lts.Need-lowest-over-requires (
   names-at-reads.Asked,
   names-at-reads.Learnt,
 ) (over-at t) over.Post
-over-over-requires t c κs = let o = on-left _ _ _ (c .before .before .before .before .before .before .pre .1 .0) _ (c .before .before .before .node-at .ensures) _ (c .before .before .before .before .before .before .pre .0) (c .if1 .taken) in (o .0, (o .1, omega (arith, o .0), c .before .before .before .before .before .before .pre .1 .2))
+over-over-requires t c κs = let o = on-left _ _ _ (c .before .before .before .before .before .before .pre .1 .0) _ (c .before .before .before .node-at .ensures) _
+    (c .before .before .before .before .before .before .pre .0) (c .if1 .taken) in (o .0, (o .1, omega (arith, o .0), c .before .before .before .before .before .before .pre .1 .2))
 
 over-over-requires-2 : (t : ℕ) → over-lts.Need-lowest-over-requires-2 (
   node-at-reads.Asked,
@@ -84,7 +85,8 @@ over-over-requires-2 : (t : ℕ) → over-lts.Need-lowest-over-requires-2 (
   names-at-reads.Asked,
   names-at-reads.Learnt,
 ) (over-at t) over.Post
-over-over-requires-2 t c κs = let o = on-right _ _ _ (c .before .before .before .before .before .before .before .pre .1 .0) _ (c .before .before .before .before .node-at .ensures) _ (c .before .before .before .before .before .before .before .pre .0) (c .before .if1 .taken) in (o .0, (o .1, omega (arith, o .0), c .before .before .before .before .before .before .before .pre .1 .2))
+over-over-requires-2 t c κs = let o = on-right _ _ _ (c .before .before .before .before .before .before .before .pre .1 .0) _ (c .before .before .before .before .node-at .ensures) _
+    (c .before .before .before .before .before .before .before .pre .0) (c .before .if1 .taken) in (o .0, (o .1, omega (arith, o .0), c .before .before .before .before .before .before .before .pre .1 .2))
 
 over-least-requires : (t : ℕ) → over-lts.Need-least-requires (
   node-at-reads.Asked,
@@ -126,7 +128,11 @@ over-returns : (t : ℕ) → over-lts.Need-returns (
   names-at-reads.Asked,
   names-at-reads.Learnt,
 ) (over-at t) over.Post
-over-returns t c = c .least2 .ensures ∙ ap₂ min (c .before .before .before .before .before .before .node-if-over .ensures) (c .before .least .ensures ∙ ap₂ min (c .before .before .before .lowest-over .ensures) (c .before .before .lowest-over2 .ensures)) ∙ sym (over-par _ _ _ _ (c .before .before .before .before .before .before .before .before .before .before .pre .1 .0) _ (c .before .before .before .before .before .before .before .node-at .ensures) (c .before .before .before .before .if1 .taken))
+over-returns t c = c .least2 .ensures
+    ∙ ap₂ min (c .before .before .before .before .before .before .node-if-over .ensures)
+    (c .before .least .ensures ∙ ap₂ min (c .before .before .before .lowest-over .ensures) (c .before .before .lowest-over2 .ensures))
+    ∙ sym (over-par _ _ _ _ (c .before .before .before .before .before .before .before .before .before .before .pre .1 .0) _
+    (c .before .before .before .before .before .before .before .node-at .ensures) (c .before .before .before .before .if1 .taken))
 
 over-over-requires-3 : (t : ℕ) → over-lts.Need-lowest-over-requires-3 (
   node-at-reads.Asked,
@@ -140,7 +146,8 @@ over-over-requires-3 : (t : ℕ) → over-lts.Need-lowest-over-requires-3 (
   names-at-reads.Asked,
   names-at-reads.Learnt,
 ) (over-at t) over.Post
-over-over-requires-3 t c κs = let o = on-box _ _ _ (c .before .before .before .before .before .before .before .before .pre .1 .0) _ (c .before .before .before .before .before .node-at .ensures) _ (c .before .before .before .before .before .before .before .before .pre .0) (c .if2 .taken) in (o .0, (o .1, omega (arith, o .0), c .before .before .before .before .before .before .before .before .pre .1 .2))
+over-over-requires-3 t c κs = let o = on-box _ _ _ (c .before .before .before .before .before .before .before .before .pre .1 .0) _ (c .before .before .before .before .before .node-at .ensures) _
+    (c .before .before .before .before .before .before .before .before .pre .0) (c .if2 .taken) in (o .0, (o .1, omega (arith, o .0), c .before .before .before .before .before .before .before .before .pre .1 .2))
 
 over-least-requires-3 : (t : ℕ) → over-lts.Need-least-requires-3 (
   node-at-reads.Asked,
@@ -168,7 +175,8 @@ over-returns-2 : (t : ℕ) → over-lts.Need-returns-2 (
   names-at-reads.Asked,
   names-at-reads.Learnt,
 ) (over-at t) over.Post
-over-returns-2 t c = c .least3 .ensures ∙ ap₂ min (c .before .before .before .before .before .before .node-if-over .ensures) (c .before .lowest-over3 .ensures) ∙ sym (over-box _ _ _ _ (c .before .before .before .before .before .before .before .before .before .before .pre .1 .0) _ (c .before .before .before .before .before .before .before .node-at .ensures) (c .before .before .if2 .taken))
+over-returns-2 t c = c .least3 .ensures ∙ ap₂ min (c .before .before .before .before .before .before .node-if-over .ensures) (c .before .lowest-over3 .ensures)
+    ∙ sym (over-box _ _ _ _ (c .before .before .before .before .before .before .before .before .before .before .pre .1 .0) _ (c .before .before .before .before .before .before .before .node-at .ensures) (c .before .before .if2 .taken))
 
 over-add-over : (t : ℕ) → over-lts.Need-add-lowest-over (
   node-at-reads.Asked,
@@ -196,7 +204,9 @@ over-over-requires-4 : (t : ℕ) → over-lts.Need-lowest-over-requires-4 (
   names-at-reads.Asked,
   names-at-reads.Learnt,
 ) (over-at t) over.Post
-over-over-requires-4 t c κs = let o = on-new _ _ _ (c .before .before .before .before .before .before .before .before .before .before .pre .1 .0) _ (c .before .before .before .before .before .before .before .node-at .ensures) _ (c .before .before .before .before .before .before .before .before .before .before .pre .0) (c .if3 .taken) in (o .0, (o .1, omega (arith, o .0), c .before .before .before .before .before .before .before .before .before .before .pre .1 .2))
+over-over-requires-4 t c κs = let o = on-new _ _ _ (c .before .before .before .before .before .before .before .before .before .before .pre .1 .0) _
+    (c .before .before .before .before .before .before .before .node-at .ensures) _ (c .before .before .before .before .before .before .before .before .before .before .pre .0) (c .if3 .taken) in
+    (o .0, (o .1, omega (arith, o .0), c .before .before .before .before .before .before .before .before .before .before .pre .1 .2))
 
 over-least-requires-4 : (t : ℕ) → over-lts.Need-least-requires-4 (
   node-at-reads.Asked,
@@ -224,7 +234,9 @@ over-returns-3 : (t : ℕ) → over-lts.Need-returns-3 (
   names-at-reads.Asked,
   names-at-reads.Learnt,
 ) (over-at t) over.Post
-over-returns-3 t c = c .least4 .ensures ∙ ap₂ min (c .before .before .before .before .before .before .before .before .node-if-over .ensures) (c .before .lowest-over4 .ensures) ∙ sym (over-new _ _ _ _ (c .before .before .before .before .before .before .before .before .before .before .before .before .pre .1 .0) _ (c .before .before .before .before .before .before .before .before .before .node-at .ensures) (c .before .before .if3 .taken))
+over-returns-3 t c = c .least4 .ensures ∙ ap₂ min (c .before .before .before .before .before .before .before .before .node-if-over .ensures) (c .before .lowest-over4 .ensures)
+    ∙ sym (over-new _ _ _ _ (c .before .before .before .before .before .before .before .before .before .before .before .before .pre .1 .0) _
+    (c .before .before .before .before .before .before .before .before .before .node-at .ensures) (c .before .before .if3 .taken))
 
 over-names-at-requires : (t : ℕ) → over-lts.Need-names-at-requires (
   node-at-reads.Asked,
@@ -266,7 +278,10 @@ over-over-requires-5 : (t : ℕ) → over-lts.Need-lowest-over-requires-5 (
   names-at-reads.Asked,
   names-at-reads.Learnt,
 ) (over-at t) over.Post
-over-over-requires-5 t c κs = let o = on-body _ _ _ (c .before .before .before .before .before .before .before .before .before .before .before .before .before .pre .1 .0) _ (c .before .before .before .before .before .before .before .before .before .before .node-at .ensures) _ (c .before .before .before .before .before .before .before .before .before .before .before .before .before .pre .0) (c .before .if4 .taken) in (o .0, (o .1, omega (arith, o .0), c .before .before .before .before .before .before .before .before .before .before .before .before .before .pre .1 .2))
+over-over-requires-5 t c κs = let o = on-body _ _ _ (c .before .before .before .before .before .before .before .before .before .before .before .before .before .pre .1 .0) _
+    (c .before .before .before .before .before .before .before .before .before .before .node-at .ensures) _
+    (c .before .before .before .before .before .before .before .before .before .before .before .before .before .pre .0) (c .before .if4 .taken) in
+    (o .0, (o .1, omega (arith, o .0), c .before .before .before .before .before .before .before .before .before .before .before .before .before .pre .1 .2))
 
 over-least-requires-5 : (t : ℕ) → over-lts.Need-least-requires-5 (
   node-at-reads.Asked,
@@ -294,7 +309,16 @@ over-returns-4 : (t : ℕ) → over-lts.Need-returns-4 (
   names-at-reads.Asked,
   names-at-reads.Learnt,
 ) (over-at t) over.Post
-over-returns-4 t c = c .least5 .ensures ∙ ap₂ min (c .before .before .before .before .before .before .before .before .before .before .before .node-if-over .ensures) (c .before .lowest-over5 .ensures ∙ ap (λ (j : ℕ). overAt (table (c .before .before .before .before .before .before .before .before .before .before .before .before .before .before .before .args .nodes .now) (c .before .before .before .before .before .before .before .before .before .before .before .before .before .before .before .args .pool .now)) (c .before .before .before .before .before .before .before .before .before .before .before .before .node-at .result .d) (c .before .before .before .before .before .before .before .before .before .before .before .before .before .before .before .args .k + j)) (c .before .before .names-at .ensures .0)) ∙ sym (over-inp _ _ _ _ (c .before .before .before .before .before .before .before .before .before .before .before .before .before .before .before .pre .1 .0) _ (c .before .before .before .before .before .before .before .before .before .before .before .before .node-at .ensures) (c .before .before .before .if4 .taken))
+over-returns-4 t c = c .least5 .ensures
+    ∙ ap₂ min (c .before .before .before .before .before .before .before .before .before .before .before .node-if-over .ensures)
+    (c .before .lowest-over5 .ensures
+    ∙ ap (λ (j : ℕ). overAt
+    (table (c .before .before .before .before .before .before .before .before .before .before .before .before .before .before .before .args .nodes .now)
+    (c .before .before .before .before .before .before .before .before .before .before .before .before .before .before .before .args .pool .now))
+    (c .before .before .before .before .before .before .before .before .before .before .before .before .node-at .result .d)
+    (c .before .before .before .before .before .before .before .before .before .before .before .before .before .before .before .args .k + j)) (c .before .before .names-at .ensures .0))
+    ∙ sym (over-inp _ _ _ _ (c .before .before .before .before .before .before .before .before .before .before .before .before .before .before .before .pre .1 .0) _
+    (c .before .before .before .before .before .before .before .before .before .before .before .before .node-at .ensures) (c .before .before .before .if4 .taken))
 
 over-returns-5 : (t : ℕ) → over-lts.Need-returns-5 (
   node-at-reads.Asked,
@@ -308,7 +332,10 @@ over-returns-5 : (t : ℕ) → over-lts.Need-returns-5 (
   names-at-reads.Asked,
   names-at-reads.Learnt,
 ) (over-at t) over.Post
-over-returns-5 t c = c .before .before .before .before .before .before .before .before .node-if-over .ensures ∙ over-leaf _ _ _ _ (c .before .before .before .before .before .before .before .before .before .before .before .before .pre .1 .0) _ (c .before .before .before .before .before .before .before .before .before .node-at .ensures) (c .before .before .before .before .before .before .if1 .left) (c .before .before .before .before .if2 .left) (c .before .before .if3 .left) (c .if4 .left)
+over-returns-5 t c = c .before .before .before .before .before .before .before .before .node-if-over .ensures
+    ∙ over-leaf _ _ _ _ (c .before .before .before .before .before .before .before .before .before .before .before .before .pre .1 .0) _
+    (c .before .before .before .before .before .before .before .before .before .node-at .ensures) (c .before .before .before .before .before .before .if1 .left)
+    (c .before .before .before .before .if2 .left) (c .before .before .if3 .left) (c .if4 .left)
 
 pub +lowest-over-spec : {M : Type 1} → statement M
 +lowest-over-spec = close μ-over λ t. over-lts.spec (

@@ -38,8 +38,10 @@ put-saying-requires : tie.Need-put-saying-requires
 put-saying-requires c κs =
     let a = c .before .before .before .before .before .before .before .before .before .before .before .before .before .args in
     let number = c .before .before .before .before .before .before .before .before .before .put-number .ensures in
-    let first = c .before .before .before .before .put .ensures in
-    (part-length (a .answers .now) (20 * a .index) (search needs), omega (arith, number .0 .same, first .same, first .end, number .1 .1 (search needs), c .before .before .before .before .before .before .before .before .before .before .before .before .before .pre))
+    let first = c .before .before .before .before .put .ensures in (
+      part-length (a .answers .now) (20 * a .index) (search needs),
+      omega (arith, number .0 .same, first .same, first .end, number .1 .1 (search needs), c .before .before .before .before .before .before .before .before .before .before .before .before .before .pre),
+    )
 
 slice-aggregate-put-2 : tie.Need-slice-aggregate-put-2
 slice-aggregate-put-2 c = search needs

@@ -85,8 +85,12 @@ returns-4 c =
     let a = c .before .before .before .before .before .before .before .before .before .before .before .before .before .before .before .before .before .args in
     let word = c .before .before .before .wide .ensures in
     let first = c .before .before .before .before .before .before .before .before .put4 .ensures in
-    let field = c .before .before .put-field .ensures in
-    (spelled (says-refused (a .words .now) _ (c .before .before .before .before .before .before .before .before .before .before .before .before .before .if1 .left) (c .before .before .before .before .before .before .before .before .before .before .before .before .if2 .left) (c .before .before .before .before .before .before .before .before .before .before .before .if3 .left) (word .0)) (joined first (field .0)), omega (arith, first .end, field .1 .1 (word .1)))
+    let field = c .before .before .put-field .ensures in (
+      spelled (says-refused (a .words .now) _ (c .before .before .before .before .before .before .before .before .before .before .before .before .before .if1 .left)
+          (c .before .before .before .before .before .before .before .before .before .before .before .before .if2 .left)
+          (c .before .before .before .before .before .before .before .before .before .before .before .if3 .left) (word .0)) (joined first (field .0)),
+      omega (arith, first .end, field .1 .1 (word .1)),
+    )
 
 pub put-saying-spec : {M : Type 1} → statement M
 put-saying-spec =

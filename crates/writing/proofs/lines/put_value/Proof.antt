@@ -40,7 +40,15 @@ put-fields-requires c κs =
     let len = c .before .before .length-in .ensures in
     let number = c .before .before .before .before .before .before .put-number .ensures in
     let word = c .before .before .before .before .before .before .before .wide .ensures in
-    omega (arith, length-take (4 + c .before .before .length-in .result - 4) (drop 4 (c .before .before .before .before .before .before .before .before .before .before .before .before .args .words .now)), len, number .0 .same, number .1 .1 (word .1), c .before .before .before .before .before .before .before .before .before .before .before .before .pre)
+    omega (
+      arith,
+      length-take (4 + c .before .before .length-in .result - 4)
+          (drop 4 (c .before .before .before .before .before .before .before .before .before .before .before .before .args .words .now)),
+      len,
+      number .0 .same,
+      number .1 .1 (word .1),
+      c .before .before .before .before .before .before .before .before .before .before .before .before .pre,
+    )
 
 same-length : tie.Need-same-length
 same-length c = search needs
