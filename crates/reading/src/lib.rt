@@ -87,32 +87,25 @@ pub fn read(
     ensures { λ r. ⌜ ReadIs (now (input .entry)) r (lists (now (nodes .entry)) (now (pools .entry)) (now (steps .entry))) (lists (now (nodes .exit)) (now (pools .exit)) (now (steps .exit))) ⌝ }
 {
     let len = input.len();
-    let mut p = Places::none();
+    let mut places = Places::none();
     if 65536 < len {
-        return Reading {
-            verdict: Verdict::Fault(0),
-            places: p,
-        };
+        let verdict = Verdict::Fault(0);
+        return Reading { verdict, places };
     }
     let mut n: usize = 1;
     let mut at: usize = 0;
     loop {
         let q = bytes::scan::find(input, at, len, 10);
         if q == len {
-            let v = ended(p.rank, n, len - at);
-            return Reading {
-                verdict: v,
-                places: p,
-            };
+            let verdict = ended(places.rank, n, len - at);
+            return Reading { verdict, places };
         }
         let l = line_at(input, at, q);
-        let a = on_line(l, p, nodes, pools, steps);
-        p = a.places;
+        let a = on_line(l, places, nodes, pools, steps);
+        places = a.places;
         if !a.taken {
-            return Reading {
-                verdict: Verdict::Fault(n),
-                places: p,
-            };
+            let verdict = Verdict::Fault(n);
+            return Reading { verdict, places };
         }
         n += 1;
         at = q + 1;

@@ -39,7 +39,7 @@ ended-requires c κs = search needs
 
 returns-2 : tie.Need-returns-2 Inv-loop μ-loop
 returns-2 c = let a = c .before .before .before .before .before .before .before .args in let l = c .before .before .before .loop in let x = l .inv .3 in let f = c .before .before .find in
-    no-newline (a .input .now) (l .at) _ (f .result) (l .n) (x .0) (search needs) (search needs) (f .ensures .0) (x .3) (c .before .if2 .taken) _ (l .p) _ _ (x .1) (x .2) (c .ended .ensures)
+    no-newline (a .input .now) (l .at) _ (f .result) (l .n) (x .0) (search needs) (search needs) (f .ensures .0) (x .3) (c .before .if2 .taken) _ (l .places) _ _ (x .1) (x .2) (c .ended .ensures)
 
 line-at-requires : tie.Need-line-at-requires Inv-loop μ-loop
 line-at-requires c κs = search needs
