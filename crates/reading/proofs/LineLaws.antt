@@ -181,7 +181,9 @@ start-line c v o e = before-all c o ∙ ap (λ (x : Option Line). after x o) (sy
 -- the first of the fields from one place up to another, which ends at q
 module _ (s : List ℕ) (from to q : ℕ) (up : from ≤ to) (fits : to ≤ length s) (found : q ≡ from + indexOf tab (slice from to s)) where
   pub field-bad : q ≤ to → (v : Option Line) → answerOf (number (slice from q s)) ≡ Bad → after v (numbers (pieces tab (slice from to s))) ≡ none
-  field-bad h v e = let f = first tab s from to q up fits found h in ap (λ (ps : List (List ℕ)). after v (numbers ps)) (f .1) ∙ no-number v _ (f .0) (answer-none _ e)
+  field-bad h v e =
+      let f = first tab s from to q up fits found h in
+      ap (λ (ps : List (List ℕ)). after v (numbers ps)) (f .1) ∙ no-number v _ (f .0) (answer-none _ e)
 
   pub field-last : q ≡ to → (v : Option Line) (n : ℕ) → answerOf (number (slice from q s)) ≡ Word n → after v (numbers (pieces tab (slice from to s))) ≡ pushed n v
   field-last h v n e = ap (λ (ps : List (List ℕ)). after v (numbers ps)) (last tab s from to q up fits found h) ∙ last-number v _ n (answer-some _ n e)

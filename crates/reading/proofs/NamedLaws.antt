@@ -59,7 +59,10 @@ another-size high size rank ns e = second-fails _ _ (first-fails _ _ (ne-eqb (le
 -- what an answer tells: the line names no side, or the side of place s
 pub no-side : (r : Named) (b : Bool) (n : ℕ) → r ≡ namedBy b n → r ≡ Nothing → b ≡ false
 no-side r false n e q = refl
-no-side r true n e q = let k : At (n - 1) ≡ Nothing = sym e ∙ q in let z : _≡_ {A = ℕ} 0 1 = cc in absurd (omega arith)
+no-side r true n e q =
+    let k : At (n - 1) ≡ Nothing = sym e ∙ q in
+    let z : _≡_ {A = ℕ} 0 1 = cc in
+    absurd (omega arith)
 
 pub record Names (high size rank : ℕ) (ns : List ℕ) (s : ℕ) : Type 0 where
   pub ranked : between 1 high rank ≡ true
@@ -82,4 +85,7 @@ module _ (high size rank : ℕ) (ns : List ℕ) (s : ℕ) where
     where
       by : (b : Bool) → namesSide high size rank ns ≡ b → Names high size rank ns s
       by true t = let k : At s ≡ At (getD ns 0 0 - 1) = sym q ∙ e ∙ ap (λ (b : Bool). namedBy b (getD ns 0 0)) t in tested t cc
-      by false t = let k : At s ≡ Nothing = sym q ∙ e ∙ ap (λ (b : Bool). namedBy b (getD ns 0 0)) t in let z : _≡_ {A = ℕ} 0 1 = cc in absurd (omega arith)
+      by false t =
+          let k : At s ≡ Nothing = sym q ∙ e ∙ ap (λ (b : Bool). namedBy b (getD ns 0 0)) t in
+          let z : _≡_ {A = ℕ} 0 1 = cc in
+          absurd (omega arith)

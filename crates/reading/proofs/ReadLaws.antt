@@ -174,7 +174,10 @@ whole-lines (l ∷ []) n i j e = last-whole n i j _ e
 whole-lines (l ∷ m ∷ ls) n i j e = by (withLine i l) refl (λ k. whole-lines (m ∷ ls) (suc n) k j)
   where
     by : (o : Option Input) → withLine i l ≡ o → ((k : Input) → readFrom (suc n) k (m ∷ ls) ≡ whole j → soFar k (m ∷ ls) ≡ j) → soFar i (l ∷ m ∷ ls) ≡ j
-    by none q h = let k : fault n ≡ whole j = sym (line-none n i l m ls q) ∙ e in let z : _≡_ {A = ℕ} 0 1 = cc in absurd (omega arith)
+    by none q h =
+        let k : fault n ≡ whole j = sym (line-none n i l m ls q) ∙ e in
+        let z : _≡_ {A = ℕ} 0 1 = cc in
+        absurd (omega arith)
     by (some k) q h = so-far-some i k l m ls q ∙ h k (sym (line-some n i k l m ls q) ∙ e)
 
 pub whole-given : (s : List ℕ) (i : Input) → reading s ≡ whole i → readSoFar s ≡ i

@@ -73,7 +73,10 @@ module _ (i : Input) (x : FRan) (lent after : List ℕ) (e : x ≡ runFrom (i .l
   output-done n r h d few = by (load (i .loads)) refl
     where
       by : (o : Loaded) → load (i .loads) ≡ o → answeredIn n after ≡ outputFor i
-      by (refused z) q = let k : ran.Done n ≡ ran.Refused (z .number) (z .side) (z .node) = sym d ∙ by-load r h (refused z) q .answer in let m : _≡_ {A = ℕ} 0 1 = cc in absurd (omega arith)
+      by (refused z) q =
+          let k : ran.Done n ≡ ran.Refused (z .number) (z .side) (z .node) = sym d ∙ by-load r h (refused z) q .answer in
+          let m : _≡_ {A = ℕ} 0 1 = cc in
+          absurd (omega arith)
       by (ok s) q =
           let ys = answers (i .loads) s (i .steps) in
           let g = by-load r h (ok s) q in
@@ -90,7 +93,10 @@ module _ (i : Input) (x : FRan) (lent after : List ℕ) (e : x ≡ runFrom (i .l
       same z a b c = rw (a, b, c)
 
       by : (o : Loaded) → load (i .loads) ≡ o → refusedLine (record { number = k; side = j; node = m }) ≡ outputFor i
-      by (ok s) q = let u : ran.Refused k j m ≡ ran.Done (length (answers (i .loads) s (i .steps))) = sym d ∙ by-load r h (ok s) q .answer in let v : _≡_ {A = ℕ} 0 1 = cc in absurd (omega arith)
+      by (ok s) q =
+          let u : ran.Refused k j m ≡ ran.Done (length (answers (i .loads) s (i .steps))) = sym d ∙ by-load r h (ok s) q .answer in
+          let v : _≡_ {A = ℕ} 0 1 = cc in
+          absurd (omega arith)
       by (refused z) q =
           let u : ran.Refused k j m ≡ ran.Refused (z .number) (z .side) (z .node) = sym d ∙ by-load r h (refused z) q .answer in
           let a : k ≡ z .number = cc in let b : j ≡ z .side = cc in let c : m ≡ z .node = cc in
@@ -101,10 +107,22 @@ module _ (i : Input) (x : FRan) (lent after : List ℕ) (e : x ≡ runFrom (i .l
   output-always o r h d = by (load (i .loads)) refl d
     where
       by : (z : Loaded) → load (i .loads) ≡ z → (r ≡ ran.BrokenOff) ⊎ (r ≡ ran.TooShort) → o ≡ outputFor i
-      by (refused z) q (inl u) = let k : ran.BrokenOff ≡ ran.Refused (z .number) (z .side) (z .node) = sym u ∙ by-load r h (refused z) q .answer in let m : _≡_ {A = ℕ} 0 1 = cc in absurd (omega arith)
-      by (refused z) q (inr u) = let k : ran.TooShort ≡ ran.Refused (z .number) (z .side) (z .node) = sym u ∙ by-load r h (refused z) q .answer in let m : _≡_ {A = ℕ} 0 1 = cc in absurd (omega arith)
-      by (ok s) q (inl u) = let k : ran.BrokenOff ≡ ran.Done (length (answers (i .loads) s (i .steps))) = sym u ∙ by-load r h (ok s) q .answer in let m : _≡_ {A = ℕ} 0 1 = cc in absurd (omega arith)
-      by (ok s) q (inr u) = let k : ran.TooShort ≡ ran.Done (length (answers (i .loads) s (i .steps))) = sym u ∙ by-load r h (ok s) q .answer in let m : _≡_ {A = ℕ} 0 1 = cc in absurd (omega arith)
+      by (refused z) q (inl u) =
+          let k : ran.BrokenOff ≡ ran.Refused (z .number) (z .side) (z .node) = sym u ∙ by-load r h (refused z) q .answer in
+          let m : _≡_ {A = ℕ} 0 1 = cc in
+          absurd (omega arith)
+      by (refused z) q (inr u) =
+          let k : ran.TooShort ≡ ran.Refused (z .number) (z .side) (z .node) = sym u ∙ by-load r h (refused z) q .answer in
+          let m : _≡_ {A = ℕ} 0 1 = cc in
+          absurd (omega arith)
+      by (ok s) q (inl u) =
+          let k : ran.BrokenOff ≡ ran.Done (length (answers (i .loads) s (i .steps))) = sym u ∙ by-load r h (ok s) q .answer in
+          let m : _≡_ {A = ℕ} 0 1 = cc in
+          absurd (omega arith)
+      by (ok s) q (inr u) =
+          let k : ran.TooShort ≡ ran.Done (length (answers (i .loads) s (i .steps))) = sym u ∙ by-load r h (ok s) q .answer in
+          let m : _≡_ {A = ℕ} 0 1 = cc in
+          absurd (omega arith)
 
 -- WHAT IS READ
 fault-is : (x : format.Reading) (n : ℕ) → Fault n ≡ verdictOf x → x ≡ fault n

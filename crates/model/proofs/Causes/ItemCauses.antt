@@ -65,7 +65,10 @@ module _ (leaf : ℕ → Bool) (from : List ℕ) where
   by-count {k} r f = go (leb k 16) refl
     where
       go : (b : Bool) → leb k 16 ≡ b → result ≡ refuse 5
-      go true q = let l = leb-true k 16 q in let z : 16 - k + k ≡ 16 = omega arith in reads r (16 - k) z ∙ f (16 - k) z
+      go true q =
+          let l = leb-true k 16 q in
+          let z : 16 - k + k ≡ 16 = omega arith in
+          reads r (16 - k) z ∙ f (16 - k) z
       go false q = beyond r (leb-false k 16 q)
 
   pub broken-refused : Broken leaf from → result ≡ refuse 5

@@ -45,8 +45,12 @@ first-bad f (suc k) i q e = go (f i) refl (first-bad f k (i + 1) q)
 
     go : (b : Bool) → f i ≡ b → (firstBad f k (i + 1) ≡ done q → (i + 1 ≤ q) × (q < i + 1 + k) × (f q ≡ false) × ((j : ℕ) → i + 1 ≤ j → j < q → f j ≡ true)) →
         (i ≤ q) × (q < i + suc k) × (f q ≡ false) × ((j : ℕ) → i ≤ j → j < q → f j ≡ true)
-    go false p ih = let z = done-is (rw (p, firstBad) at e) in (omega (arith, z), omega (arith, z), subst (λ (y : ℕ). f y ≡ false) z p, (λ j l u. absurd (omega (arith, z))))
-    go true p ih = let (a, c, d, r) = ih (rw (p, firstBad) at e) in (omega (arith, a), omega (arith, c), d, (λ j l u. ⊎-elim (λ z. subst (λ (y : ℕ). f y ≡ true) z p) (λ z. r j (omega (arith, z)) u) (eq-or-lt-of-le l)))
+    go false p ih =
+        let z = done-is (rw (p, firstBad) at e) in
+        (omega (arith, z), omega (arith, z), subst (λ (y : ℕ). f y ≡ false) z p, (λ j l u. absurd (omega (arith, z))))
+    go true p ih =
+        let (a, c, d, r) = ih (rw (p, firstBad) at e) in
+        (omega (arith, a), omega (arith, c), d, (λ j l u. ⊎-elim (λ z. subst (λ (y : ℕ). f y ≡ true) z p) (λ z. r j (omega (arith, z)) u) (eq-or-lt-of-le l)))
 
 module _ (t : Table) (Q : Fault → Type 0) (Z : Type 0) where
   -- all nodes pass a test; or p is the first that fails
@@ -105,7 +109,9 @@ fields-fail f t p k (u ∷ us) e = ⊎-elim (λ q. (0, u, refl, subst (λ (z : �
 
 fail-fields : (f : ℕ → ℕ → Bool) (t : Table) (p k : ℕ) (us : List ℕ) (m u : ℕ) → getElem? us m ≡ some u → f u (field t p (k + m)) ≡ false → everyField f t p k us ≡ false
 fail-fields f t p k [] m u g e = absurd (let z : _≡_ {A = ℕ} 0 1 = cc in omega arith)
-fail-fields f t p k (w ∷ us) zero u g e = let q : w ≡ u = cc in fail-left _ _ (subst (λ (z : ℕ). f z (field t p k) ≡ false) (sym q) (subst (λ (z : ℕ). f u (field t p z) ≡ false) (zero-at k) e))
+fail-fields f t p k (w ∷ us) zero u g e =
+    let q : w ≡ u = cc in
+    fail-left _ _ (subst (λ (z : ℕ). f z (field t p k) ≡ false) (sym q) (subst (λ (z : ℕ). f u (field t p z) ≡ false) (zero-at k) e))
   where
     zero-at : (k : ℕ) → k + 0 ≡ k
     zero-at k = omega arith
@@ -191,7 +197,9 @@ Is t f = TableCause t (f .number) (f .node)
 
 start-sizes : (n : ℕ) (t : Table) → (length (start n t .particles) ≡ particlesIn (term t 0)) × (length (start n t .boxes) ≡ 1 + boxesIn (term t 0)) × (start n t .minted ≡ newNamesIn (term t 0))
 unfolding start
-start-sizes n t = let ad = unfolds-adds n (term t 0) noNames 0 emptyContents in (omega (arith, ad .particles), omega (arith, ad .boxes), omega (arith, ad .minted))
+start-sizes n t =
+    let ad = unfolds-adds n (term t 0) noNames 0 emptyContents in
+    (omega (arith, ad .particles), omega (arith, ad .boxes), omega (arith, ad .minted))
 
 start-over : (n : ℕ) (t : Table) → withinLimits (start n t) ≡ false → TableCause t 7 0
 start-over n t q = let (a, d, m) = start-sizes n t in

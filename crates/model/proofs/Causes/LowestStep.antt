@@ -83,10 +83,15 @@ verdict b s x = go (ready b s & hasSide (wrapperOf b) (x .side)) refl
 
 pub lowest-step : LowestStep
 unfolding LowestStep
-lowest-step b s x = let v = verdict b s x in ((λ n k. (refused-so (v .0) (v .1) (v .2) n k, lowest-so (v .0) (v .1) (v .2) n k)), (labelled-so (v .0) (v .1) (v .2), none-so (v .0) (v .1) (v .2)))
+lowest-step b s x =
+    let v = verdict b s x in
+    ((λ n k. (refused-so (v .0) (v .1) (v .2) n k, lowest-so (v .0) (v .1) (v .2) n k)), (labelled-so (v .0) (v .1) (v .2), none-so (v .0) (v .1) (v .2)))
   where
     refused-so : (r : Res Moved) → step b s x .answer ≡ answerOf (x .side) r → Verdict (StepCause b s x) r → (n k : ℕ) → step b s x .answer ≡ refusal n k → StepCause b s x n × ((m : ℕ) → m < n → StepCause b s x m → ⊥) × (k ≡ x .side)
-    refused-so (refuse m) p v n k q = let w = sym q ∙ p in let z = refusal-number w in (subst (StepCause b s x) (sym z) (v .0), (λ y l c. let u = v .1 y c in omega (arith, z)), refusal-side w)
+    refused-so (refuse m) p v n k q =
+        let w = sym q ∙ p in
+        let z = refusal-number w in
+        (subst (StepCause b s x) (sym z) (v .0), (λ y l c. let u = v .1 y c in omega (arith, z)), refusal-side w)
     refused-so (done a) p v n k q = absurd (subst IsLabelled (sym p ∙ q) tt)
 
     lowest-so : (r : Res Moved) → step b s x .answer ≡ answerOf (x .side) r → Verdict (StepCause b s x) r → (n k : ℕ) → StepCause b s x n × ((m : ℕ) → m < n → StepCause b s x m → ⊥) × (k ≡ x .side) → step b s x .answer ≡ refusal n k

@@ -35,8 +35,16 @@ length-without true l i j p q n = omega (arith, length-gone l i p)
 length-without false l i j p q n = go (ltb i j) refl
   where
     go : (c : Bool) → ltb i j ≡ c → length (cond c (remove (remove l j) i) (remove (remove l i) j)) + 2 ≡ length l
-    go true e = let a = length-gone l j q in let lt = ltb-true i j e in let d = length-gone (remove l j) i (omega arith) in omega (arith, a, d)
-    go false e = let a = length-gone l i p in let ge = ltb-false i j e in let d = length-gone (remove l i) j (omega (arith, n)) in omega (arith, a, d)
+    go true e =
+        let a = length-gone l j q in
+        let lt = ltb-true i j e in
+        let d = length-gone (remove l j) i (omega arith) in
+        omega (arith, a, d)
+    go false e =
+        let a = length-gone l i p in
+        let ge = ltb-false i j e in
+        let d = length-gone (remove l i) j (omega (arith, n)) in
+        omega (arith, a, d)
 
 fit-true : (g t : Tag) → Fitting g t → tagsFit g t ≡ true
 fit-true g t both-within = refl
@@ -165,23 +173,38 @@ module _ (b : Composition) (s : State) (n i j : ℕ) (ws : List ℕ) (e : ready 
     at-term t a c g v p a′ k vs q (nil m) z = no-can t (λ can. let w = can-test can in not-inp (w .0))
       where
         not-inp : M → ⊥
-        not-inp m′ = let u : input a′ k vs ≡ input (m′ .box) (m′ .node) (m′ .vals) = some-inj (sym q ∙ m′ .input-j) in let k5 : m′ .node ≡ k = cc in subst IsIn (sym (m′ .at-node) ∙ ap (term (table b n)) k5 ∙ z) tt
+        not-inp m′ =
+            let u : input a′ k vs ≡ input (m′ .box) (m′ .node) (m′ .vals) = some-inj (sym q ∙ m′ .input-j) in
+            let k5 : m′ .node ≡ k = cc in
+            subst IsIn (sym (m′ .at-node) ∙ ap (term (table b n)) k5 ∙ z) tt
     at-term t a c g v p a′ k vs q (par m l r) z = no-can t (λ can. let w = can-test can in not-inp (w .0))
       where
         not-inp : M → ⊥
-        not-inp m′ = let u : input a′ k vs ≡ input (m′ .box) (m′ .node) (m′ .vals) = some-inj (sym q ∙ m′ .input-j) in let k5 : m′ .node ≡ k = cc in subst IsIn (sym (m′ .at-node) ∙ ap (term (table b n)) k5 ∙ z) tt
+        not-inp m′ =
+            let u : input a′ k vs ≡ input (m′ .box) (m′ .node) (m′ .vals) = some-inj (sym q ∙ m′ .input-j) in
+            let k5 : m′ .node ≡ k = cc in
+            subst IsIn (sym (m′ .at-node) ∙ ap (term (table b n)) k5 ∙ z) tt
     at-term t a c g v p a′ k vs q (box m x d) z = no-can t (λ can. let w = can-test can in not-inp (w .0))
       where
         not-inp : M → ⊥
-        not-inp m′ = let u : input a′ k vs ≡ input (m′ .box) (m′ .node) (m′ .vals) = some-inj (sym q ∙ m′ .input-j) in let k5 : m′ .node ≡ k = cc in subst IsIn (sym (m′ .at-node) ∙ ap (term (table b n)) k5 ∙ z) tt
+        not-inp m′ =
+            let u : input a′ k vs ≡ input (m′ .box) (m′ .node) (m′ .vals) = some-inj (sym q ∙ m′ .input-j) in
+            let k5 : m′ .node ≡ k = cc in
+            subst IsIn (sym (m′ .at-node) ∙ ap (term (table b n)) k5 ∙ z) tt
     at-term t a c g v p a′ k vs q (new m x d) z = no-can t (λ can. let w = can-test can in not-inp (w .0))
       where
         not-inp : M → ⊥
-        not-inp m′ = let u : input a′ k vs ≡ input (m′ .box) (m′ .node) (m′ .vals) = some-inj (sym q ∙ m′ .input-j) in let k5 : m′ .node ≡ k = cc in subst IsIn (sym (m′ .at-node) ∙ ap (term (table b n)) k5 ∙ z) tt
+        not-inp m′ =
+            let u : input a′ k vs ≡ input (m′ .box) (m′ .node) (m′ .vals) = some-inj (sym q ∙ m′ .input-j) in
+            let k5 : m′ .node ≡ k = cc in
+            subst IsIn (sym (m′ .at-node) ∙ ap (term (table b n)) k5 ∙ z) tt
     at-term t a c g v p a′ k vs q (out m c′ g′ v′) z = no-can t (λ can. let w = can-test can in not-inp (w .0))
       where
         not-inp : M → ⊥
-        not-inp m′ = let u : input a′ k vs ≡ input (m′ .box) (m′ .node) (m′ .vals) = some-inj (sym q ∙ m′ .input-j) in let k5 : m′ .node ≡ k = cc in subst IsIn (sym (m′ .at-node) ∙ ap (term (table b n)) k5 ∙ z) tt
+        not-inp m′ =
+            let u : input a′ k vs ≡ input (m′ .box) (m′ .node) (m′ .vals) = some-inj (sym q ∙ m′ .input-j) in
+            let k5 : m′ .node ≡ k = cc in
+            subst IsIn (sym (m′ .at-node) ∙ ap (term (table b n)) k5 ∙ z) tt
 
     at-parts : Tens b s n i j ws 5 → (p q : Particle) → getElem? parts i ≡ some p → getElem? parts j ≡ some q → Caused D P (meetParticles (setting b n) core i j p q)
     unfolding meetParticles

@@ -20,8 +20,14 @@ min-found : (P : ℕ → Type 0) (a b : ℕ) → (a < 256 → P a) → (b < 256 
 min-found P a b f g l = go (leb a b) refl
   where
     go : (t : Bool) → leb a b ≡ t → P (min a b)
-    go true e = let z = leb-true a b e in let q : a ≡ min a b = omega arith in subst P q (f (omega arith))
-    go false e = let z = leb-false a b e in let q : b ≡ min a b = omega arith in subst P q (g (omega arith))
+    go true e =
+        let z = leb-true a b e in
+        let q : a ≡ min a b = omega arith in
+        subst P q (f (omega arith))
+    go false e =
+        let z = leb-false a b e in
+        let q : b ≡ min a b = omega arith in
+        subst P q (g (omega arith))
 
 times-pos : (t : Table) (q k : ℕ) → 1 ≤ timesChild t q k → (p : ℕ) × (p < k) × (1 ≤ childTimes t q p)
 unfolding timesChild
@@ -30,7 +36,10 @@ times-pos t q (suc k) l = go (leb 1 (childTimes t q k)) refl (times-pos t q k)
   where
     go : (b : Bool) → leb 1 (childTimes t q k) ≡ b → (1 ≤ timesChild t q k → (p : ℕ) × (p < k) × (1 ≤ childTimes t q p)) → (p : ℕ) × (p < suc k) × (1 ≤ childTimes t q p)
     go true e ih = (k, omega arith, leb-true 1 _ e)
-    go false e ih = let z = leb-false 1 (childTimes t q k) e in let r = ih (omega (arith, l)) in (r .0, omega (arith, r .1), r .2)
+    go false e ih =
+        let z = leb-false 1 (childTimes t q k) e in
+        let r = ih (omega (arith, l)) in
+        (r .0, omega (arith, r .1), r .2)
 
 child-of : (t : Table) (p q κ : ℕ) → kind t p ≡ κ → κ ≤ 6 → 1 ≤ childTimes t q p → Child t p κ q
 unfolding childTimes
@@ -132,11 +141,21 @@ module _ (t : Table) (c : Checked t) where
   -- a walk below a child is part of the walk below its parent
   part-build : (p : ℕ) → p < count t → (κ q : ℕ) → kind t p ≡ κ → Child t p κ q → over (N p) (build κ t p (term t)) ≤ O q
   unfolding build over
-  part-build p l κ q e left = let a : N (field t p 1) ≡ N p = let z = more-at p (field t p 1) 1 l e left in let y = bound-0 p (inl e) in omega arith in rw a (omega arith)
-  part-build p l κ q e right = let a : N (field t p 2) ≡ N p = let z = more-at p (field t p 2) 1 l e right in let y = bound-0 p (inl e) in omega arith in rw a (omega arith)
-  part-build p l κ q e in-box = let a : N (field t p 2) ≡ N p = let z = more-at p (field t p 2) 2 l e in-box in let y = bound-0 p (inr e) in omega arith in rw a (omega arith)
-  part-build p l κ q e in-new = let a : N (field t p 2) ≡ N p + 1 = more-at p (field t p 2) 3 l e in-new ∙ ap (λ (z : ℕ). N p + z) (bound-1 p e) in rw a (omega arith)
-  part-build p l κ q e (in-body {e = k}) = let a = more-at p (field t p 4) (suc (suc (suc (suc (suc k))))) l e in-body ∙ ap (λ (z : ℕ). N p + z) (bound-5 p k e) in rw a (omega arith)
+  part-build p l κ q e left =
+      let a : N (field t p 1) ≡ N p = let z = more-at p (field t p 1) 1 l e left in let y = bound-0 p (inl e) in omega arith in
+      rw a (omega arith)
+  part-build p l κ q e right =
+      let a : N (field t p 2) ≡ N p = let z = more-at p (field t p 2) 1 l e right in let y = bound-0 p (inl e) in omega arith in
+      rw a (omega arith)
+  part-build p l κ q e in-box =
+      let a : N (field t p 2) ≡ N p = let z = more-at p (field t p 2) 2 l e in-box in let y = bound-0 p (inr e) in omega arith in
+      rw a (omega arith)
+  part-build p l κ q e in-new =
+      let a : N (field t p 2) ≡ N p + 1 = more-at p (field t p 2) 3 l e in-new ∙ ap (λ (z : ℕ). N p + z) (bound-1 p e) in
+      rw a (omega arith)
+  part-build p l κ q e (in-body {e = k}) =
+      let a = more-at p (field t p 4) (suc (suc (suc (suc (suc k))))) l e in-body ∙ ap (λ (z : ℕ). N p + z) (bound-5 p k e) in
+      rw a (omega arith)
 
   part : (p q : ℕ) → p < count t → Child t p (kind t p) q → O p ≤ O q
   part p q l ch = subst (λ (x : Term). over (N p) x ≤ O q) (sym (term-at t (is-tree t c) p l)) (part-build p l (kind t p) q refl ch)
@@ -155,7 +174,12 @@ module _ (t : Table) (c : Checked t) where
     where
       go : (b : Bool) → eqb q 0 ≡ b → ((q : ℕ) → q < k → q < count t → over 0 (term t 0) ≤ O q) → over 0 (term t 0) ≤ O q
       go true e ih = subst (λ (z : ℕ). over 0 (term t 0) ≤ O z) (sym (eqb-true q 0 e)) (omega arith)
-      go false e ih = let r = parent-of q l (eqb-false q 0 e) in let a = is-tree t c (r .0) q (r .1) (r .2) in let i = ih (r .0) (omega (arith, a .0)) (r .1) in let j = part (r .0) q (r .1) (r .2) in omega arith
+      go false e ih =
+          let r = parent-of q l (eqb-false q 0 e) in
+          let a = is-tree t c (r .0) q (r .1) (r .2) in
+          let i = ih (r .0) (omega (arith, a .0)) (r .1) in
+          let j = part (r .0) q (r .1) (r .2) in
+          omega arith
 
   head-low : (q : ℕ) → q < count t → 8 < N q → (κ : ℕ) → over (N q) (build κ t q (term t)) ≤ q
   unfolding build over
@@ -167,7 +191,10 @@ module _ (t : Table) (c : Checked t) where
   head-low q l h (suc (suc (suc (suc (suc k))))) = rw (lt-leb (N q) 8 h) (omega arith)
 
   pub over-low : (q : ℕ) → q < count t → 8 < N q → over 0 (term t 0) ≤ q
-  over-low q l h = let a = all-fuel (suc q) q (omega arith) l in let d = subst (λ (x : Term). over (N q) x ≤ q) (sym (term-at t (is-tree t c) q l)) (head-low q l h (kind t q)) in omega arith
+  over-low q l h =
+      let a = all-fuel (suc q) q (omega arith) l in
+      let d = subst (λ (x : Term). over (N q) x ≤ q) (sym (term-at t (is-tree t c) q l)) (head-low q l h (kind t q)) in
+      omega arith
 
   pub over-deep : over 0 (term t 0) < 256 → (over 0 (term t 0) < count t) × (8 < N (over 0 (term t 0)))
   unfolding scopeUp

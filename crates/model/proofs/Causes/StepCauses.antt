@@ -81,7 +81,10 @@ module _ (b : Composition) (s : State) (n i j : ℕ) (ws : List ℕ) where
     pub no-ten : (k : ℕ) → Tens k → Row10 b s (X k) → ⊥
     no-ten k t (tables {r = r} q) = not-loaded b r (loaded b s e) q
     no-ten k t (state q) = false≢true (sym q ∙ wf b s e)
-    no-ten k t (no-kind q) = let l = t .low in let u = t .high in ⊎-elim (λ z. omega arith) (λ z. omega arith) q
+    no-ten k t (no-kind q) =
+        let l = t .low in
+        let u = t .high in
+        ⊎-elim (λ z. omega arith) (λ z. omega arith) q
     no-ten k t (no-side q) = false≢true (sym q ∙ h)
     no-ten k t (no-message q l) = let z = t .message q in omega arith
     no-ten k t (no-particle-i q l) = let z = t .particle-i q in omega arith
@@ -356,7 +359,10 @@ module _ (b : Composition) (s : State) (n i j : ℕ) (ws : List ℕ) where
     may w = not (isMinted w) or known s w
 
     by-twelve : every may ws ≡ false → StepCause b s (X 1) 12
-    by-twelve q = let (k, w, g, z) = every-fails may ws q in let y = neither _ _ z in by-12 k {w = w} refl g (not-false′ (isMinted w) (y .0)) (y .1)
+    by-twelve q =
+        let (k, w, g, z) = every-fails may ws q in
+        let y = neither _ _ z in
+        by-12 k {w = w} refl g (not-false′ (isMinted w) (y .0)) (y .1)
 
     no-twelve : every may ws ≡ true → (k w : ℕ) → getElem? ws k ≡ some w → isMinted w ≡ true → known s w ≡ false → ⊥
     unfolding _or_
@@ -466,7 +472,9 @@ module _ (b : Composition) (s : State) (n i j : ℕ) (ws : List ℕ) where
 
     can-3 : (p : Particle) → getElem? (K .contents .particles) i ≡ some p → isToParent (mark p) ≡ false → Can b s (X 3) → ⊥
     unfolding mark
-    can-3 p g q (can-up {at = a} {ch = c} {v = v} k g′) = let y : p ≡ output a c toParent v = some-inj (sym g ∙ g′) in false≢true (sym q ∙ ap (λ (z : Particle). isToParent (mark z)) y)
+    can-3 p g q (can-up {at = a} {ch = c} {v = v} k g′) =
+        let y : p ≡ output a c toParent v = some-inj (sym g ∙ g′) in
+        false≢true (sym q ∙ ap (λ (z : Particle). isToParent (mark z)) y)
     can-3 p g q (can-enter k) = omega arith
     can-3 p g q (can-down k a c) = omega arith
     can-3 p g q (can-descend k a c d f v) = omega arith
@@ -491,7 +499,10 @@ module _ (b : Composition) (s : State) (n i j : ℕ) (ws : List ℕ) where
     landed ch v = withLobby gone-core (K .lobby ++ (record { status = arrived; chan = ch; val = v } ∷ []))
 
     fewer : length (remove (K .contents .particles) i) ≤ 32
-    fewer = let l = length-remove (K .contents .particles) i in let f = few-parts in omega arith
+    fewer =
+        let l = length-remove (K .contents .particles) i in
+        let f = few-parts in
+        omega arith
 
     gone-short : every short (remove (K .contents .particles) i) ≡ true
     gone-short = every-remove short (K .contents .particles) i parts-short
@@ -535,8 +546,14 @@ module _ (b : Composition) (s : State) (n i j : ℕ) (ws : List ℕ) where
     not-full-set a ch v g (boxes m l) = let z = m .meets in omega arith
     not-full-set a ch v g (minted m l) = let z = m .meets in omega arith
     not-full-set a ch v g (lobby q l) = false≢true q
-    not-full-set a ch v g (lobby-up {ch = d} {v = u} q g′ t l) = let y : output (suc a) ch toParent v ≡ output 0 d toParent u = some-inj (sym g ∙ g′) in let z : suc a ≡ 0 = ap boxOf y in omega arith
-    not-full-set a ch v g (shelf {ch = d} {v = u} q g′ t l) = let y : output (suc a) ch toParent v ≡ output 0 d toParent u = some-inj (sym g ∙ g′) in let z : suc a ≡ 0 = ap boxOf y in omega arith
+    not-full-set a ch v g (lobby-up {ch = d} {v = u} q g′ t l) =
+        let y : output (suc a) ch toParent v ≡ output 0 d toParent u = some-inj (sym g ∙ g′) in
+        let z : suc a ≡ 0 = ap boxOf y in
+        omega arith
+    not-full-set a ch v g (shelf {ch = d} {v = u} q g′ t l) =
+        let y : output (suc a) ch toParent v ≡ output 0 d toParent u = some-inj (sym g ∙ g′) in
+        let z : suc a ≡ 0 = ap boxOf y in
+        omega arith
 
     up-from : Tens 3 → (a ch : ℕ) (v : List ℕ) → getElem? (K .contents .particles) i ≡ some (output a ch toParent v) → Caused (Low 3) (Good 3) (upFrom (setting b n) K i a ch v)
     unfolding upFrom

@@ -51,7 +51,10 @@ into-step σ j n = record { kind = 4; side = σ; i = j; j = n; words = [] }
 -- the step at the place of a message and box 0
 down-place : {W : Wrapper} {k : Step} {w : Participants Mark} → At W k w → (σ j : ℕ) → w ≡ joint (lobby σ j) (boxed σ 0) → k ≡ down-step σ j
 down-place enter σ j e = absurd (let z : _≡_ {A = ℕ} 0 1 = cc in omega arith)
-down-place (goDown {side = side} {i = i}) σ j e = let p : side ≡ σ = cc in let q : i ≡ j = cc in λ t. record { kind = 2; side = p t; i = q t; j = 0; words = [] }
+down-place (goDown {side = side} {i = i}) σ j e =
+    let p : side ≡ σ = cc in
+    let q : i ≡ j = cc in
+    λ t. record { kind = 2; side = p t; i = q t; j = 0; words = [] }
 down-place goUp σ j e = absurd (let z : _≡_ {A = ℕ} 0 1 = cc in omega arith)
 down-place descend σ j e = absurd (let z : _≡_ {A = ℕ} 0 1 = cc in omega arith)
 down-place meet σ j e = absurd (let z : _≡_ {A = ℕ} 0 1 = cc in omega arith)
@@ -64,7 +67,11 @@ into-place : {W : Wrapper} {k : Step} {w : Participants Mark} → At W k w → (
 into-place enter σ j n e = absurd (let z : _≡_ {A = ℕ} 0 1 = cc in omega arith)
 into-place goDown σ j n e = absurd (let z : _≡_ {A = ℕ} 0 1 = cc in omega arith)
 into-place goUp σ j n e = absurd (let z : _≡_ {A = ℕ} 0 1 = cc in omega arith)
-into-place (descend {side = side} {i = i} {j = m}) σ j n e = let p : side ≡ σ = cc in let q : i ≡ j = cc in let r : m ≡ n = cc in λ t. record { kind = 4; side = p t; i = q t; j = r t; words = [] }
+into-place (descend {side = side} {i = i} {j = m}) σ j n e =
+    let p : side ≡ σ = cc in
+    let q : i ≡ j = cc in
+    let r : m ≡ n = cc in
+    λ t. record { kind = 4; side = p t; i = q t; j = r t; words = [] }
 into-place meet σ j n e = absurd (let z : _≡_ {A = ℕ} 0 1 = cc in omega arith)
 into-place pass σ j n e = absurd (let z : _≡_ {A = ℕ} 0 1 = cc in omega arith)
 into-place leave σ j n e = absurd (let z : _≡_ {A = ℕ} 0 1 = cc in omega arith)
@@ -94,7 +101,10 @@ msg-down : (w : Wrapper) (side j : ℕ) (m : Message) (t : Mark) (x n : ℕ) (u 
 msg-down w side j m t x n u q = go (m .status) q
   where
     go : (p : SPlace) → pout t x (plain (ichild n)) u ≡ msgProc ids w side j p (m .chan) (m .val) → (p ≡ down) × (t ≡ lobby side j) × (x ≡ m .chan) × (n ≡ ownName side) × (u ≡ valOf (m .val))
-    go down q = let eo : plain (ichild n) ≡ plain (ichild (ownName side)) = ap tagIn q in let en : n ≡ ownName side = cc in (refl, ap markIn q, ap chanIn q, en, ap valIn q)
+    go down q =
+        let eo : plain (ichild n) ≡ plain (ichild (ownName side)) = ap tagIn q in
+        let en : n ≡ ownName side = cc in
+        (refl, ap markIn q, ap chanIn q, en, ap valIn q)
     go arrived q = let eo = ap tagIn q in absurd (let z : _≡_ {A = ℕ} 0 1 = cc in omega arith)
     go leaving q = let eo = ap tagIn q in absurd (let z : _≡_ {A = ℕ} 0 1 = cc in omega arith)
 

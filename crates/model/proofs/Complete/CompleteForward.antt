@@ -153,7 +153,10 @@ passage-step goDown σ j e = absurd (let z : _≡_ {A = ℕ} 0 1 = cc in omega a
 passage-step goUp σ j e = absurd (let z : _≡_ {A = ℕ} 0 1 = cc in omega arith)
 passage-step descend σ j e = absurd (let z : _≡_ {A = ℕ} 0 1 = cc in omega arith)
 passage-step meet σ j e = absurd (let z : _≡_ {A = ℕ} 0 1 = cc in omega arith)
-passage-step (pass {side = side} {i = i}) σ j e = let p : side ≡ σ = cc in let q : i ≡ j = cc in λ t. record { kind = 6; side = p t; i = q t; j = 0; words = [] }
+passage-step (pass {side = side} {i = i}) σ j e =
+    let p : side ≡ σ = cc in
+    let q : i ≡ j = cc in
+    λ t. record { kind = 6; side = p t; i = q t; j = 0; words = [] }
 passage-step leave σ j e = absurd (let z : _≡_ {A = ℕ} 0 1 = cc in omega arith)
 passage-step (take n q) σ j e = absurd (let z : _≡_ {A = ℕ} 0 1 = cc in omega arith)
 

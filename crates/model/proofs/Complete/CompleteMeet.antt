@@ -57,7 +57,11 @@ parts-step enter σ i j e = absurd (let z : _≡_ {A = ℕ} 0 1 = cc in omega ar
 parts-step goDown σ i j e = absurd (let z : _≡_ {A = ℕ} 0 1 = cc in omega arith)
 parts-step goUp σ i j e = absurd (let z : _≡_ {A = ℕ} 0 1 = cc in omega arith)
 parts-step descend σ i j e = absurd (let z : _≡_ {A = ℕ} 0 1 = cc in omega arith)
-parts-step (meet {side = side} {i = a} {j = c}) σ i j e = let p : side ≡ σ = cc in let q : a ≡ i = cc in let r : c ≡ j = cc in λ t. record { kind = 5; side = p t; i = q t; j = r t; words = [] }
+parts-step (meet {side = side} {i = a} {j = c}) σ i j e =
+    let p : side ≡ σ = cc in
+    let q : a ≡ i = cc in
+    let r : c ≡ j = cc in
+    λ t. record { kind = 5; side = p t; i = q t; j = r t; words = [] }
 parts-step pass σ i j e = absurd (let z : _≡_ {A = ℕ} 0 1 = cc in omega arith)
 parts-step leave σ i j e = absurd (let z : _≡_ {A = ℕ} 0 1 = cc in omega arith)
 parts-step (take n q) σ i j e = absurd (let z : _≡_ {A = ℕ} 0 1 = cc in omega arith)

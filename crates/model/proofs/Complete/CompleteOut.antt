@@ -59,7 +59,10 @@ lobby-step goUp σ j e = absurd (let z : _≡_ {A = ℕ} 0 1 = cc in omega arith
 lobby-step descend σ j e = absurd (let z : _≡_ {A = ℕ} 0 1 = cc in omega arith)
 lobby-step meet σ j e = absurd (let z : _≡_ {A = ℕ} 0 1 = cc in omega arith)
 lobby-step pass σ j e = absurd (let z : _≡_ {A = ℕ} 0 1 = cc in omega arith)
-lobby-step (leaveAt {side = side} {i = i}) σ j e = let p : side ≡ σ = cc in let q : i ≡ j = cc in λ t. record { kind = 7; side = p t; i = q t; j = 0; words = [] }
+lobby-step (leaveAt {side = side} {i = i}) σ j e =
+    let p : side ≡ σ = cc in
+    let q : i ≡ j = cc in
+    λ t. record { kind = 7; side = p t; i = q t; j = 0; words = [] }
 lobby-step (take n q) σ j e = absurd (let z : _≡_ {A = ℕ} 0 1 = cc in omega arith)
 
 abbrev leaving-step : ℕ → ℕ → Step
@@ -142,8 +145,12 @@ module _ (b : Composition) (s : State) (e : ready b s ≡ true) where
   lobby-leaves w side i j m t x o v wh h q = go (m .status) q
     where
       go : (p : SPlace) → pout t x o v ≡ msgProc ids w side j p (m .chan) (m .val) → (p ≡ leaving) × (t ≡ lobby side j) × (x ≡ w .outlet side) × (o ≡ plain iparent) × (v ≡ valOf (m .val))
-      go down q = let eo : o ≡ plain (ichild (ownName side)) = ap tagIn q in absurd (own-unknown b s side wh (subst (λ (z : Tag ℕ). AllT z (In (knownOf s))) eo h))
-      go arrived q = let eo : o ≡ receivedChild (ownName side) = ap tagIn q in absurd (own-unknown b s side wh (subst (λ (z : Tag ℕ). AllT z (In (knownOf s))) eo h))
+      go down q =
+          let eo : o ≡ plain (ichild (ownName side)) = ap tagIn q in
+          absurd (own-unknown b s side wh (subst (λ (z : Tag ℕ). AllT z (In (knownOf s))) eo h))
+      go arrived q =
+          let eo : o ≡ receivedChild (ownName side) = ap tagIn q in
+          absurd (own-unknown b s side wh (subst (λ (z : Tag ℕ). AllT z (In (knownOf s))) eo h))
       go leaving q = (refl, ap markIn q, ap chanIn q, ap tagIn q, ap valIn q)
 
   -- what stands in the environment besides the lobbies sends nothing that the environment may take
@@ -155,7 +162,9 @@ module _ (b : Composition) (s : State) (e : ready b s ≡ true) where
       go : (c : Bool) (X : List (Item Mark)) → cond c [] (shelfItem ids side n u ∷ []) ++ shelfItems ids gone side (suc n) l ≡ X ++ item 0 (pout t x o v) ∷ Y →
           ((X : List (Item Mark)) → shelfItems ids gone side (suc n) l ≡ X ++ item 0 (pout t x o v) ∷ Y → ⊥) → ⊥
       go true X q ih = ih X q
-      go false [] q ih = let eo : receivedChild (ownName side) ≡ o = ap (λ (z : Item Mark). tagIn (z .what)) (head-eq q) in own-unknown b s side wh (subst (λ (z : Tag ℕ). AllT z (In (knownOf s))) (sym eo) h)
+      go false [] q ih =
+          let eo : receivedChild (ownName side) ≡ o = ap (λ (z : Item Mark). tagIn (z .what)) (head-eq q) in
+          own-unknown b s side wh (subst (λ (z : Tag ℕ). AllT z (In (knownOf s))) (sym eo) h)
       go false (y ∷ X) q ih = ih X (tail-eq q)
 
   gone-plain : (X Y : List (Item Mark)) → Bag (ritems forget (X ++ item 0 pnil ∷ Y)) (ritems forget X ++ ritems forget Y)

@@ -47,7 +47,10 @@ up-step σ j = record { kind = 3; side = σ; i = j; j = 0; words = [] }
 up-place : {W : Wrapper} {k : Step} {w : Participants Mark} → At W k w → (σ j : ℕ) → w ≡ lone (part σ j) → k ≡ up-step σ j
 up-place enter σ j e = absurd (let z : _≡_ {A = ℕ} 0 1 = cc in omega arith)
 up-place goDown σ j e = absurd (let z : _≡_ {A = ℕ} 0 1 = cc in omega arith)
-up-place (goUp {side = side} {i = i}) σ j e = let p : side ≡ σ = cc in let q : i ≡ j = cc in λ t. record { kind = 3; side = p t; i = q t; j = 0; words = [] }
+up-place (goUp {side = side} {i = i}) σ j e =
+    let p : side ≡ σ = cc in
+    let q : i ≡ j = cc in
+    λ t. record { kind = 3; side = p t; i = q t; j = 0; words = [] }
 up-place descend σ j e = absurd (let z : _≡_ {A = ℕ} 0 1 = cc in omega arith)
 up-place meet σ j e = absurd (let z : _≡_ {A = ℕ} 0 1 = cc in omega arith)
 up-place pass σ j e = absurd (let z : _≡_ {A = ℕ} 0 1 = cc in omega arith)

@@ -95,7 +95,10 @@ site-inj σ j τ k p q e = (omega (arith, p .0, p .1, q .0, q .1, e), omega (ari
 
 -- no box is the environment
 pub site-pos : (b : Composition) (s : State) (c : Place Mark) → Has c (confOf b s .boxes) → c .site ≡ 0 → ⊥
-site-pos b s c h q = let a = box-at b s c h in let z : siteOf (a .n) (a .j) ≡ 0 = sym (ap (λ (d : Place Mark). d .site) (a .is)) ∙ q in omega (arith, of-two b (a .n) (a .is-side) .0, z)
+site-pos b s c h q =
+    let a = box-at b s c h in
+    let z : siteOf (a .n) (a .j) ≡ 0 = sym (ap (λ (d : Place Mark). d .site) (a .is)) ∙ q in
+    omega (arith, of-two b (a .n) (a .is-side) .0, z)
 
 -- an item gone and another added
 pub moved-bag : (h : Item Mark) (X : List (Item Mark)) (k : ℕ) (Y : List (Item Mark)) → Bag (ritems forget (h ∷ (X ++ item k pnil ∷ Y))) (ritem forget h ∷ (ritems forget X ++ ritems forget Y))

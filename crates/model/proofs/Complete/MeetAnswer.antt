@@ -76,8 +76,16 @@ length-without true l i j p q n = omega (arith, length-gone l i p)
 length-without false l i j p q n = go (ltb i j) refl
   where
     go : (c : Bool) → ltb i j ≡ c → length (cond c (remove (remove l j) i) (remove (remove l i) j)) + 2 ≡ length l + 0
-    go true e = let a = length-gone l j q in let lt = ltb-true i j e in let d = length-gone (remove l j) i (omega arith) in omega (arith, a, d)
-    go false e = let a = length-gone l i p in let ge = ltb-false i j e in let d = length-gone (remove l i) j (omega (arith, n)) in omega (arith, a, d)
+    go true e =
+        let a = length-gone l j q in
+        let lt = ltb-true i j e in
+        let d = length-gone (remove l j) i (omega arith) in
+        omega (arith, a, d)
+    go false e =
+        let a = length-gone l i p in
+        let ge = ltb-false i j e in
+        let d = length-gone (remove l i) j (omega (arith, n)) in
+        omega (arith, a, d)
 
 abbrev pub meet-step : (side i j : ℕ) → Step
 meet-step side i j = record { kind = 5; side = side; i = i; j = j; words = [] }

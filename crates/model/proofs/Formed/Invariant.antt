@@ -71,7 +71,10 @@ route-any (q ∷ rs) n j r e = ⊎-elim (λ p. rw (fst _ _ (p .0))) (λ p. or-ri
 
 takes-shelf : (n : ℕ) (sh : List (List ℕ)) (s : Core) (i : ℕ) (m : Moved) → takes n sh s i ≡ done m → m .core .shelf ≡ s .shelf
 unfolding takes
-takes-shelf n sh s i m e = let (v, f, g, l) = pick-done _ _ _ _ e in let b = need-done _ _ _ _ f in ap (λ (y : Moved). y .core .shelf) (sym (done-inj (b .1)))
+takes-shelf n sh s i m e =
+    let (v, f, g, l) = pick-done _ _ _ _ e in
+    let b = need-done _ _ _ _ f in
+    ap (λ (y : Moved). y .core .shelf) (sym (done-inj (b .1)))
 
 module _ (c : Setting) (k : Counts) (s : Core) (o : CoreOk c k s) (ch : Checked (c .table)) (which : has (c .side) allSides ≡ true) where
   same-count : (m : Moved) → Kept c k s m → Kept′ c k s m
@@ -191,7 +194,9 @@ taken-set : (t : Bool) (sh : ℕ → List (List ℕ)) (l : List Bool) (i j : ℕ
 unfolding wfTaken
 taken-set t sh [] i j h e = refl
 taken-set t sh (x ∷ xs) i zero h e = both _ _ (rw add-zero at e) (snd _ _ h)
-taken-set t sh (x ∷ xs) i (suc j) h e = let q : i + suc j ≡ i + 1 + j = omega arith in both _ _ (fst _ _ h) (taken-set t sh xs (i + 1) j (snd _ _ h) (rw q at e))
+taken-set t sh (x ∷ xs) i (suc j) h e =
+    let q : i + suc j ≡ i + 1 + j = omega arith in
+    both _ _ (fst _ _ h) (taken-set t sh xs (i + 1) j (snd _ _ h) (rw q at e))
 
 taken-get : (t : Bool) (sh : ℕ → List (List ℕ)) (l : List Bool) (i j : ℕ) → wfTaken t sh i l ≡ true → getD l j false ≡ true → t & ltb ((i + j) % 32) (length (sh (suc ((i + j) / 32)))) ≡ true
 unfolding wfTaken
@@ -372,7 +377,9 @@ module _ (b : Composition) (s : State) (e : ready b s ≡ true) where
     where
       go : (n : ℕ) → has n allSides ≡ true → (t : Bool) → hasSide (wrapperOf b) n ≡ t → length (side s n .core .shelf) ≤ 32
       go n h true p = side-ok b s e n p .few-shelf
-      go n h false p = let z = eqb-true (length (side s n .core .shelf)) 0 (fst _ _ (snd _ _ (snd _ _ (snd _ _ (snd _ _ (snd _ _ (snd _ _ (rw p at (at-side b s e n h))))))))) in omega arith
+      go n h false p =
+          let z = eqb-true (length (side s n .core .shelf)) 0 (fst _ _ (snd _ _ (snd _ _ (snd _ _ (snd _ _ (snd _ _ (snd _ _ (rw p at (at-side b s e n h))))))))) in
+          omega arith
 
       past : (l : List Side) (i : ℕ) → length l ≤ i → length (getD l i noSide .core .shelf) ≡ 0
       past [] i h = refl

@@ -230,7 +230,9 @@ unfolding step
 step-refusals b s x n k q = go (ready b s & hasSide (wrapperOf b) (x .side)) refl
   where
     by-number : (m j : ℕ) → (10 ≤ m) × (m ≤ 17) → refusal m j ≡ refusal n k → j ≡ x .side → (t : State) → t ≡ s → (10 ≤ n) × (n ≤ 17) × (k ≡ x .side) × (t ≡ s)
-    by-number m j w h sd t same = let e : m ≡ n = refusal-number h in (subst (λ (z : ℕ). 10 ≤ z) e (w .0), subst (λ (z : ℕ). z ≤ 17) e (w .1), sym (refusal-side h) ∙ sd, same)
+    by-number m j w h sd t same =
+        let e : m ≡ n = refusal-number h in
+        (subst (λ (z : ℕ). 10 ≤ z) e (w .0), subst (λ (z : ℕ). z ≤ 17) e (w .1), sym (refusal-side h) ∙ sd, same)
 
     by-result : (r : Res Moved) → Within r → answerOf (x .side) r ≡ refusal n k → (10 ≤ n) × (n ≤ 17) × (k ≡ x .side) × (putSide s (x .side) (sideAfter (side s (x .side)) r) ≡ s)
     by-result (refuse m) w h = by-number m (x .side) w h refl _ (put-self s (x .side))

@@ -48,7 +48,9 @@ loose-mono t k nb nb′ h (input b n vs) e = both _ _ (less b nb nb′ (fst _ _ 
 boxes-append : (k : Counts) (l : List Box) (i : ℕ) (x : Box) → wfBoxes k i l ≡ true → ltb (x .parent) (i + length l) & held k (x .name) ≡ true → wfBoxes k i (l ++ (x ∷ [])) ≡ true
 unfolding wfBoxes
 boxes-append k [] i x e h = both _ _ (alt-right _ _ (rw add-zero at h)) refl
-boxes-append k (y ∷ ys) i x e h = let q : i + suc (length ys) ≡ i + 1 + length ys = omega arith in both _ _ (fst _ _ e) (boxes-append k ys (i + 1) x (snd _ _ e) (rw q at h))
+boxes-append k (y ∷ ys) i x e h =
+    let q : i + suc (length ys) ≡ i + 1 + length ys = omega arith in
+    both _ _ (fst _ _ e) (boxes-append k ys (i + 1) x (snd _ _ e) (rw q at h))
 
 pub record ContentsFit (t : Table) (k : Counts) (s : Contents) : Type 0 where
   pub boxes : wfBoxes k 0 (s .boxes) ≡ true
@@ -64,8 +66,13 @@ inp-ok t k nb b n ρ a l h kn tm sc ln vs ft =
 pub grows : (i : ℕ) (a : Term) (ρ : Env) (b : ℕ) (s : Contents) → (s .minted ≤ unfolds i a ρ b s .minted) × (length (s .boxes) ≤ length (unfolds i a ρ b s .boxes))
 unfolding unfolds
 grows i (nil n) ρ b s = (omega arith, omega arith)
-grows i (par n l r) ρ b s = let p = grows i l ρ b s in let q = grows i r ρ b (unfolds i l ρ b s) in (omega arith, omega arith)
-grows i (box n x a) ρ b s = let p = grows i a ρ (length (s .boxes)) (addBox s (word ρ x) b) in (p .0, omega (arith, p .1, length-append (s .boxes) (record { name = word ρ x; parent = b } ∷ [])))
+grows i (par n l r) ρ b s =
+    let p = grows i l ρ b s in
+    let q = grows i r ρ b (unfolds i l ρ b s) in
+    (omega arith, omega arith)
+grows i (box n x a) ρ b s =
+    let p = grows i a ρ (length (s .boxes)) (addBox s (word ρ x) b) in
+    (p .0, omega (arith, p .1, length-append (s .boxes) (record { name = word ρ x; parent = b } ∷ [])))
 grows i (new n x a) ρ b s = let p = grows i a (extend ρ (x ∷ []) (((65536 * i + s .minted) ∷ []) ∷ [])) b (mint s) in (omega (arith, p .0), p .1)
 grows i (out n c g v) ρ b s = (omega arith, omega arith)
 grows i (inp n r c g p a) ρ b s = (omega arith, omega arith)

@@ -206,7 +206,10 @@ module _ (b : Composition) (s : State) where
       omega (arith, positive (r .0) (r .1) .0, t .2)
 
   pub own-low : (w : ℕ) → T (mem w (map ownName (wrapperOf b .sides))) → (81 ≤ w) × (w ≤ 88)
-  own-low w h = let r = map-out ownName (wrapperOf b .sides) w h in let p = positive (r .0) (which (b .wrapper) (r .0) (r .1)) in (omega (arith, p .0, r .2), omega (arith, p .1, r .2))
+  own-low w h =
+      let r = map-out ownName (wrapperOf b .sides) w h in
+      let p = positive (r .0) (which (b .wrapper) (r .0) (r .1)) in
+      (omega (arith, p .0, r .2), omega (arith, p .1, r .2))
 
   pub known-where : (w : ℕ) → In (knownOf s) w → (w < 81) ⊎ (T (mem w (mintedOf s)) × (known s w ≡ true))
   unfolding knownOf

@@ -115,7 +115,10 @@ module _ (b : Composition) (s : State) (e : ready b s ≡ true) where
 
   send-pure : {x : ℕ} {o : Tag ℕ} {v : Val ℕ} {w : Participants Mark} {R : Proc Mark []} → Trans (knownOf s) (process (confOf b s)) (send x o v) w R → PureLabel b (send x o v)
   unfolding Complete
-  send-pure {x} {o} {v} {w} {R} d = let c = complete b s (send x o v) w R e d tt in let k = c .0 .0 in ⊎-elim (λ m. said m) (λ r. absurd (no-excuse (r .2) refl (asks-kind (c .0 .2)))) (c .1 k (c .0 .1) (c .0 .2))
+  send-pure {x} {o} {v} {w} {R} d =
+      let c = complete b s (send x o v) w R e d tt in
+      let k = c .0 .0 in
+      ⊎-elim (λ m. said m) (λ r. absurd (no-excuse (r .2) refl (asks-kind (c .0 .2)))) (c .1 k (c .0 .1) (c .0 .2))
 
   by-label : (l : Label) (w : Participants Mark) (R : Proc Mark []) → Trans (knownOf s) (process (confOf b s)) l w R → PureLabel b l
   by-label tau w R d = pure-tau

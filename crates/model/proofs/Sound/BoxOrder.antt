@@ -191,7 +191,9 @@ module _ (b : Composition) (s : State) (e : ready b s ≡ true) where
           (alt _ _ (known-held b s e (mintOf n m) q (r .0))))
         where
           bad : mintSide (mintOf n m) ≡ n → serial (mintOf n m) ≡ m → serial (mintOf n m) < countOf (counts s) (mintSide (mintOf n m)) → ⊥
-          bad u v z = let y : m < side s n .core .contents .minted = subst (λ (i : ℕ). m < i) (count-is s n) (subst₂ (λ (i k : ℕ). i < countOf (counts s) k) v u z) in omega (arith, l, y)
+          bad u v z =
+              let y : m < side s n .core .contents .minted = subst (λ (i : ℕ). m < i) (count-is s n) (subst₂ (λ (i k : ℕ). i < countOf (counts s) k) v u z) in
+              omega (arith, l, y)
 
   -- what stands beside a side
   pub away-side : {M : Type 0} (mk : Mark → M) (me other : ℕ) (w : Wrapper) (T : Table) (c : Core) → ((j k : ℕ) → eqb (siteOf me k) (siteOf other j) ≡ false) → ((k : ℕ) → eqb (siteOf me k) 0 ≡ false) → Away me (sideItems mk w other T c)
@@ -337,7 +339,9 @@ module _ (b : Composition) (s : State) (e : ready b s ≡ true) where
         z k = site-0 n k p1
 
         beside : (m : ℕ) → hasSide (wrapperOf b) m ≡ true → (m ≡ n → ⊥) → Away n (sideItems ids (wrapperOf b) m (table b m) (side s m .core))
-        beside m q ne = let r = positive m (which (b .wrapper) m q) in away-side ids n m (wrapperOf b) (table b m) (side s m .core) (λ j k. sites n m k j p1 p8 (r .0) (omega (arith, r .1)) (λ w. ne (sym w))) z
+        beside m q ne =
+            let r = positive m (which (b .wrapper) m q) in
+            away-side ids n m (wrapperOf b) (table b m) (side s m .core) (λ j k. sites n m k j p1 p8 (r .0) (omega (arith, r .1)) (λ w. ne (sym w))) z
 
         away-Y : Away n (SY b s e n h)
         away-Y = away-Y′ (λ m q. beside m (in-sidesY m q) (S .off-Y m q))

@@ -36,7 +36,10 @@ says-inv (says-out {v = v} e h) = (v, e, h, refl)
 -- a value without strange names
 some-app : (f : ℕ → Bool) (l m : List ℕ) → someName f (l ++ m) ≡ false → (someName f l ≡ false) × (someName f m ≡ false)
 some-app f [] m e = (refl, e)
-some-app f (x ∷ l) m e = let a = or-none (f x) (someName f (l ++ m)) e in let r = some-app f l m (a .1) in (ap₂ (λ (p q : Bool). p || q) (a .0) (r .0), r .1)
+some-app f (x ∷ l) m e =
+    let a = or-none (f x) (someName f (l ++ m)) e in
+    let r = some-app f l m (a .1) in
+    (ap₂ (λ (p q : Bool). p || q) (a .0) (r .0), r .1)
 
 mutual
   pub none-all : (f : ℕ → Bool) (v : Val ℕ) → someName f (names v) ≡ false → AllV v (λ x. f x ≡ false)

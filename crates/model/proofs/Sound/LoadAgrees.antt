@@ -187,7 +187,9 @@ module _ (ts : List Table) where
 
   -- what load gives
   pub one-agrees : (s : State) → load b1 ≡ ok s → plainly (process (confOf b1 s)) ≋ W1 tt P1
-  one-agrees s e = let a = load-checked b1 (ap isOk e) 1 refl in subst (λ (t : State). plainly (process (confOf b1 t)) ≋ W1 tt P1) (load-state b1 s e) (filter (ap isOk e) (a .0) (a .1))
+  one-agrees s e =
+      let a = load-checked b1 (ap isOk e) 1 refl in
+      subst (λ (t : State). plainly (process (confOf b1 t)) ≋ W1 tt P1) (load-state b1 s e) (filter (ap isOk e) (a .0) (a .1))
 
   pub two-agrees : (s : State) → load b2 ≡ ok s → plainly (process (confOf b2 s)) ≋ W2 tt P1 P2
   two-agrees s e =

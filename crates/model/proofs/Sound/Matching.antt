@@ -122,7 +122,9 @@ does-tuple p ps ih t n (w ∷ ws) fit e ip iv di = go (eqb w p) refl
 does-other : (p : ℕ) (ps : List ℕ) → Does ps → isTuple p ≡ false → (n : ℕ) (v : List ℕ) (fit : Fit) → matches (p ∷ ps) (suc n) v ≡ done fit → items isPatternLeaf 5 (p ∷ ps) (suc n) ≡ done [] →
     items isName 11 v (suc n) ≡ done [] → distinct (binders (p ∷ ps)) ≡ true → Matched (p ∷ ps) (suc n) v (fit .bound)
 unfolding matches
-does-other p ps ih t n v fit e ip iv di = let fr = first-rest v n iv in go (isPublic p) refl fr (leafy (isPatternLeaf p) refl) (ap (λ (x : List ℕ). reads x (suc n)) (fr .0) ∙ value-front (firstOf v) (restOf v) n (fr .1))
+does-other p ps ih t n v fit e ip iv di =
+    let fr = first-rest v n iv in
+    go (isPublic p) refl fr (leafy (isPatternLeaf p) refl) (ap (λ (x : List ℕ). reads x (suc n)) (fr .0) ∙ value-front (firstOf v) (restOf v) n (fr .1))
   where
     leafy : (b : Bool) → isPatternLeaf p ≡ b → items isPatternLeaf 5 ps n ≡ done []
     leafy true q = sym (items-leaf isPatternLeaf 5 p ps n q) ∙ ip
@@ -218,5 +220,8 @@ env-pat ρ p v bs l ip m = fun-ext (λ n. go n (ltb n 64) refl)
     go n false q = off (m .σ) (find (patOf p) n) (no (has n (binders p)) (find-has p n ip) refl)
       where
         no : (c : Bool) → isSome (find (patOf p) n) ≡ has n (binders p) → has n (binders p) ≡ c → isSome (find (patOf p) n) ≡ false
-        no true a h = let z = leb-true n 63 (has-public p n h) in let y = ltb-false n 64 q in absurd (omega arith)
+        no true a h =
+            let z = leb-true n 63 (has-public p n h) in
+            let y = ltb-false n 64 q in
+            absurd (omega arith)
         no false a h = a ∙ h

@@ -75,7 +75,10 @@ module _ (b : Composition) (s : State) (e : ready b s ≡ true) (vw : View b s) 
   zero-in = low-in b s 0 (omega arith)
 
   pub differ : (i j β ch : ℕ) (g : STag) (v : List ℕ) (γ n : ℕ) (vs : List (List ℕ)) → getElem? (vw .core .contents .particles) i ≡ some (output β ch g v) → getElem? (vw .core .contents .particles) j ≡ some (input γ n vs) → i ≡ j → ⊥
-  differ i j β ch g v γ n vs p q r = let z : some (output β ch g v) ≡ some (input γ n vs) = sym p ∙ ap (getElem? (vw .core .contents .particles)) r ∙ q in let y : _≡_ {A = ℕ} 0 1 = cc in omega arith
+  differ i j β ch g v γ n vs p q r =
+      let z : some (output β ch g v) ≡ some (input γ n vs) = sym p ∙ ap (getElem? (vw .core .contents .particles)) r ∙ q in
+      let y : _≡_ {A = ℕ} 0 1 = cc in
+      omega arith
 
   module _ (i j β ch : ℕ) (g : STag) (v : List ℕ) (n : ℕ) (vs : List (List ℕ)) (gp : getElem? (vw .core .contents .particles) i ≡ some (output β ch g v)) (gq : getElem? (vw .core .contents .particles) j ≡ some (input β n vs))
       (node : InputAt (vw .c .table) n) (wp : wfParticle (vw .c .table) (counts s) (length (vw .core .contents .boxes)) (output β ch g v) ≡ true)

@@ -103,7 +103,9 @@ module _ (b : Composition) (s : State) (e : ready b s ≡ true) (k : Step) (h : 
       is-one = eq-eqb (k .kind) 1 k1
 
       checked : enter (known s) (side s (k .side) .core) (k .words) ≡ done m → known s z ≡ true
-      checked en = let a = need-done _ _ _ _ en in let c = need-done _ _ _ _ (a .1) in
+      checked en =
+          let a = need-done _ _ _ _ en in
+          let c = need-done _ _ _ _ (a .1) in
           ⊎-elim (λ p. absurd (false≢true (sym (ap not mi) ∙ p))) (λ p. p) (alt _ _ (every-mem (λ w. not (isMinted w) or known s w) (k .words) z (c .0) i))
 
   -- a label, by the result
@@ -146,7 +148,9 @@ module _ (b : Composition) (s : State) (e : ready b s ≡ true) (k : Step) (h : 
       (or-cases (eqb z (wrapperOf b .inlet n)) (mem z (names (sy .0))) (subst (λ (y : Label). In (lnames y) z) (sy .3) i)))
     where
       by-words : (z : ℕ) → In (names (sy .0)) z → isMinted z ≡ true → known s z ≡ true
-      by-words z i mi = let a = asked (subst (Asks k) (sy .3) ask) in entered-known m q (a .0) z (subst T (names-words z (minted-range z mi .1) (sy .0) ∙ ap (mem z) (sym (a .1))) i) mi
+      by-words z i mi =
+          let a = asked (subst (Asks k) (sy .3) ask) in
+          entered-known m q (a .0) z (subst T (names-words z (minted-range z mi .1) (sy .0) ∙ ap (mem z) (sym (a .1))) i) mi
   by-label m q l ask r leaves ey sy = subst (Grows (after m)) (sym (sy .3)) (λ z. (out-of-left m r ey (sy .0) (sy .1) z, into-left m r ey (sy .0) (sy .1) (sy .2) z))
 
 pub names-grow : NamesGrow

@@ -36,13 +36,28 @@ place-own x w p q e = ⊎-elim
     range l h x a = (leb-true l x (fst _ _ a), leb-true x h (snd _ _ a))
 
     low : (x w : ℕ) → (65536 ≤ x) × (x ≤ 65791) → (65536 ≤ w) × (w ≤ 65791) → markOf x ≡ markOf w → x ≡ w
-    low x w a b e = let a0 = a .0 in let a1 = a .1 in let b0 = b .0 in let b1 = b .1 in omega arith
+    low x w a b e =
+        let a0 = a .0 in
+        let a1 = a .1 in
+        let b0 = b .0 in
+        let b1 = b .1 in
+        omega arith
 
     high : (x w : ℕ) → (131072 ≤ x) × (x ≤ 131327) → (131072 ≤ w) × (w ≤ 131327) → markOf x ≡ markOf w → x ≡ w
-    high x w a b e = let a0 = a .0 in let a1 = a .1 in let b0 = b .0 in let b1 = b .1 in omega arith
+    high x w a b e =
+        let a0 = a .0 in
+        let a1 = a .1 in
+        let b0 = b .0 in
+        let b1 = b .1 in
+        omega arith
 
     apart : (x w : ℕ) → (65536 ≤ x) × (x ≤ 65791) → (131072 ≤ w) × (w ≤ 131327) → markOf x ≡ markOf w → ⊥
-    apart x w a b e = let a0 = a .0 in let a1 = a .1 in let b0 = b .0 in let b1 = b .1 in omega arith
+    apart x w a b e =
+        let a0 = a .0 in
+        let a1 = a .1 in
+        let b0 = b .0 in
+        let b1 = b .1 in
+        omega arith
 
 place-low : (x : ℕ) → isMinted x ≡ true → markOf x < 512
 place-low x p = ⊎-elim

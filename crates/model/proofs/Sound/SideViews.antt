@@ -219,7 +219,9 @@ module _ (b : Composition) (s : State) (e : ready b s ≡ true) (n : ℕ) (h : h
   by-side k l P p r m = go (eqb m n) refl
     where
       go : (t : Bool) → eqb m n ≡ t → P (side (with-side k l) m) (side s m)
-      go true q = let z : n ≡ m = sym (eqb-true m n q) in subst (λ (i : ℕ). P (side (with-side k l) i) (side s i)) z (subst (λ (o : Side). P o (side s n)) (sym (at-n k l)) p)
+      go true q =
+          let z : n ≡ m = sym (eqb-true m n q) in
+          subst (λ (i : ℕ). P (side (with-side k l) i) (side s i)) z (subst (λ (o : Side). P o (side s n)) (sym (at-n k l)) p)
       go false q = subst (λ (o : Side). P o (side s m)) (sym (off-n k l m (λ z. false≢true (sym q ∙ eq-eqb m n z)))) (r (side s m))
 
   pub gone-same : (k : Core) (l : List Bool) → k .taken ≡ side s n .core .taken → (m : ℕ) → isGone (with-side k l) m ≡ isGone s m
@@ -311,7 +313,9 @@ module _ (b : Composition) (s : State) (e : ready b s ≡ true) (n : ℕ) (h : h
   not-gone l = go (isGone s n (length (side s n .core .shelf))) refl
     where
       go : (t : Bool) → isGone s n (length (side s n .core .shelf)) ≡ t → t ≡ false
-      go true q = let (j, a, r) = one-get (λ o. hasTaken (o .core) n (length (side s n .core .shelf))) (s .sides) noSide q in absurd (no-mark b s e n (length (side s n .core .shelf)) pos l (λ z. omega (arith, z)) j a r)
+      go true q =
+          let (j, a, r) = one-get (λ o. hasTaken (o .core) n (length (side s n .core .shelf))) (s .sides) noSide q in
+          absurd (no-mark b s e n (length (side s n .core .shelf)) pos l (λ z. omega (arith, z)) j a r)
       go false q = refl
 
   pub box-in : (j : ℕ) (x : Box) → getElem? (side s n .core .contents .boxes) j ≡ some x → Has (placeOf ids n j x) (confOf b s .boxes)

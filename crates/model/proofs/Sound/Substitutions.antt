@@ -116,5 +116,9 @@ env-new ρ x w l p s = fun-ext (λ n. go n (ltb n 64) refl (eqb x n) refl)
     go : (n : ℕ) (b : Bool) → ltb n 64 ≡ b → (c : Bool) → eqb x n ≡ c → cond b (valOf (value (extend ρ (x ∷ []) ((w ∷ []) ∷ [])) n)) (nm 0) ≡ valueOr {B = Unit {0}} (λ z. nm w) (cond c (some tt) none) (cond b (valOf (value ρ n)) (nm 0))
     go n true q true r = ap valOf (look-append (ρ .names) (ρ .vals) (x ∷ []) ((w ∷ []) ∷ []) n (n ∷ []) l ∙ ap (λ (t : Bool). cond t (w ∷ []) (value ρ n)) r) ∙ as-name
     go n true q false r = ap valOf (look-append (ρ .names) (ρ .vals) (x ∷ []) ((w ∷ []) ∷ []) n (n ∷ []) l ∙ ap (λ (t : Bool). cond t (w ∷ []) (value ρ n)) r)
-    go n false q true r = let a = leb-true x 63 p in let b = eqb-true x n r in let c = ltb-false n 64 q in absurd (omega arith)
+    go n false q true r =
+        let a = leb-true x 63 p in
+        let b = eqb-true x n r in
+        let c = ltb-false n 64 q in
+        absurd (omega arith)
     go n false q false r = refl

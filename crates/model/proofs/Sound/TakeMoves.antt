@@ -52,8 +52,12 @@ pub record MapAt (rs : List Route) (r : Route) : Type 0 where
 
 pub map-get : (rs : List Route) (k : ℕ) (r : Route) → getElem? rs k ≡ some r → MapAt rs r
 map-get [] k r e = absurd (let z : _≡_ {A = ℕ} 0 1 = cc in omega arith)
-map-get (q ∷ rs) zero r e = let z : q ≡ r = cc in record { A = []; B = map (taking (λ (m : Mark). m)) rs; is = ap (λ (x : Route). taking (λ (m : Mark). m) x ∷ map (taking (λ (m : Mark). m)) rs) z }
-map-get (q ∷ rs) (suc k) r e = let t = map-get rs k r e in record { A = taking (λ (m : Mark). m) q ∷ t .A; B = t .B; is = ap (λ (l : List (Item Mark)). taking (λ (m : Mark). m) q ∷ l) (t .is) }
+map-get (q ∷ rs) zero r e =
+    let z : q ≡ r = cc in
+    record { A = []; B = map (taking (λ (m : Mark). m)) rs; is = ap (λ (x : Route). taking (λ (m : Mark). m) x ∷ map (taking (λ (m : Mark). m)) rs) z }
+map-get (q ∷ rs) (suc k) r e =
+    let t = map-get rs k r e in
+    record { A = taking (λ (m : Mark). m) q ∷ t .A; B = t .B; is = ap (λ (l : List (Item Mark)). taking (λ (m : Mark). m) q ∷ l) (t .is) }
 
 -- one side alone takes
 pub sole : (w n k : ℕ) → takesAny (described w) n ≡ true → takesAny (described w) k ≡ true → n ≡ k

@@ -38,7 +38,11 @@ ended-requires : tie.Need-ended-requires Inv-loop μ-loop
 ended-requires c κs = search needs
 
 returns-2 : tie.Need-returns-2 Inv-loop μ-loop
-returns-2 c = let a = c .before .before .before .before .before .before .before .args in let l = c .before .before .before .loop in let x = l .inv .3 in let f = c .before .before .find in
+returns-2 c =
+    let a = c .before .before .before .before .before .before .before .args in
+    let l = c .before .before .before .loop in
+    let x = l .inv .3 in
+    let f = c .before .before .find in
     no-newline (a .input .now) (l .at) _ (f .result) (l .n) (x .0) (search needs) (search needs) (f .ensures .0) (x .3) (c .before .if2 .taken) _ (l .places) _ _ (x .1) (x .2) (c .ended .ensures)
 
 line-at-requires : tie.Need-line-at-requires Inv-loop μ-loop
@@ -48,8 +52,10 @@ on-line-requires : tie.Need-on-line-requires Inv-loop μ-loop
 on-line-requires c κs = let x = c .before .before .before .before .before .before .loop .inv .3 in subst Inside (sym (x .1)) (x .2 .inside)
 
 returns-3 : tie.Need-returns-3 Inv-loop μ-loop
-returns-3 c = let a = c .before .before .before .before .before .before .before .before .before .before .before .before .before .before .args in
-    let l = c .before .before .before .before .before .before .before .before .before .before .loop in let x = l .inv .3 in
+returns-3 c =
+    let a = c .before .before .before .before .before .before .before .before .before .before .before .before .before .before .args in
+    let l = c .before .before .before .before .before .before .before .before .before .before .loop in
+    let x = l .inv .3 in
     let f = c .before .before .before .before .before .before .before .before .before .find in
     let g : f .result < length (a .input .now) = omega (arith, f .ensures .1, c .before .before .before .before .before .before .before .before .if2 .left) in
     let o = c .before .before .before .on-line in
@@ -66,16 +72,19 @@ loop-less : tie.Need-loop-less Inv-loop μ-loop
 loop-less c = search needs
 
 loop-again : tie.Need-loop-again Inv-loop μ-loop
-loop-again c = let a = c .before .before .before .before .before .before .before .before .before .before .before .before .before .before .args in
-    let l = c .before .before .before .before .before .before .before .before .before .before .loop in let x = l .inv .3 in
+loop-again c =
+    let a = c .before .before .before .before .before .before .before .before .before .before .before .before .before .before .args in
+    let l = c .before .before .before .before .before .before .before .before .before .before .loop in
+    let x = l .inv .3 in
     let f = c .before .before .before .before .before .before .before .before .before .find in
     let g : f .result < length (a .input .now) = omega (arith, f .ensures .1, c .before .before .before .before .before .before .before .before .if2 .left) in
     let o = c .before .before .before .on-line in (
       l .inv .0,
       omega (arith, g),
       omega (arith, f .ensures .0, l .inv .2),
-      line-taken (a .input .now) (l .at) _ (f .result) (l .n) (x .0) (search needs) (search needs) (f .ensures .0) (x .3) g (c .before .before .before .before .before .before .before .line-at .result)
-          (o .result) _ _ (c .before .before .before .before .before .before .before .line-at .ensures) (o .ensures (x .0) _ (x .1) (x .2)) (not-false _ (c .if3 .left)),
+      line-taken (a .input .now) (l .at) _ (f .result) (l .n) (x .0) (search needs) (search needs) (f .ensures .0) (x .3) g
+          (c .before .before .before .before .before .before .before .line-at .result) (o .result) _ _ (c .before .before .before .before .before .before .before .line-at .ensures)
+          (o .ensures (x .0) _ (x .1) (x .2)) (not-false _ (c .if3 .left)),
     )
 
 pub read-spec : {M : Type 1} → statement M

@@ -31,28 +31,56 @@ loop-holds : tie.Need-loop-holds Inv-loop μ-loop
 loop-holds c = (search needs, refl, λ j h. absurd (omega arith))
 
 mul-from : tie.Need-mul-from Inv-loop μ-loop
-mul-from c = let s = c .before .before .before in let l = c .before .loop in let i = part-inside (s .args .wide) (l .k) (length allSides) _ _ (c .loop-test .taken) (s .pre .0) (s .pre .1 (l .k)) in search (needs, i)
+mul-from c =
+    let s = c .before .before .before in
+    let l = c .before .loop in
+    let i = part-inside (s .args .wide) (l .k) (length allSides) _ _ (c .loop-test .taken) (s .pre .0) (s .pre .1 (l .k)) in
+    search (needs, i)
 
 mul-to : tie.Need-mul-to Inv-loop μ-loop
-mul-to c = let s = c .before .before .before in let l = c .before .loop in let i = part-inside (s .args .wide) (l .k) (length allSides) _ _ (c .loop-test .taken) (s .pre .0) (s .pre .1 (l .k)) in search (needs, i)
+mul-to c =
+    let s = c .before .before .before in
+    let l = c .before .loop in
+    let i = part-inside (s .args .wide) (l .k) (length allSides) _ _ (c .loop-test .taken) (s .pre .0) (s .pre .1 (l .k)) in
+    search (needs, i)
 
 array-read-to : tie.Need-array-read-to Inv-loop μ-loop
 array-read-to c = search needs
 
 add-to : tie.Need-add-to Inv-loop μ-loop
-add-to c = let s = c .before .before .before in let l = c .before .loop in let i = part-inside (s .args .wide) (l .k) (length allSides) _ _ (c .loop-test .taken) (s .pre .0) (s .pre .1 (l .k)) in search (needs, i)
+add-to c =
+    let s = c .before .before .before in
+    let l = c .before .loop in
+    let i = part-inside (s .args .wide) (l .k) (length allSides) _ _ (c .loop-test .taken) (s .pre .0) (s .pre .1 (l .k)) in
+    search (needs, i)
 
 mul-all : tie.Need-mul-all Inv-loop μ-loop
-mul-all c = let s = c .before .before .before in let l = c .before .loop in let i = part-inside (s .args .wide) (l .k) (length allSides) _ _ (c .loop-test .taken) (s .pre .0) (s .pre .1 (l .k)) in search (needs, i)
+mul-all c =
+    let s = c .before .before .before in
+    let l = c .before .loop in
+    let i = part-inside (s .args .wide) (l .k) (length allSides) _ _ (c .loop-test .taken) (s .pre .0) (s .pre .1 (l .k)) in
+    search (needs, i)
 
 sub-all-2 : tie.Need-sub-all-2 Inv-loop μ-loop
-sub-all-2 c = let s = c .before .before .before in let l = c .before .loop in let i = part-inside (s .args .wide) (l .k) (length allSides) _ _ (c .loop-test .taken) (s .pre .0) (s .pre .1 (l .k)) in search (needs, i)
+sub-all-2 c =
+    let s = c .before .before .before in
+    let l = c .before .loop in
+    let i = part-inside (s .args .wide) (l .k) (length allSides) _ _ (c .loop-test .taken) (s .pre .0) (s .pre .1 (l .k)) in
+    search (needs, i)
 
 part-all-start-2 : tie.Need-part-all-start-2 Inv-loop μ-loop
-part-all-start-2 c = let s = c .before .before .before in let l = c .before .loop in let i = part-inside (s .args .wide) (l .k) (length allSides) _ _ (c .loop-test .taken) (s .pre .0) (s .pre .1 (l .k)) in search (needs, i)
+part-all-start-2 c =
+    let s = c .before .before .before in
+    let l = c .before .loop in
+    let i = part-inside (s .args .wide) (l .k) (length allSides) _ _ (c .loop-test .taken) (s .pre .0) (s .pre .1 (l .k)) in
+    search (needs, i)
 
 part-all-end-2 : tie.Need-part-all-end-2 Inv-loop μ-loop
-part-all-end-2 c = let s = c .before .before .before in let l = c .before .loop in let i = part-inside (s .args .wide) (l .k) (length allSides) _ _ (c .loop-test .taken) (s .pre .0) (s .pre .1 (l .k)) in search (needs, i)
+part-all-end-2 c =
+    let s = c .before .before .before in
+    let l = c .before .loop in
+    let i = part-inside (s .args .wide) (l .k) (length allSides) _ _ (c .loop-test .taken) (s .pre .0) (s .pre .1 (l .k)) in
+    search (needs, i)
 
 mul-all-2 : tie.Need-mul-all-2 Inv-loop μ-loop
 mul-all-2 c = search needs
@@ -67,13 +95,16 @@ loop-less : tie.Need-loop-less Inv-loop μ-loop
 loop-less c = search needs
 
 loop-again : tie.Need-loop-again Inv-loop μ-loop
-loop-again c = let s = c .before .before .before .before in let l = c .before .before .loop in let n : length (l .all) ≡ length allSides = sym (length-map (l .all) now) ∙ l .inv .1 in (
-  search needs,
-  length-map (set (l .all) (l .k) _) now ∙ length-set (l .all) (l .k) _ ∙ n,
-  λ j h. ap (λ (x : List (List ℕ)). getD x j []) (map-set now (l .all) (l .k) _)
-      ∙ part-more (map now (l .all)) (l .k) _ (λ (x : ℕ). take (getD (s .args .t3) x 0) (drop (s .args .wide * x) (s .args .list .now))) (omega (arith, l .inv .1, c .before .loop-test .taken))
-      (part-size (s .args .wide * l .k) (getD (s .args .t3) (l .k) 0) _) (l .inv .2) j h,
-)
+loop-again c =
+    let s = c .before .before .before .before in
+    let l = c .before .before .loop in
+    let n : length (l .all) ≡ length allSides = sym (length-map (l .all) now) ∙ l .inv .1 in (
+      search needs,
+      length-map (set (l .all) (l .k) _) now ∙ length-set (l .all) (l .k) _ ∙ n,
+      λ j h. ap (λ (x : List (List ℕ)). getD x j []) (map-set now (l .all) (l .k) _)
+          ∙ part-more (map now (l .all)) (l .k) _ (λ (x : ℕ). take (getD (s .args .t3) x 0) (drop (s .args .wide * x) (s .args .list .now))) (omega (arith, l .inv .1, c .before .loop-test .taken))
+          (part-size (s .args .wide * l .k) (getD (s .args .t3) (l .k) 0) _) (l .inv .2) j h,
+    )
 
 returns : tie.Need-returns Inv-loop μ-loop
 returns c = let l = c .before .loop in (l .inv .1, λ k h. l .inv .2 k (omega (arith, h, c .loop-test .left)))

@@ -11,7 +11,9 @@ on-w-requires : tie.Need-on-w-requires
 on-w-requires c κs = search needs
 
 returns-2 : tie.Need-returns-2
-returns-2 c = let a = c .before .before .before .before .args in λ i old e h. by-letter i _ (a .l .len) (a .l .words) old _ _ (c .before .before .if1 .left) _ (letter-w i _ _ (c .before .if2 .taken)) (c .on-w .ensures i old _ e h)
+returns-2 c =
+    let a = c .before .before .before .before .args in
+    λ i old e h. by-letter i _ (a .l .len) (a .l .words) old _ _ (c .before .before .if1 .left) _ (letter-w i _ _ (c .before .if2 .taken)) (c .on-w .ensures i old _ e h)
 
 on-n-requires : tie.Need-on-n-requires
 on-n-requires c κs = c .before .before .before .before .before .pre

@@ -20,7 +20,10 @@ enum-told : tie.Need-enum-told
 enum-told c = search needs
 
 returns : tie.Need-returns
-returns c = let s = c .before .before .before in let a = s .args in let w : length (a .l .words) ≡ 21 = search (needs, s .good) in
+returns c =
+    let s = c .before .before .before in
+    let a = s .args in
+    let w : length (a .l .words) ≡ 21 = search (needs, s .good) in
     λ i old x y e h. v-nowhere i (a .t2) old _ e h (a .l .len) (a .l .words) w (no-side _ _ _ (c .before .before .side-named .ensures) (c .enum-told .given .1))
 
 mul-at : tie.Need-mul-at
@@ -30,31 +33,48 @@ element-copy-out-at : tie.Need-element-copy-out-at
 element-copy-out-at c = let f = a-side 3 2 _ _ _ _ (c .before .before .before .side-named .ensures) (c .before .side .given .1) in omega (arith, f .place)
 
 returns-2 : tie.Need-returns-2
-returns-2 c = let s = c .before .before .before .before .before .before in let a = s .args in let w : length (a .l .words) ≡ 21 = search (needs, s .good) in
-    let f = a-side 3 2 _ _ _ _ (c .before .before .before .before .before .side-named .ensures) (c .before .before .before .side .given .1) in λ i old x y e h. v-no-room i (a .t2) old _ e h (a .l .len) (a .l .words) w _ f (c .if1 .taken)
+returns-2 c =
+    let s = c .before .before .before .before .before .before in
+    let a = s .args in
+    let w : length (a .l .words) ≡ 21 = search (needs, s .good) in
+    let f = a-side 3 2 _ _ _ _ (c .before .before .before .before .before .side-named .ensures) (c .before .before .before .side .given .1) in
+    λ i old x y e h. v-no-room i (a .t2) old _ e h (a .l .len) (a .l .words) w _ f (c .if1 .taken)
 
 mul-store : tie.Need-mul-store
-mul-store c = let f = a-side 3 2 _ _ _ _ (c .before .before .before .before .before .before .side-named .ensures) (c .before .before .before .before .side .given .1) in omega (arith, f .place)
+mul-store c =
+    let f = a-side 3 2 _ _ _ _ (c .before .before .before .before .before .before .side-named .ensures) (c .before .before .before .before .side .given .1) in
+    omega (arith, f .place)
 
 add-store : tie.Need-add-store
-add-store c = let f = a-side 3 2 _ _ _ _ (c .before .before .before .before .before .before .side-named .ensures) (c .before .before .before .before .side .given .1) in omega (arith, f .place, c .before .if1 .left)
+add-store c =
+    let f = a-side 3 2 _ _ _ _ (c .before .before .before .before .before .before .side-named .ensures) (c .before .before .before .before .side .given .1) in
+    omega (arith, f .place, c .before .if1 .left)
 
 store-requires : tie.Need-store-requires
-store-requires c κs = let f = a-side 3 2 _ _ _ _ (c .before .before .before .before .before .before .side-named .ensures) (c .before .before .before .before .side .given .1) in
-    let s = c .before .before .before .before .before .before .before in let n : length (s .args .pools .now) ≡ 1025 * length allSides = search (needs, s .good) in
+store-requires c κs =
+    let f = a-side 3 2 _ _ _ _ (c .before .before .before .before .before .before .side-named .ensures) (c .before .before .before .before .side .given .1) in
+    let s = c .before .before .before .before .before .before .before in
+    let n : length (s .args .pools .now) ≡ 1025 * length allSides = search (needs, s .good) in
     (search needs, search needs, omega (arith, f .place, c .before .if1 .left, n))
 
 add-p : tie.Need-add-p
 add-p c = search needs
 
 mul-p : tie.Need-mul-p
-mul-p c = let f = a-side 3 2 _ _ _ _ (c .before .before .before .before .before .before .before .side-named .ensures) (c .before .before .before .before .before .side .given .1) in omega (arith, f .place)
+mul-p c =
+    let f = a-side 3 2 _ _ _ _ (c .before .before .before .before .before .before .before .side-named .ensures) (c .before .before .before .before .before .side .given .1) in
+    omega (arith, f .place)
 
 element-write-p : tie.Need-element-write-p
-element-write-p c = let f = a-side 3 2 _ _ _ _ (c .before .before .before .before .before .before .before .side-named .ensures) (c .before .before .before .before .before .side .given .1) in omega (arith, f .place)
+element-write-p c =
+    let f = a-side 3 2 _ _ _ _ (c .before .before .before .before .before .before .before .side-named .ensures) (c .before .before .before .before .before .side .given .1) in
+    omega (arith, f .place)
 
 returns-3 : tie.Need-returns-3
-returns-3 c = let s = c .before .before .before .before .before .before .before .before in let a = s .args in let w : length (a .l .words) ≡ 21 = search (needs, s .good) in
+returns-3 c =
+    let s = c .before .before .before .before .before .before .before .before in
+    let a = s .args in
+    let w : length (a .l .words) ≡ 21 = search (needs, s .good) in
     let f = a-side 3 2 _ _ _ _ (c .before .before .before .before .before .before .before .side-named .ensures) (c .before .before .before .before .before .side .given .1) in
     λ i old x y e h. v-taken i (a .t2) old _ e h (a .l .len) (a .l .words) w _ f (c .before .before .if1 .left) _ (c .store .ensures)
 

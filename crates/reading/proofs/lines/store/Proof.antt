@@ -39,7 +39,10 @@ loop-less : tie.Need-loop-less Inv-loop μ-loop
 loop-less c = search needs
 
 loop-again : tie.Need-loop-again Inv-loop μ-loop
-loop-again c = let l = c .before .before .loop in let s = c .before .before .before in let w : length (s .args .t3 .words) ≡ 21 = search (needs, s .good) in
+loop-again c =
+    let l = c .before .before .loop in
+    let s = c .before .before .before in
+    let w : length (s .args .t3 .words) ≡ 21 = search (needs, s .good) in
     (search needs, search needs, search needs, search needs, stored-more (s .args .at) (s .args .from) (l .j) (l .k) (s .args .list .now) (l .list) (s .args .t3 .words) (l .inv .0) (search needs) (l .inv .2) (l .inv .4))
 
 same-length : tie.Need-same-length Inv-loop μ-loop

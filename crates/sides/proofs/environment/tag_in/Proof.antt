@@ -11,7 +11,9 @@ returns-2 : tie.Need-returns-2
 returns-2 c = let x = c .before .before .before in tag-parent (envOf (x .args .e .now) (x .args .n)) (x .args .g) (c .if2 .taken)
 
 returns-3 : tie.Need-returns-3
-returns-3 c = let x = c .before .before .before .before in tag-child (envOf (x .args .e .now) (x .args .n)) (x .args .g) _ (c .before .before .if1 .left) (c .before .if2 .left) (c .word-in .ensures)
+returns-3 c =
+    let x = c .before .before .before .before in
+    tag-child (envOf (x .args .e .now) (x .args .n)) (x .args .g) _ (c .before .before .if1 .left) (c .before .if2 .left) (c .word-in .ensures)
 
 pub tag-in-spec : {M : Type 1} → statement M
 tag-in-spec = tie.close

@@ -11,7 +11,9 @@ slice-write-rows-3 : tie.Need-slice-write-rows-3
 slice-write-rows-3 c = simp length-set (search needs)
 
 returns : tie.Need-returns
-returns c = let x = c .before .before .before in move-stored (x .args .rows .now) _ (x .args .at) (x .args .tag) _ _ (c .before .tag-kind .ensures) (c .tag-name .ensures)
+returns c =
+    let x = c .before .before .before in
+    move-stored (x .args .rows .now) _ (x .args .at) (x .args .tag) _ _ (c .before .tag-kind .ensures) (c .tag-name .ensures)
 
 pub move-output-spec : {M : Type 1} → statement M
 move-output-spec =

@@ -4,7 +4,9 @@ use Rattle.sides.proofs.list.put_sent.Statement.{statement}
 use Rattle.sides.proofs.list.put_sent.Tie as tie
 
 put-substituted-requires : tie.Need-put-substituted-requires
-put-substituted-requires c κs = let x = c .before .before .before .before .before .before .before .before in (search needs, x .pre .3, x .pre .4, x .pre .5, x .pre .6)
+put-substituted-requires c κs =
+    let x = c .before .before .before .before .before .before .before .before in
+    (search needs, x .pre .3, x .pre .4, x .pre .5, x .pre .6)
 
 returns : tie.Need-returns
 returns c =

@@ -8,7 +8,9 @@ slice-write-r-5 : tie.Need-slice-write-r-5
 slice-write-r-5 c = simp length-set (search needs)
 
 returns : tie.Need-returns
-returns c = let x = c .before .before .before in head-stored (x .args .r .now) (x .args .at) (x .args .channel) (x .args .tag) _ _ (c .before .tag-kind .ensures) (c .tag-name .ensures)
+returns c =
+    let x = c .before .before .before in
+    head-stored (x .args .r .now) (x .args .at) (x .args .channel) (x .args .tag) _ _ (c .before .tag-kind .ensures) (c .tag-name .ensures)
 
 pub put-head-spec : {M : Type 1} → statement M
 put-head-spec =

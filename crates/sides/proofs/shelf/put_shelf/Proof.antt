@@ -4,7 +4,9 @@ use Rattle.sides.proofs.shelf.put_shelf.Statement.{statement}
 use Rattle.sides.proofs.shelf.put_shelf.Tie as tie
 
 returns : tie.Need-returns
-returns c = let x = c .before .before .before .before .before in shelf-back (x .args .rows .now) _ (x .args .i) (x .args .v) (x .pre .0) (x .pre .1) (x .pre .2) (c .before .before .put-value .ensures)
+returns c =
+    let x = c .before .before .before .before .before in
+    shelf-back (x .args .rows .now) _ (x .args .i) (x .args .v) (x .pre .0) (x .pre .1) (x .pre .2) (c .before .before .put-value .ensures)
 
 pub put-shelf-spec : {M : Type 1} → statement M
 put-shelf-spec =

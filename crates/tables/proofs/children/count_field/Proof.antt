@@ -34,7 +34,9 @@ returns-3 : tie.Need-returns-3
 returns-3 c = let a = c .before .before .before .before .args in counted-over (a .of .now) (getD (uses (a .k)) (a .f) 0) (a .w) (c .if2 .left)
 
 returns-4 : tie.Need-returns-4
-returns-4 c = let a = c .before .before .before .args in counted-none (a .of .now) (getD (uses (a .k)) (a .f) 0) (a .w) (λ q. c .if1 .left (c .before .use-of .ensures ∙ q))
+returns-4 c =
+    let a = c .before .before .before .args in
+    counted-none (a .of .now) (getD (uses (a .k)) (a .f) 0) (a .w) (λ q. c .if1 .left (c .before .use-of .ensures ∙ q))
 
 pub count-field-spec : {M : Type 1} → statement M
 count-field-spec =

@@ -20,7 +20,8 @@ same-length : tie.Need-same-length
 same-length c = search needs
 
 returns : tie.Need-returns
-returns c = let a = c .before .before .before .before .before .before .before .before .before .before .before .before .before .before .before .before .before .args in
+returns c =
+    let a = c .before .before .before .before .before .before .before .before .before .before .before .before .before .before .before .before .before .args in
     node-counted (a .of .now) _ _ _ _ (a .x) (c .before .before .before .before .before .before .before .before .before .before .before .before .before .before .count-field .ensures)
     (c .before .before .before .before .before .before .before .before .before .before .count-field2 .ensures) (c .before .before .before .before .before .before .count-field3 .ensures) (c .before .before .count-field4 .ensures)
 

@@ -19,7 +19,9 @@ names-in-requires c κs = search needs
 
 returns : tie.Need-returns
 unfolding leafOf
-returns c = let a = c .before .before .before .args in let r = c .names-in .ensures in
+returns c =
+    let a = c .before .before .before .args in
+    let r = c .names-in .ensures in
     (r .0 ∙ ap (λ (s : List ℕ). length (binders s)) (c .before .words-at .ensures), omega (arith, r .1, ap length (c .before .words-at .ensures), words-few isPatternLeaf (a .pool .now) (a .p)))
 
 pub names-at-spec : {M : Type 1} → statement M

@@ -30,8 +30,9 @@ part-distinct-in-start : tie.Need-part-distinct-in-start
 part-distinct-in-start c = search needs
 
 part-distinct-in-end : tie.Need-part-distinct-in-end
-part-distinct-in-end c = let g = words-found _ (c .before .before .before .before .before .args .pool .now) (c .before .before .before .before .before .args .p) _
-    (sym (c .before .before .before .size-at .ensures) ∙ c .before .k .given .1) in omega (arith, g)
+part-distinct-in-end c =
+    let g = words-found _ (c .before .before .before .before .before .args .pool .now) (c .before .before .before .before .before .args .p) _ (sym (c .before .before .before .size-at .ensures) ∙ c .before .k .given .1) in
+    omega (arith, g)
 
 distinct-in-requires : tie.Need-distinct-in-requires
 distinct-in-requires c κs = search needs

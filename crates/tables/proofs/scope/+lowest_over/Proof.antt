@@ -70,8 +70,9 @@ over-over-requires : (t : ℕ) → over-lts.Need-lowest-over-requires (
   names-at-reads.Asked,
   names-at-reads.Learnt,
 ) (over-at t) over.Post
-over-over-requires t c κs = let o = on-left _ _ _ (c .before .before .before .before .before .before .pre .1 .0) _ (c .before .before .before .node-at .ensures) _
-    (c .before .before .before .before .before .before .pre .0) (c .if1 .taken) in (o .0, (o .1, omega (arith, o .0), c .before .before .before .before .before .before .pre .1 .2))
+over-over-requires t c κs =
+    let o = on-left _ _ _ (c .before .before .before .before .before .before .pre .1 .0) _ (c .before .before .before .node-at .ensures) _ (c .before .before .before .before .before .before .pre .0) (c .if1 .taken) in
+    (o .0, (o .1, omega (arith, o .0), c .before .before .before .before .before .before .pre .1 .2))
 
 over-over-requires-2 : (t : ℕ) → over-lts.Need-lowest-over-requires-2 (
   node-at-reads.Asked,
@@ -85,8 +86,10 @@ over-over-requires-2 : (t : ℕ) → over-lts.Need-lowest-over-requires-2 (
   names-at-reads.Asked,
   names-at-reads.Learnt,
 ) (over-at t) over.Post
-over-over-requires-2 t c κs = let o = on-right _ _ _ (c .before .before .before .before .before .before .before .pre .1 .0) _ (c .before .before .before .before .node-at .ensures) _
-    (c .before .before .before .before .before .before .before .pre .0) (c .before .if1 .taken) in (o .0, (o .1, omega (arith, o .0), c .before .before .before .before .before .before .before .pre .1 .2))
+over-over-requires-2 t c κs =
+    let o = on-right _ _ _ (c .before .before .before .before .before .before .before .pre .1 .0) _ (c .before .before .before .before .node-at .ensures) _
+    (c .before .before .before .before .before .before .before .pre .0) (c .before .if1 .taken) in
+    (o .0, (o .1, omega (arith, o .0), c .before .before .before .before .before .before .before .pre .1 .2))
 
 over-least-requires : (t : ℕ) → over-lts.Need-least-requires (
   node-at-reads.Asked,
@@ -146,8 +149,10 @@ over-over-requires-3 : (t : ℕ) → over-lts.Need-lowest-over-requires-3 (
   names-at-reads.Asked,
   names-at-reads.Learnt,
 ) (over-at t) over.Post
-over-over-requires-3 t c κs = let o = on-box _ _ _ (c .before .before .before .before .before .before .before .before .pre .1 .0) _ (c .before .before .before .before .before .node-at .ensures) _
-    (c .before .before .before .before .before .before .before .before .pre .0) (c .if2 .taken) in (o .0, (o .1, omega (arith, o .0), c .before .before .before .before .before .before .before .before .pre .1 .2))
+over-over-requires-3 t c κs =
+    let o = on-box _ _ _ (c .before .before .before .before .before .before .before .before .pre .1 .0) _ (c .before .before .before .before .before .node-at .ensures) _
+    (c .before .before .before .before .before .before .before .before .pre .0) (c .if2 .taken) in
+    (o .0, (o .1, omega (arith, o .0), c .before .before .before .before .before .before .before .before .pre .1 .2))
 
 over-least-requires-3 : (t : ℕ) → over-lts.Need-least-requires-3 (
   node-at-reads.Asked,
@@ -278,7 +283,8 @@ over-over-requires-5 : (t : ℕ) → over-lts.Need-lowest-over-requires-5 (
   names-at-reads.Asked,
   names-at-reads.Learnt,
 ) (over-at t) over.Post
-over-over-requires-5 t c κs = let o = on-body _ _ _ (c .before .before .before .before .before .before .before .before .before .before .before .before .before .pre .1 .0) _
+over-over-requires-5 t c κs =
+    let o = on-body _ _ _ (c .before .before .before .before .before .before .before .before .before .before .before .before .before .pre .1 .0) _
     (c .before .before .before .before .before .before .before .before .before .before .node-at .ensures) _
     (c .before .before .before .before .before .before .before .before .before .before .before .before .before .pre .0) (c .before .if4 .taken) in
     (o .0, (o .1, omega (arith, o .0), c .before .before .before .before .before .before .before .before .before .before .before .before .before .pre .1 .2))

@@ -14,7 +14,9 @@ returns : tie.Need-returns
 returns c = search needs
 
 returns-2 : tie.Need-returns-2
-returns-2 c = let full : length (c .before .args .t1 .on) ≡ 64 = search needs in sym (List·getD-eq-default (c .before .args .t1 .on) false {n = c .before .args .x} (omega arith))
+returns-2 c =
+    let full : length (c .before .args .t1 .on) ≡ 64 = search needs in
+    sym (List·getD-eq-default (c .before .args .t1 .on) false {n = c .before .args .x} (omega arith))
 
 pub has-spec : {M : Type 1} → statement M
 has-spec = tie.close (tie.spec element-copy-out-result returns returns-2)
