@@ -9,7 +9,7 @@ use lib.Dec.{eqb}
 use lib.ListN.{length}
 use Rattle.model.specs.Basics.{_&_, choose, Res, refuse, done, bind, need}
 use Rattle.model.specs.Side.{Core}
-use Rattle.model.specs.Wrapper.{Route}
+use Rattle.model.specs.Wrapper.{Route, shelves}
 use Rattle.model.specs.Load.{Setting}
 use Rattle.model.specs.Step.{Moved, settled, goDown, up, pass, leave, descend, meet, enter, takes, inner, routeTo, local}
 use Rattle.wrappers.specs.declared.Source.the-variants.{Side, Nowhere}
@@ -17,7 +17,11 @@ use Rattle.wrappers.specs.Routes.{sourceBy, sourceFor}
 use Rattle.sides.specs.declared.Rest.{Rest}
 use Rattle.steps.specs.declared.RestStep.{RestStep}
 use Rattle.steps.specs.StepIs.{Sane, StepIs}
+use Rattle.steps.specs.Asked.{withShelf}
 use Rattle.steps.proofs.Held.{sane}
+use Rattle.steps.proofs.Settings.{up-with}
+use Rattle.meeting.specs.Meeting.{withTable}
+use Rattle.meeting.proofs.Settings.{meet-with}
 use Rattle.dispatch.specs.Stepping.{asked, onePlace, twoPlaces, OwnReady}
 
 -- a side that a step may act on
@@ -50,19 +54,30 @@ module _ (c : Setting) (s : Core) (k i : ℕ) where
   unfolding onePlace choose settled bind
   one-none a b d e = rw (ne-eqb k 2 a, ne-eqb k 3 b, ne-eqb k 6 d, ne-eqb k 7 e)
 
+-- where the side has a shelf or none
+one-with : (c : Setting) (s : Core) (k i : ℕ) (t : Bool) → shelves (c .wrapper) (c .side) ≡ t → onePlace c s k i ≡ onePlace (withShelf t) s k i
+unfolding onePlace
+one-with c s k i t e = rw (up-with c t e s i)
+
 -- KINDS 2 TO 7
 module _ (c : Setting) (s : Core) (k i j : ℕ) where
   pub two-descend : k ≡ 4 → settled (twoPlaces c s k i j) ≡ settled (descend s i j)
   unfolding twoPlaces choose
   two-descend e = ap (λ (x : ℕ). settled (twoPlaces c s x i j)) e
 
-  pub two-meet : k ≡ 5 → settled (twoPlaces c s k i j) ≡ settled (meet c s i j)
+  two-meets : k ≡ 5 → settled (twoPlaces c s k i j) ≡ settled (meet c s i j)
   unfolding twoPlaces choose
-  two-meet e = ap (λ (x : ℕ). settled (twoPlaces c s x i j)) e
+  two-meets e = ap (λ (x : ℕ). settled (twoPlaces c s x i j)) e
 
-  pub two-one : (k ≡ 4 → ⊥) → (k ≡ 5 → ⊥) → j ≡ 0 → settled (twoPlaces c s k i j) ≡ settled (onePlace c s k i)
+  pub two-meet : k ≡ 5 → settled (twoPlaces c s k i j) ≡ settled (meet (withTable (c .side) (c .table)) s i j)
+  two-meet e = two-meets e ∙ ap settled (meet-with c s i j)
+
+  two-ones : (k ≡ 4 → ⊥) → (k ≡ 5 → ⊥) → j ≡ 0 → settled (twoPlaces c s k i j) ≡ settled (onePlace c s k i)
   unfolding twoPlaces choose need
-  two-one a b e = rw (ne-eqb k 4 a, ne-eqb k 5 b, eq-eqb j 0 e)
+  two-ones a b e = rw (ne-eqb k 4 a, ne-eqb k 5 b, eq-eqb j 0 e)
+
+  pub two-one : (k ≡ 4 → ⊥) → (k ≡ 5 → ⊥) → j ≡ 0 → (t : Bool) → t ≡ shelves (c .wrapper) (c .side) → settled (twoPlaces c s k i j) ≡ settled (onePlace (withShelf t) s k i)
+  two-one a b e t h = two-ones a b e ∙ ap settled (one-with c s k i t (sym h))
 
   pub two-bad : (k ≡ 4 → ⊥) → (k ≡ 5 → ⊥) → (j ≡ 0 → ⊥) → settled (twoPlaces c s k i j) ≡ refuse 10
   unfolding twoPlaces choose need settled bind

@@ -3,11 +3,11 @@ ghost use mathlib.Core.Path.{_≡_};
 ghost use mathlib.Core.List.{List};
 ghost use Prim.Native.Nat.{ℕ};
 ghost use lib.ListN.{length};
-ghost use Rattle.model.specs.Wrapper.{allSides, shelves};
+ghost use Rattle.model.specs.Wrapper.{allSides};
 ghost use Rattle.model.specs.Load.{Setting};
 ghost use Rattle.model.specs.Step.{local, settled};
 ghost use Rattle.sides.specs.Sides.{coreOf};
-ghost use Rattle.steps.specs.Asked.{knownBy};
+ghost use Rattle.steps.specs.Asked.{knownBy, withShelf};
 ghost use Rattle.steps.specs.StepIs.{Sane, StepIs};
 ghost use Rattle.dispatch.specs.Stepping.{settingOf, asked, onePlace, twoPlaces, OwnReady};
 use meeting::meet;
@@ -26,7 +26,7 @@ use wrappers::has_shelf;
 // Kinds 2, 3, 6 and 7: the steps that name one place. `shelving` says whether what goes up on `mid` goes to the shelf.
 fn one_place(shelving: bool, rows: &mut [u32], o: Rest, kind: u32, i: usize) -> RestStep
     requires { ⌜ Sane (now rows) o ⌝ }
-    ensures { λ r. ⌜ ((c : Setting) → shelves (c .wrapper) (c .side) ≡ shelving → StepIs (settled (onePlace c (coreOf (now (rows .entry)) o) kind i)) (now (rows .entry)) o (now (rows .exit)) r) ⌝ }
+    ensures { λ r. ⌜ StepIs (settled (onePlace (withShelf shelving) (coreOf (now (rows .entry)) o) kind i)) (now (rows .entry)) o (now (rows .exit)) r ⌝ }
 {
     if kind == 2 {
         return down(rows, o, i);

@@ -1,4 +1,5 @@
 pub mod MeetSteps
+pub mod Settings
 pub mod Inputs
 pub mod PairLaws
 pub mod Joining

@@ -1,7 +1,7 @@
 -- The whole step: what a pair is given, and the side after it, a law for each way that the code goes.
 use mathlib.Core.Path.{_≡_, refl, sym, ap, ap₂, subst, _∙_}
 use mathlib.Core.Bool.{Bool, true, false, cond}
-use mathlib.Core.List.{List, map}
+use mathlib.Core.List.{List, [], map}
 use mathlib.Core.Option.{some}
 use Prim.Native.Nat.{ℕ, _+_, _-_, _<_, _≤_}
 use native.Mathlib.Omega.{arith}
@@ -34,7 +34,7 @@ use Rattle.steps.specs.declared.Offer.{Offer}
 use Rattle.steps.specs.declared.Offer.the-variants.{At, Refused}
 use Rattle.steps.specs.Asked.{OfferIs, numberOf}
 use Rattle.steps.proofs.Settling.{limits-in}
-use Rattle.steps.proofs.Held.{anySetting, offer-at, every-elem}
+use Rattle.steps.proofs.Held.{offer-at, every-elem}
 use Rattle.steps.specs.declared.RestStep.{RestStep}
 use Rattle.steps.specs.Asked.{Says}
 use Rattle.steps.specs.StepIs.{Sane, StepIs}
@@ -43,7 +43,7 @@ use Rattle.steps.proofs.Held.{offer-refused, refused-is, quiet-is}
 use Rattle.unfolding.specs.declared.Counts.{Counts}
 use Rattle.unfolding.specs.Unfolded.{counted, putCounts, CanUnfold, UnfoldedIs}
 use Rattle.meeting.specs.declared.pairs.Joined.{Joined}
-use Rattle.meeting.specs.Meeting.{Meetable, MeetablePair, PairAt, nodeAt, inputEnv, inputPattern, Joins, Joining, JoinedIs, RoomIs, Apart, RowsLeft}
+use Rattle.meeting.specs.Meeting.{withTable, Meetable, MeetablePair, PairAt, nodeAt, inputEnv, inputPattern, Joins, Joining, JoinedIs, RoomIs, Apart, RowsLeft}
 use Rattle.meeting.proofs.MeetSteps.{meet-at, meet-17, meet-done}
 use Rattle.meeting.proofs.Joining.{the-term, onTable, for-all}
 
@@ -108,7 +108,9 @@ module _ (l : List ℕ) (o : Rest) (i j : ℕ) (a : Offer)
 
   module _ {k : ℕ} (q : a ≡ At k) where
     at : (k ≡ j) × PairAt l (o .particles) i k
-    at = offer-at (settled (meet anySetting (coreOf l o) i j)) j (PairAt l (o .particles) i) a (h anySetting (coreOf l o) refl) k q
+    at =
+        let c : Setting = withTable 0 (record { nodes = []; pool = [] }) in
+        offer-at (settled (meet c (coreOf l o) i j)) j (PairAt l (o .particles) i) a (h c (coreOf l o) refl) k q
 
     pub pair-at : PairAt l (o .particles) i k
     pair-at = at .1

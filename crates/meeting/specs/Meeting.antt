@@ -11,6 +11,7 @@ use Rattle.model.specs.Values.{Env, Fit, matches, binders, extend, word}
 use Rattle.model.specs.Table.{Table, count, kind, field, Term, term}
 use Rattle.model.specs.Side.{Core}
 use Rattle.model.specs.Unfolding.{tagOf, defined, particlesIn, boxesIn, newNamesIn}
+use Rattle.model.specs.Wrapper.{filter}
 use Rattle.model.specs.Load.{Setting}
 use Rattle.model.specs.WellFormed.{envAt, wfCore}
 use Rattle.model.specs.WellFormed.{Counts as Minted}
@@ -30,6 +31,10 @@ use Rattle.steps.specs.Asked.{channelIn, valueIn}
 use Rattle.steps.specs.StepIs.{Sane}
 use Rattle.unfolding.specs.Scoped.{Scoped}
 use Rattle.meeting.specs.declared.pairs.Joined.{Joined}
+
+-- a setting with this side and this table: all that meet reads of its setting
+abbrev pub withTable : ℕ → Table → Setting
+withTable n t = record { wrapper = filter; side = n; table = t }
 
 -- what meet is given: a table that passes checks 1 to 6, and a side that is well formed for it and some counts of minted names,
 -- its counts within their arrays

@@ -11,7 +11,7 @@ ghost use Rattle.sides.specs.Layout.{viewRows};
 ghost use Rattle.sides.specs.Sides.{coreOf};
 ghost use Rattle.steps.specs.Asked.{OfferIs};
 ghost use Rattle.steps.specs.StepIs.{StepIs};
-ghost use Rattle.meeting.specs.Meeting.{PairAt, Meetable, MeetablePair};
+ghost use Rattle.meeting.specs.Meeting.{withTable, PairAt, Meetable, MeetablePair};
 use bodies::has_room;
 use bodies::remove_pair;
 use bodies::rows_left;
@@ -67,7 +67,7 @@ fn meet_pair(
     j: usize,
 ) -> RestStep
     requires { ⌜ MeetablePair (table (now nodes) (now pool)) side (now rows) o i j ⌝ }
-    ensures { λ r. ⌜ ((c : Setting) → c .side ≡ side → c .table ≡ table (now (nodes .entry)) (now (pool .entry)) → StepIs (settled (meet c (coreOf (now (rows .entry)) o) i j)) (now (rows .entry)) o (now (rows .exit)) r) ⌝ }
+    ensures { λ r. ⌜ StepIs (settled (meet (withTable side (table (now (nodes .entry)) (now (pool .entry)))) (coreOf (now (rows .entry)) o) i j)) (now (rows .entry)) o (now (rows .exit)) r ⌝ }
 {
     let mut e = [0; 144];
     let w = join(nodes, pool, rows, i, j, &mut e);
@@ -103,7 +103,7 @@ pub fn meet(
     j: usize,
 ) -> RestStep
     requires { ⌜ Meetable (table (now nodes) (now pool)) side (now rows) o ⌝ }
-    ensures { λ r. ⌜ ((c : Setting) → c .side ≡ side → c .table ≡ table (now (nodes .entry)) (now (pool .entry)) → StepIs (settled (meet c (coreOf (now (rows .entry)) o) i j)) (now (rows .entry)) o (now (rows .exit)) r) ⌝ }
+    ensures { λ r. ⌜ StepIs (settled (meet (withTable side (table (now (nodes .entry)) (now (pool .entry)))) (coreOf (now (rows .entry)) o) i j)) (now (rows .entry)) o (now (rows .exit)) r ⌝ }
 {
     let a = pair_offer(rows, o.particles, i, j);
     let Offer::At(k) = a else {

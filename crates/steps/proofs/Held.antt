@@ -13,7 +13,6 @@ use lib.Seq.{drop-drop}
 use Rattle.model.specs.Basics.{Res, refuse, done, every}
 use Rattle.model.specs.Side.{Particle, output, input, Box, Core}
 use Rattle.model.specs.Side.{Message as MMessage}
-use Rattle.model.specs.Wrapper.{filter}
 use Rattle.model.specs.Load.{Setting}
 use Rattle.model.specs.WellFormed.{Counts, wfCore, wfParticle}
 use Rattle.model.specs.Step.{Moved}
@@ -53,10 +52,6 @@ pub getD-any : {A : Type 0} (l : List A) (i : ℕ) (d e : A) → i < length l �
 getD-any [] i d e h = absurd (omega arith)
 getD-any (x ∷ l) zero d e h = refl
 getD-any (x ∷ l) (suc i) d e h = getD-any l i d e (omega arith)
-
--- a setting, where any serves
-pub anySetting : Setting
-anySetting = record { wrapper = filter; side = 0; table = record { nodes = []; pool = [] } }
 
 -- there is an element within a list
 pub elem-some : {A : Type 0} (l : List A) (i : ℕ) → i < length l → (x : A) × (getElem? l i ≡ some x)

@@ -5,3 +5,4 @@ pub mod TakeCore
 pub mod LobbySteps
 pub mod ParticleSteps
 pub mod EnterSteps
+pub mod Settings

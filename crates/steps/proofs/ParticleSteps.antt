@@ -35,8 +35,10 @@ use Rattle.steps.proofs.CoreSteps as core
 use Rattle.steps.proofs.Held.{elem-some}
 use Rattle.steps.specs.declared.RestStep.{RestStep}
 use Rattle.steps.specs.StepIs.{StepIs, Sane}
-use Rattle.steps.specs.Asked.{Says, channelIn, valueIn, UpAt, DescendAt}
-use Rattle.steps.proofs.Held.{Full, side-rows, side-lobby, side-shelf, side-again, boxes-kept, shelf-kept, shelf-fits-kept, same-core, rows-cap, rows-n, boxes-n, shelf-n, lobby-n, box-at, row-in, fits-at, input-at, output-at, value-length, refused-is, quiet-is}
+use Rattle.steps.specs.declared.Offer.{Offer}
+use Rattle.steps.specs.declared.Offer.the-variants.{At}
+use Rattle.steps.specs.Asked.{Says, OfferIs, withShelf, channelIn, valueIn, UpAt, DescendAt}
+use Rattle.steps.proofs.Held.{Full, side-rows, side-lobby, side-shelf, side-again, boxes-kept, shelf-kept, shelf-fits-kept, same-core, rows-cap, rows-n, boxes-n, shelf-n, lobby-n, box-at, row-in, fits-at, input-at, output-at, value-length, refused-is, quiet-is, offer-at}
 
 module _ (l : List ℕ) (o : Rest) (i : ℕ) (ok : Sane l o) where
   pub up-past : (c : Setting) → o .particles ≤ i → settled (up c (coreOf l o) i) ≡ refuse 10
@@ -158,6 +160,10 @@ module _ (l : List ℕ) (o : Rest) (i : ℕ) (ok : Sane l o) (c : Setting) (r : 
 
   pub lobby-full : (ch : ℕ) → shelves (c .wrapper) (c .side) & eqb ch 2 ≡ false → Full o → 16 ≤ o .lobby .len → StepIs (settled (upFrom c (coreOf l o) i 0 ch v)) l o l r
   lobby-full ch off full h = refused-is _ l o 17 r (core.lobby-17 (coreOf l o) (ok .short-outputs) (ok .few) c i ch v off (rw (lobby-n l o ok full) h)) says
+
+-- what the check of up found, whatever the setting
+pub up-found : (l : List ℕ) (o : Rest) (i : ℕ) (a : Offer) → ((c : Setting) → OfferIs (settled (up c (coreOf l o) i)) i (UpAt l o) a) → (k : ℕ) → a ≡ At k → (k ≡ i) × UpAt l o k
+up-found l o i a w k e = offer-at (settled (up (withShelf false) (coreOf l o) i)) i (UpAt l o) a (w (withShelf false)) k e
 
 -- up, by the way that the output goes: b is its box
 module _ (l : List ℕ) (o : Rest) (i k : ℕ) (same : k ≡ i) (ok : Sane l o) (c : Setting) (r : RestStep) (m : List ℕ) (a : UpAt l o k) (b : ℕ) (be : b ≡ getD (rowAt l k) 1 0) where

@@ -1,12 +1,13 @@
 -- What the checks of the steps answer, and what is known of a side where they answer a position.
 use mathlib.Core.Path.{_≡_}
-use mathlib.Core.Bool.{Bool, true, false, not}
+use mathlib.Core.Bool.{Bool, true, false, not, cond}
 use mathlib.Core.List.{List, []}
 use Prim.Native.Nat.{ℕ, _<_, _≤_}
 use lib.ListN.{length, getD}
 use Rattle.model.specs.Basics.{_or_, Res, refuse, every, oneOf}
 use Rattle.model.specs.Values.{isValue, isMinted}
-use Rattle.model.specs.Wrapper.{allSides}
+use Rattle.model.specs.Wrapper.{allSides, filter, pipeline}
+use Rattle.model.specs.Load.{Setting}
 use Rattle.model.specs.Side.{takenAt}
 use Rattle.model.specs.Step.{Moved, isDown, isArrived, isLeaving, isToParent, isToChild, marked}
 use Rattle.values.specs.Env.{Stores}
@@ -58,6 +59,10 @@ channelIn l i = getD (rowAt l i) 2 0
 
 abbrev pub valueIn : List ℕ → ℕ → List ℕ
 valueIn l i = viewPlace (getD (placesOf (rowAt l i)) 0 [])
+
+-- a setting whose side has a shelf, or has none: all that up reads of its setting
+abbrev pub withShelf : Bool → Setting
+withShelf b = record { wrapper = cond b pipeline filter; side = 1; table = record { nodes = []; pool = [] } }
 
 -- particle i is an output with tag parent
 pub record UpAt (l : List ℕ) (o : Rest) (i : ℕ) : Type 0 where

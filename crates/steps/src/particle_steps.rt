@@ -11,7 +11,7 @@ ghost use Rattle.model.specs.Step.{up, upFrom, descend, settled};
 ghost use Rattle.sides.specs.Layout.{rowAt};
 ghost use Rattle.sides.specs.Sides.{coreOf};
 ghost use Rattle.steps.specs.Asked.{OfferIs};
-ghost use Rattle.steps.specs.Asked.{channelIn, valueIn, UpAt, DescendAt};
+ghost use Rattle.steps.specs.Asked.{channelIn, valueIn, withShelf, UpAt, DescendAt};
 ghost use Rattle.steps.specs.StepIs.{Sane, StepIs};
 use crate::Offer;
 use crate::RestStep;
@@ -93,7 +93,7 @@ fn to_box(rows: &mut [u32], o: Rest, i: usize, b: usize) -> RestStep
 // Up: output i with tag parent. `shelving` says whether what goes up on `mid` goes to the shelf.
 pub fn up(shelving: bool, rows: &mut [u32], o: Rest, i: usize) -> RestStep
     requires { ⌜ Sane (now rows) o ⌝ }
-    ensures { λ r. ⌜ ((c : Setting) → shelves (c .wrapper) (c .side) ≡ shelving → StepIs (settled (up c (coreOf (now (rows .entry)) o) i)) (now (rows .entry)) o (now (rows .exit)) r) ⌝ }
+    ensures { λ r. ⌜ StepIs (settled (up (withShelf shelving) (coreOf (now (rows .entry)) o) i)) (now (rows .entry)) o (now (rows .exit)) r ⌝ }
 {
     let a = up_offer(rows, o, i);
     let Offer::At(k) = a else {

@@ -1,5 +1,7 @@
 use Rattle.steps.proofs.Held.{rows-cap}
 use Rattle.meeting.proofs.Meetings.{meetable-sane, pair-able, no-pair, pair-at, met-at}
+use Rattle.tables.specs.Nodes.{table}
+use Rattle.meeting.specs.Meeting.{withTable}
 use borrow.Author.Needs.{needs}
 use Rattle.meeting.proofs.meet.Statement.{statement}
 use Rattle.meeting.proofs.meet.Tie as tie
@@ -17,7 +19,8 @@ returns c =
     let start = at-pair-offer .before .before .before .before .before in
     let a = start .args in
     let w = at-pair-offer .pair-offer in
-    λ s sd tb. no-pair (a .rows .now) (a .o) (a .i) (a .j) (w .result) (w .ensures) (at-enum-told .enum-told .given .1) (at-number .number .ensures) (c .plain .ensures) s
+    let s = withTable (a .side) (table (a .nodes .now) (a .pool .now)) in
+    no-pair (a .rows .now) (a .o) (a .i) (a .j) (w .result) (w .ensures) (at-enum-told .enum-told .given .1) (at-number .number .ensures) (c .plain .ensures) s
 
 meet-pair-requires : tie.Need-meet-pair-requires
 meet-pair-requires c κs =
@@ -36,7 +39,8 @@ returns-2 c =
     let start = at-pair-offer .before .before .before .before .before in
     let a = start .args in
     let w = at-pair-offer .pair-offer in
-    λ s sd tb. met-at (a .rows .now) (a .o) (a .i) (a .j) (w .result) (w .ensures) (at-a .a .given .1) s (at-meet-pair .meet-pair .ensures s sd tb)
+    let s = withTable (a .side) (table (a .nodes .now) (a .pool .now)) in
+    met-at (a .rows .now) (a .o) (a .i) (a .j) (w .result) (w .ensures) (at-a .a .given .1) s (at-meet-pair .meet-pair .ensures)
 
 pub meet-spec : {M : Type 1} → statement M
 meet-spec =

@@ -1,6 +1,8 @@
-use mathlib.Core.Path.{_∙_}
+use mathlib.Core.Path.{refl, _∙_}
 use borrow.Author.Tests.{not-true, not-false}
 use Rattle.meeting.proofs.Meetings.{two-rows, rows-apart, pair-counts, joined-at, replicated-is, pair-refused, pair-full, body-can, pair-did}
+use Rattle.tables.specs.Nodes.{table}
+use Rattle.meeting.specs.Meeting.{withTable}
 use borrow.Author.Needs.{needs}
 use Rattle.meeting.proofs.meet_pair.Statement.{statement}
 use Rattle.meeting.proofs.meet_pair.Tie as tie
@@ -11,7 +13,9 @@ returns c =
     let at-enum-told = at-number .before in
     let at-join = at-enum-told .before .before .before in
     let start = at-join .before .before .before .before .before .before in
-    λ s sd tb. pair-refused (start .pre) (at-join .join .ensures) (at-enum-told .enum-told .given .1) (at-number .number .ensures) (c .plain .ensures) s tb
+    let a = start .args in
+    let s = withTable (a .side) (table (a .nodes .now) (a .pool .now)) in
+    pair-refused (start .pre) (at-join .join .ensures) (at-enum-told .enum-told .given .1) (at-number .number .ensures) (c .plain .ensures) s refl
 
 rows-left-requires : tie.Need-rows-left-requires
 rows-left-requires c κs =
@@ -40,7 +44,9 @@ returns-2 c =
     let ag = replicated-is (start .args .nodes .now) (start .args .pool .now) node (at-node-at .node-at .ensures) in
     let le = at-rows-left .rows-left .ensures in
     let rm = at-has-room .has-room .ensures (start .args .pool .now) in
-    λ s sd tb. pair-full M jn ag le rm (not-true _ (at-if1 .if1 .taken)) (c .plain2 .ensures) s tb
+    let a = start .args in
+    let s = withTable (a .side) (table (a .nodes .now) (a .pool .now)) in
+    pair-full M jn ag le rm (not-true _ (at-if1 .if1 .taken)) (c .plain2 .ensures) s refl
 
 word-at-requires-2 : tie.Need-word-at-requires-2
 word-at-requires-2 c κs =
@@ -103,7 +109,9 @@ returns-3 c =
     let y = not-false _ (at-if1 .if1 .left) in
     let be = at-wide2 .wide2 .ensures ∙ at-word-at2 .word-at2 .ensures in
     let gone = at-remove-pair .remove-pair .ensures in
-    λ s sd tb. pair-did M jn ag le rm y gone be (at-unfold-at .unfold-at .ensures) s sd tb (at-put-into .put-into .ensures) (c .plain3 .ensures)
+    let a = start .args in
+    let s = withTable (a .side) (table (a .nodes .now) (a .pool .now)) in
+    pair-did M jn ag le rm y gone be (at-unfold-at .unfold-at .ensures) s refl refl (at-put-into .put-into .ensures) (c .plain3 .ensures)
 
 pub meet-pair-spec : {M : Type 1} → statement M
 meet-pair-spec =

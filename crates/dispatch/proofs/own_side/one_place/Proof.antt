@@ -1,5 +1,6 @@
 use Rattle.model.specs.Step.{goDown, up, pass, leave, settled}
 use Rattle.sides.specs.Sides.{coreOf}
+use Rattle.steps.specs.Asked.{withShelf}
 use Rattle.steps.proofs.Held.{refused-is}
 use Rattle.dispatch.specs.Stepping.{onePlace}
 use Rattle.dispatch.proofs.ByKind.{step-by, one-down, one-up, one-pass, one-leave, one-none}
@@ -9,57 +10,57 @@ use Rattle.dispatch.proofs.own_side.one_place.Tie as tie
 
 returns : tie.Need-returns
 returns c =
-    λ b e.
     let x = c .before .before .before .before .before .before in
     let l = x .args .rows .now in
     let o = x .args .o in
     let i = x .args .i in
     let k = x .args .kind in
     let s = coreOf l o in
+    let b = withShelf (x .args .shelving) in
     step-by (settled (onePlace b s k i)) (settled (goDown s i)) l o _ _ (one-down b s k i (c .before .before .before .before .if1 .taken)) (c .before .before .down .ensures)
 
 returns-2 : tie.Need-returns-2
 returns-2 c =
-    λ b e.
     let x = c .before .before .before .before .before .before .before in
     let l = x .args .rows .now in
     let o = x .args .o in
     let i = x .args .i in
     let k = x .args .kind in
     let s = coreOf l o in
-    step-by (settled (onePlace b s k i)) (settled (up b s i)) l o _ _ (one-up b s k i (c .before .before .before .before .if2 .taken)) (c .before .before .up .ensures b e)
+    let b = withShelf (x .args .shelving) in
+    step-by (settled (onePlace b s k i)) (settled (up b s i)) l o _ _ (one-up b s k i (c .before .before .before .before .if2 .taken)) (c .before .before .up .ensures)
 
 returns-3 : tie.Need-returns-3
 returns-3 c =
-    λ b e.
     let x = c .before .before .before .before .before .before in
     let l = x .args .rows .now in
     let o = x .args .o in
     let i = x .args .i in
     let k = x .args .kind in
     let s = coreOf l o in
+    let b = withShelf (x .args .shelving) in
     step-by (settled (onePlace b s k i)) (settled (pass s i)) l o _ _ (one-pass b s k i (c .before .before .if3 .taken)) (c .pass .ensures)
 
 returns-4 : tie.Need-returns-4
 returns-4 c =
-    λ b e.
     let x = c .before .before .before .before .before .before .before in
     let l = x .args .rows .now in
     let o = x .args .o in
     let i = x .args .i in
     let k = x .args .kind in
     let s = coreOf l o in
+    let b = withShelf (x .args .shelving) in
     step-by (settled (onePlace b s k i)) (settled (leave s i)) l o _ _ (one-leave b s k i (c .before .before .if4 .taken)) (c .leave .ensures)
 
 returns-5 : tie.Need-returns-5
 returns-5 c =
-    λ b e.
     let x = c .before .before .before .before .before .before in
     let l = x .args .rows .now in
     let o = x .args .o in
     let i = x .args .i in
     let k = x .args .kind in
     let s = coreOf l o in
+    let b = withShelf (x .args .shelving) in
     refused-is _ l o 10 _ (one-none b s k i (c .before .before .before .before .if1 .left) (c .before .before .before .if2 .left) (c .before .before .if3 .left) (c .before .if4 .left)) (c .plain .ensures)
 
 pub one-place-spec : {M : Type 1} → statement M

@@ -1,7 +1,8 @@
-use mathlib.Core.Path.{refl, sym}
 use Rattle.model.specs.Step.{descend, meet, settled}
 use Rattle.sides.specs.Sides.{coreOf}
+use Rattle.steps.specs.Asked.{withShelf}
 use Rattle.steps.proofs.Held.{refused-is}
+use Rattle.meeting.specs.Meeting.{withTable}
 use Rattle.dispatch.specs.Stepping.{settingOf, onePlace, twoPlaces}
 use Rattle.dispatch.proofs.ByKind.{own-sane, step-by, two-descend, two-meet, two-one, two-bad}
 use borrow.Author.Needs.{needs}
@@ -42,7 +43,7 @@ returns-2 c =
     let s = coreOf l o in
     let j = x .args .j in
     let b = settingOf (x .args .wrapper) (x .args .side) (x .args .nodes .now) (x .args .pool .now) in
-    step-by (settled (twoPlaces b s k i j)) (settled (meet b s i j)) l o _ _ (two-meet b s k i j (c .before .before .before .before .if2 .taken)) (c .before .before .meet .ensures b refl refl)
+    step-by (settled (twoPlaces b s k i j)) (settled (meet (withTable (b .side) (b .table)) s i j)) l o _ _ (two-meet b s k i j (c .before .before .before .before .if2 .taken)) (c .before .before .meet .ensures)
 
 one-place-requires : tie.Need-one-place-requires
 one-place-requires c κs =
@@ -66,7 +67,13 @@ returns-3 c =
     let s = coreOf l o in
     let j = x .args .j in
     let b = settingOf (x .args .wrapper) (x .args .side) (x .args .nodes .now) (x .args .pool .now) in
-    step-by (settled (twoPlaces b s k i j)) (settled (onePlace b s k i)) l o _ _ (two-one b s k i j (c .before .before .before .before .before .before .before .if1 .left) (c .before .before .before .before .before .before .if2 .left) (c .before .before .before .before .before .if3 .taken)) (c .before .before .one-place .ensures b (sym (c .before .before .before .before .has-shelf .ensures)))
+    let at-one-place = c .before .before in
+    let at-has-shelf = at-one-place .before .before in
+    let at-if3 = at-has-shelf .before in
+    let at-if2 = at-if3 .before in
+    let t = at-has-shelf .has-shelf in
+    let same = two-one b s k i j (at-if2 .before .if1 .left) (at-if2 .if2 .left) (at-if3 .if3 .taken) (t .result) (t .ensures) in
+    step-by (settled (twoPlaces b s k i j)) (settled (onePlace (withShelf (t .result)) s k i)) l o _ _ same (at-one-place .one-place .ensures)
 
 returns-4 : tie.Need-returns-4
 returns-4 c =
