@@ -1,6 +1,6 @@
 // The same steps many times, added to a list of words; the place behind them is given back.
+use crate::tables::sum;
 use test_schedules::lists::narrow;
-use test_schedules::lists::sum;
 use test_schedules::steps::arrive;
 use test_schedules::steps::depart;
 

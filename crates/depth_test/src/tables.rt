@@ -1,7 +1,11 @@
 // Nodes of tables.
 use test_schedules::lists::narrow;
 use test_schedules::lists::node;
-use test_schedules::lists::sum;
+
+// A sum that wraps.
+pub fn sum(a: usize, b: usize) -> usize {
+    std::num::wrapping_add_usize(a, b)
+}
 
 // The nodes 1 to 4: `new`, one in another.
 fn first_news(nodes: &mut [u32; 4400]) {

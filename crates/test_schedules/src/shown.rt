@@ -141,7 +141,7 @@ pub fn outcome(r: Ran) {
 }
 
 // How many answers a run has written.
-pub fn written(r: Ran) -> usize {
+pub(crate) fn written(r: Ran) -> usize {
     match r {
         Ran::Done(n) => n,
         Ran::Refused(_, _, _) => 0,
