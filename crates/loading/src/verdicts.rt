@@ -25,7 +25,7 @@ fn side_verdict(nodes: &[u32], pool: &[u32]) -> Verdict
     let Verdict::Passed = v else {
         return v;
     };
-    let u = unfolded_at(nodes, 0);
+    let u = unfolded_at(nodes, pool, 0);
     if Side::contents_within(u.particles, u.boxes + 1, u.names) {
         return Verdict::Passed;
     }

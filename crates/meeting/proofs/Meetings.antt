@@ -43,7 +43,7 @@ use Rattle.steps.proofs.Held.{offer-refused, refused-is, quiet-is}
 use Rattle.unfolding.specs.declared.Counts.{Counts}
 use Rattle.unfolding.specs.Unfolded.{counted, putCounts, CanUnfold, UnfoldedIs}
 use Rattle.meeting.specs.declared.pairs.Joined.{Joined}
-use Rattle.meeting.specs.Meeting.{withTable, Meetable, MeetablePair, PairAt, nodeAt, inputEnv, inputPattern, Joins, Joining, JoinedIs, RoomIs, Apart, RowsLeft}
+use Rattle.meeting.specs.Meeting.{withTable, Meetable, MeetablePair, PairAt, nodeAt, inputEnv, inputPattern, Joins, Joining, JoinedIs, roomFor, Apart, RowsLeft}
 use Rattle.meeting.proofs.MeetSteps.{meet-at, meet-17, meet-done}
 use Rattle.meeting.proofs.Joining.{the-term, onTable, for-all}
 
@@ -158,7 +158,7 @@ module _ {t : Table} {side : ℕ} {l : List ℕ} {o : Rest} {i j : ℕ} (M : Mee
 
   -- WHERE THEY JOIN: the body at node n unfolds under the first d names of e
   module _ {n : ℕ} {e : List ℕ} {d : ℕ} (J : Joins t l i j n e d) {replicated : Bool} (ag : replicated ≡ eqb (kind t (nodeAt l j)) 6)
-      {left : ℕ} (le : left ≡ o .particles - cond replicated 1 2) {room : Bool} (rm : RoomIs t n left (o .boxes) (o .minted) room) where
+      {left : ℕ} (le : left ≡ o .particles - cond replicated 1 2) {room : Bool} (rm : room ≡ roomFor (term t n) left (o .boxes) (o .minted)) where
     abbrev node : ℕ
     node = field t (nodeAt l j) 4
 
@@ -184,14 +184,8 @@ module _ {t : Table} {side : ℕ} {l : List ℕ} {o : Rest} {i j : ℕ} (M : Mee
         length-left replicated (viewRows l (o .particles)) i j (omega (arith, v, M .pair .held-i)) (omega (arith, v, M .pair .held-j)) other ∙
         ap (λ (k : ℕ). k - cond replicated 1 2) v ∙ sym le
 
-    abbrev roomOf : (boxes m : ℕ) → Bool
-    roomOf bs m = leb (left + particlesIn (term t m)) 32 & (leb (bs + boxesIn (term t m)) 16 & leb (o .minted + newNamesIn (term t m)) 256)
-
-    room-now : room ≡ roomOf (o .boxes) n
-    room-now = rm .is (J .scoped .passes) (J .scoped .inside)
-
-    room-then : roomOf (length (viewBoxes l (o .boxes))) node ≡ room
-    room-then = ap₂ roomOf (boxes-n l o ok) (sym (J .body)) ∙ sym room-now
+    room-then : roomFor (term t node) left (length (viewBoxes l (o .boxes))) (o .minted) ≡ room
+    room-then = ap₂ (λ (boxes m : ℕ). roomFor (term t m) left boxes (o .minted)) (boxes-n l o ok) (sym (J .body)) ∙ sym rm
 
     pub pair-full : room ≡ false → {r : RestStep} → Says (said.Refused 17) o r → (c : Setting) → c .table ≡ t → StepIs (settled (meet c (coreOf l o) i j)) l o l r
     pair-full z {r} says c ct =
@@ -206,7 +200,7 @@ module _ {t : Table} {side : ℕ} {l : List ℕ} {o : Rest} {i j : ℕ} (M : Mee
 
       room-yes : (left + particlesIn (term t n) ≤ 32) × (o .boxes + boxesIn (term t n) ≤ 16) × (o .minted + newNamesIn (term t n) ≤ 256)
       room-yes =
-          let w = sym room-now ∙ y in
+          let w = sym rm ∙ y in
           let few = leb-true (left + particlesIn (term t n)) 32 (fst _ _ w) in
           let some-boxes = leb-true (o .boxes + boxesIn (term t n)) 16 (fst _ _ (snd _ _ w)) in
           (few, some-boxes, leb-true (o .minted + newNamesIn (term t n)) 256 (snd _ _ (snd _ _ w)))

@@ -8,10 +8,9 @@ use borrow.Author.Tests.{lt-ltb, le-ltb}
 use lib.Dec.{leb}
 use lib.ListN.{length, drop}
 use Rattle.model.specs.Basics.{_&_, remove}
-use Rattle.model.specs.Table.{Table, count, term}
+use Rattle.model.specs.Table.{Term}
 use Rattle.model.specs.Side.{Particle}
 use Rattle.model.specs.Step.{without}
-use Rattle.tables.specs.Checks.{Passes}
 use Rattle.scopes.specs.declared.unfolded.Unfolded.{Unfolded}
 use Rattle.scopes.specs.Unfolded.{UnfoldsTo}
 use Rattle.sides.specs.Layout.{viewRows, fitsRows}
@@ -19,7 +18,7 @@ use Rattle.sides.specs.Stored.{rowGone}
 use Rattle.sides.proofs.Storing.{gone-length}
 use Rattle.sides.proofs.Putting.{gone-view, gone-fits}
 use Rattle.sides.proofs.Behind.{behind-gone}
-use Rattle.meeting.specs.Meeting.{Apart, RowsLeft, RoomIs}
+use Rattle.meeting.specs.Meeting.{Apart, RowsLeft, roomFor}
 
 -- how many rows are left
 pub left-is : (n : ℕ) {replicated b : Bool} → replicated ≡ b → n - cond b 1 2 ≡ n - cond replicated 1 2
@@ -80,6 +79,6 @@ module _ {l : List ℕ} {n i j : ℕ} (A : Apart l n i j) {replicated : Bool} {m
         above g = omega (arith, A .held-i, A .other)
 
 -- 17 by the counts
-pub room-is : (t : Table) (n particles boxes minted : ℕ) (u : Unfolded) → (Passes t → n < count t → UnfoldsTo (term t n) u) →
-    (r : Bool) → r ≡ leb (particles + u .particles) 32 & (leb (boxes + u .boxes) 16 & leb (minted + u .names) 256) → RoomIs t n particles boxes minted r
-room-is t n particles boxes minted u h r e = record { is = λ p l. rw (← h p l .particles, ← h p l .boxes, ← h p l .names) e }
+pub room-is : (a : Term) (particles boxes minted : ℕ) (u : Unfolded) → UnfoldsTo a u →
+    (r : Bool) → r ≡ leb (particles + u .particles) 32 & (leb (boxes + u .boxes) 16 & leb (minted + u .names) 256) → r ≡ roomFor a particles boxes minted
+room-is a particles boxes minted u h r e = rw (← h .particles, ← h .boxes, ← h .names) e

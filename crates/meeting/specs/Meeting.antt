@@ -8,7 +8,7 @@ use lib.Dec.{leb, eqb}
 use lib.ListN.{length, getD, drop}
 use Rattle.model.specs.Basics.{_&_, refuse, done}
 use Rattle.model.specs.Values.{Env, Fit, matches, binders, extend, word}
-use Rattle.model.specs.Table.{Table, count, kind, field, Term, term}
+use Rattle.model.specs.Table.{Table, kind, field, Term, term}
 use Rattle.model.specs.Side.{Core}
 use Rattle.model.specs.Unfolding.{tagOf, defined, particlesIn, boxesIn, newNamesIn}
 use Rattle.model.specs.Wrapper.{filter}
@@ -105,9 +105,9 @@ Joining t l i j e d (Refused x) = (c : Setting) → c .table ≡ t → (s : Core
 pub record JoinedIs (t : Table) (l : List ℕ) (i j : ℕ) (e : List ℕ) (r : Joined) : Type 0 where
   pub is : Joining t l i j e (r .names) (r .offer)
 
--- r is whether the limits are kept
-pub record RoomIs (t : Table) (n particles boxes minted : ℕ) (r : Bool) : Type 0 where
-  pub is : Passes t → n < count t → r ≡ leb (particles + particlesIn (term t n)) 32 & (leb (boxes + boxesIn (term t n)) 16 & leb (minted + newNamesIn (term t n)) 256)
+-- the limits are kept where a term unfolds beside so many particles, boxes and minted names
+abbrev pub roomFor : Term → (particles boxes minted : ℕ) → Bool
+roomFor a particles boxes minted = leb (particles + particlesIn a) 32 & (leb (boxes + boxesIn a) 16 & leb (minted + newNamesIn a) 256)
 
 -- two rows of n
 pub record Apart (l : List ℕ) (n i j : ℕ) : Type 0 where

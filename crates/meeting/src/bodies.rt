@@ -1,10 +1,11 @@
 // The rows that go, the limits, and the counts after.
 ghost use mathlib.Core.Path.{_≡_};
 ghost use mathlib.Core.Bool.{cond};
-ghost use mathlib.Core.List.{List};
-ghost use Prim.Native.Nat.{ℕ, _-_, _≤_};
+ghost use Prim.Native.Nat.{_-_, _<_, _≤_};
+ghost use Rattle.model.specs.Table.{count, term};
 ghost use Rattle.tables.specs.Nodes.{table};
-ghost use Rattle.meeting.specs.Meeting.{Apart, RowsLeft, RoomIs};
+ghost use Rattle.tables.specs.Checks.{Passes};
+ghost use Rattle.meeting.specs.Meeting.{Apart, RowsLeft, roomFor};
 use scopes::unfolded::unfolded_at;
 use sides::Side;
 use sides::remove_row;
@@ -23,15 +24,16 @@ pub(crate) fn rows_left(n: usize, replicated: bool) -> usize
 // Whether the limits are kept where the body at node n unfolds beside so many particles, boxes and minted names.
 pub(crate) fn has_room(
     nodes: &[u32],
+    pool: &[u32],
     n: usize,
     particles: usize,
     boxes: usize,
     minted: usize,
 ) -> bool
-    requires { ⌜ (particles ≤ 32) × (boxes ≤ 16) × (minted ≤ 256) ⌝ }
-    ensures { λ r. ⌜ ((pool : List ℕ) → RoomIs (table (now (nodes .entry)) pool) n particles boxes minted r) ⌝ }
+    requires { ⌜ Passes (table (now nodes) (now pool)) × (n < count (table (now nodes) (now pool))) × (particles ≤ 32) × (boxes ≤ 16) × (minted ≤ 256) ⌝ }
+    ensures { λ r. ⌜ r ≡ roomFor (term (table (now (nodes .entry)) (now (pool .entry))) n) particles boxes minted ⌝ }
 {
-    let u = unfolded_at(nodes, n);
+    let u = unfolded_at(nodes, pool, n);
     Side::contents_within(particles + u.particles, boxes + u.boxes, minted + u.names)
 }
 

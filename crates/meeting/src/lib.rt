@@ -78,7 +78,7 @@ fn meet_pair(
     let x = node_at(nodes, wide(word_at(rows, j, Row::NODE)));
     let replicated = x.kind == 6;
     let left = rows_left(o.particles, replicated);
-    if !has_room(nodes, n, left, o.boxes, o.minted) {
+    if !has_room(nodes, pool, n, left, o.boxes, o.minted) {
         return RestStep::plain(Said::Refused(17), o);
     }
     let b = wide(word_at(rows, i, Row::BOX));

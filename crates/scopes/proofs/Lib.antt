@@ -1,5 +1,5 @@
-pub mod StepLaws
 pub mod NameLaws
+pub mod ClearWalk
 pub mod FreeUseLaws
 pub mod ScopeBound
 pub mod TermSize

@@ -15,6 +15,7 @@ use Rattle.model.proofs.Basics.Tests.{choose-done, fst, snd, alt}
 use Rattle.model.proofs.Basics.Items.{clash}
 use Rattle.model.proofs.Basics.Terms.{Child, left, right, in-box, in-new, in-body, term-at}
 use Rattle.model.proofs.Basics.Checked.{Checked, checked, is-tree, scope-child, not-found}
+use Rattle.tables.specs.Scope.{Walks}
 use Rattle.tables.specs.Checks.{Passes}
 use Rattle.tables.proofs.CheckLaws.{few}
 use Rattle.scopes.specs.Names.{lastEight}
@@ -169,6 +170,10 @@ no-fault t p = go (fault t) p
 
 pub passes-checked : (t : Table) → Passes t → Checked t
 passes-checked t p = let q = no-fault t p in checked t (q .0) (q .1)
+
+-- a walk may start at each of its nodes
+pub walks-at : (t : Table) → Passes t → (n : ℕ) → n < count t → Walks t n
+walks-at t p n l = record { tree = is-tree t (passes-checked t p); inside = l }
 
 -- in such a table `names_in_force` gives all the names in force
 pub scope-whole : (t : Table) → Passes t → (n : ℕ) → n < count t → lastEight (scope t n) ≡ scope t n

@@ -7,11 +7,11 @@ use Rattle.model.specs.Basics.{_&_}
 use Rattle.model.specs.Values.{binders}
 use Rattle.model.specs.Table.{Table, Term, nil, par, box, new, out, inp, term}
 
--- a name is not marked
+-- a name is not in the set
 abbrev pub nameClear : List Bool → ℕ → Bool
 nameClear ts x = not (getD ts x false)
 
--- a tag word, 2 + n for the child box named n, names no marked name
+-- a tag word, 2 + n for the child box named n, names no name in the set
 abbrev pub tagClear : List Bool → ℕ → Bool
 tagClear ts zero = true
 tagClear ts (suc zero) = true
@@ -22,7 +22,7 @@ abbrev pub hide : List Bool → List ℕ → List Bool
 hide ts [] = ts
 hide ts (n ∷ ns) = hide (set ts n false) ns
 
--- no marked name is free as a channel, tag or box name; an inner binder hides the name
+-- no name in the set is free as a channel, tag or box name; an inner binder hides the name
 unfoldable pub clearIn : Term → List Bool → Bool
 clearIn (nil n) ts = true
 clearIn (par n l r) ts = clearIn l ts & clearIn r ts

@@ -1,4 +1,3 @@
-pub mod Walk
 pub mod Names
 pub mod FreeUses
 pub mod Unfolded

@@ -4,15 +4,16 @@
 // given in several lines.
 //
 // Output: the name, then `refused`, number and node; or `passed`, how many particles, boxes and new names node 0 unfolds to, how
-// many names are in force at the last node, and `used` where name 20, bound to the empty tuple, is free as a channel, tag or box
-// name in the table (refusal 15), `free` where not.
-use scopes::free_uses::defined_at;
+// many names are in force at the last node, and `used` where name 20 is free as a channel, tag or box name in the table, `free`
+// where not: what refusal 15 asks where that name is bound to a tuple.
+ghost use Rattle.tables.specs.Nodes.{table};
+ghost use Rattle.tables.specs.Checks.{Passes};
+use scopes::free_uses::clear;
 use scopes::names::names_in_force;
 use scopes::unfolded::unfolded_at;
 use tables::checks::Verdict;
 use tables::checks::check;
-use values::Env;
-use values::Value;
+use tables::name_set::NameSet;
 
 const NOTHING: u8 = 0;
 
@@ -61,15 +62,16 @@ fn digit(v: u32, b: u8) -> u32 {
     (v % 429496729) * 10 + d
 }
 
-// Name 20, bound to the empty tuple.
-fn twenty() -> Env {
-    let names = [20; 8];
-    let vals = [Value::none().push(4000000); 8];
-    Env { names, vals, n: 1 }
+// Name 20 alone.
+fn twenty() -> NameSet {
+    NameSet::none().put(20, true)
 }
 
-fn write_scopes(nodes: &[u32], pool: &[u32]) {
-    let u = unfolded_at(nodes, 0);
+// What a table that has passed the checks says of its nodes.
+fn write_scopes(nodes: &[u32], pool: &[u32])
+    requires { ⌜ Passes (table (now nodes) (now pool)) ⌝ }
+{
+    let u = unfolded_at(nodes, pool, 0);
     write_number(u.particles);
     write_number(u.boxes);
     write_number(u.names);
@@ -81,7 +83,7 @@ fn write_scopes(nodes: &[u32], pool: &[u32]) {
             write_number(8 - top);
         }
     }
-    if defined_at(nodes, pool, 0, twenty()) {
+    if clear(nodes, pool, 0, twenty()) {
         write(b" free\n");
     } else {
         write(b" used\n");

@@ -1,5 +1,5 @@
 -- The names in force at a node of a table that passes the checks: at most 8, and a child has those of its parent and what the parent binds.
-use mathlib.Core.Path.{_≡_, sym, ap, _∙_, subst}
+use mathlib.Core.Path.{_≡_, refl, ap, _∙_}
 use mathlib.Core.List.{List}
 use Prim.Native.Nat.{ℕ, _+_, _<_, _≤_}
 use native.Mathlib.Omega.{arith}
@@ -11,9 +11,8 @@ use Rattle.tables.specs.declared.nodes.Node.{Node}
 use Rattle.tables.specs.Nodes.{table, NodeIs}
 use Rattle.tables.specs.Scope.{Walks}
 use Rattle.tables.specs.Checks.{Passes}
-use Rattle.scopes.specs.Walk.{Step}
-use Rattle.scopes.proofs.StepLaws.{to-left, to-right, to-box, to-new, walks-at}
-use Rattle.scopes.proofs.ScopeBound.{scope-few, count-few, no-fault, passes-checked}
+use Rattle.tables.proofs.WalkLaws.{on-left, on-right, on-box, on-new}
+use Rattle.scopes.proofs.ScopeBound.{scope-few, count-few, no-fault, passes-checked, walks-at}
 use Rattle.unfolding.specs.Scoped.{Scoped}
 
 pub few : (t : Table) → Passes t → (n : ℕ) → n < count t → length (scope t n) ≤ 8
@@ -26,33 +25,31 @@ child-scope : (t : Table) → Passes t → (n m : ℕ) → n < count t → Child
 child-scope t p n m l ch = ap length (scope-child t (passes-checked t p) n m l ch) ∙ length-append (scope t n) (bound t n)
 
 -- A WALK BY ONE NODE: at most as many names as are in force
-module _ (ns pool : List ℕ) (n k : ℕ) (s : Scoped (table ns pool) n k) (x : Node) (i : NodeIs ns n x) (r : ℕ) where
+module _ (ns pool : List ℕ) (n k : ℕ) (s : Scoped (table ns pool) n k) (x : Node) (i : NodeIs ns n x) where
   abbrev t : Table
   t = table ns pool
 
   pub walks : Walks t n
-  walks = walks-at t (passes-checked t (s .passes)) n (s .inside)
+  walks = walks-at t (s .passes) n (s .inside)
 
-  down : (m : ℕ) → Child t n (kind t n) m → (r ≡ m) × Walks t r → (j : ℕ) → j ≤ k + length (bound t n) → Scoped t r j
-  down m ch w j h =
-      subst (λ (z : ℕ). Scoped t z j) (sym (w .0))
-      (record { passes = s .passes; inside = subst (λ (z : ℕ). z < count t) (w .0) (w .1 .inside); names = omega (arith, child-scope t (s .passes) n m (s .inside) ch, s .names) })
+  down : (m : ℕ) → Child t n (kind t n) m → Walks t m → (j : ℕ) → j ≤ k + length (bound t n) → Scoped t m j
+  down m ch w j h = record { passes = s .passes; inside = w .inside; names = omega (arith, child-scope t (s .passes) n m (s .inside) ch, s .names) }
 
-  pub scoped-left : x .kind ≡ 1 → Step n (x .a) (count t) r → Scoped t r k
-  scoped-left e st = down (x .a) (rw (i .f1, ← i .k, e) left) (to-left ns pool n walks x i r e st) k (omega arith)
+  pub scoped-left : x .kind ≡ 1 → Scoped t (x .a) k
+  scoped-left e = down (x .a) (rw (i .f1, ← i .k, e) left) (on-left ns pool n walks x i _ refl e .1) k (omega arith)
 
-  pub scoped-right : x .kind ≡ 1 → Step n (x .b) (count t) r → Scoped t r k
-  scoped-right e st = down (x .b) (rw (i .f2, ← i .k, e) right) (to-right ns pool n walks x i r e st) k (omega arith)
+  pub scoped-right : x .kind ≡ 1 → Scoped t (x .b) k
+  scoped-right e = down (x .b) (rw (i .f2, ← i .k, e) right) (on-right ns pool n walks x i _ refl e .1) k (omega arith)
 
-  pub scoped-box : x .kind ≡ 2 → Step n (x .b) (count t) r → Scoped t r k
-  scoped-box e st = down (x .b) (rw (i .f2, ← i .k, e) in-box) (to-box ns pool n walks x i r e st) k (omega arith)
+  pub scoped-box : x .kind ≡ 2 → Scoped t (x .b) k
+  scoped-box e = down (x .b) (rw (i .f2, ← i .k, e) in-box) (on-box ns pool n walks x i _ refl e .1) k (omega arith)
 
   one-more : x .kind ≡ 3 → length (bound t n) ≡ 1
   one-more e = rw (← i .k, e)
 
-  pub scoped-new : x .kind ≡ 3 → Step n (x .b) (count t) r → Scoped t r (k + 1)
-  scoped-new e st = down (x .b) (rw (i .f2, ← i .k, e) in-new) (to-new ns pool n walks x i r e st) (k + 1) (omega (arith, one-more e))
+  pub scoped-new : x .kind ≡ 3 → Scoped t (x .b) (k + 1)
+  scoped-new e = down (x .b) (rw (i .f2, ← i .k, e) in-new) (on-new ns pool n walks x i _ refl e .1) (k + 1) (omega (arith, one-more e))
 
   -- there is room for a new name
-  pub new-room : x .kind ≡ 3 → Step n (x .b) (count t) r → k < 8
-  new-room e st = let q = scoped-new e st in omega (arith, few t (s .passes) r (q .inside), q .names)
+  pub new-room : x .kind ≡ 3 → k < 8
+  new-room e = let q = scoped-new e in omega (arith, few t (s .passes) (x .b) (q .inside), q .names)

@@ -19,9 +19,7 @@ use Rattle.values.proofs.Environments.{env}
 use Rattle.tables.specs.declared.nodes.Node.{Node}
 use Rattle.tables.specs.Nodes.{table, NodeIs}
 use Rattle.tables.specs.Scope.{Walks}
-use Rattle.tables.proofs.WalkLaws.{at-kind, at-nil, on-new}
-use Rattle.scopes.specs.Walk.{Step}
-use Rattle.scopes.proofs.StepLaws.{to-left, to-right, to-box, to-new}
+use Rattle.tables.proofs.WalkLaws.{at-kind, at-nil, on-left, on-right, on-box, on-new}
 use Rattle.sides.specs.Layout.{parts, rowsOf, placesOf, viewRow, fitsRow, viewBox, viewPlace, fitsPlace, viewBoxes, fitsRows}
 use Rattle.sides.specs.Stored.{boxPut}
 use Rattle.sides.specs.Environments.{envOf, bound}
@@ -65,7 +63,7 @@ module _ {ns pool : List ℕ} {side n b : ℕ} {e : List ℕ} {d : ℕ} {l : Lis
   ρ = envOf e d
 
   walks-here : Walks t n
-  walks-here = walks ns pool n d (o .scoped) x i n
+  walks-here = walks ns pool n d (o .scoped) x i
 
   is : (κ : ℕ) → x .kind ≡ κ → term t n ≡ build κ t n (term t)
   is κ k = at-kind (λ a. a) ns pool n walks-here x i κ k
@@ -79,24 +77,36 @@ module _ {ns pool : List ℕ} {side n b : ℕ} {e : List ℕ} {d : ℕ} {l : Lis
   pub names-few : d ≤ 8
   names-few = omega (arith, few t (o .scoped .passes) n (o .scoped .inside), o .scoped .names)
 
-  -- PARALLEL: one child after the other
-  module _ (k : x .kind ≡ 1) {p : ℕ} (sp : Step n (x .a) (count t) p) where
-    par-term : term t n ≡ par n (term t p) (term t (x .b))
-    unfolding build
-    par-term =
-        let ep : p ≡ field t n 1 = to-left ns pool n walks-here x i p k sp .0 ∙ i .f1 in
-        is 1 k ∙ ap₂ (λ (y z : ℕ). par n (term t y) (term t z)) (sym ep) (sym (i .f2))
+  -- THE CALLS: the measure falls
+  module _ (T : ℕ) (m : count t - n ≡ T) where
+    pub left-less : x .kind ≡ 1 → count t - x .a < T
+    left-less k = on-left ns pool n walks-here x i T m k .0
 
-    par-short : (longIn (term t p) ρ ≡ false) × (longIn (term t (x .b)) ρ ≡ false)
+    pub right-less : x .kind ≡ 1 → count t - x .b < T
+    right-less k = on-right ns pool n walks-here x i T m k .0
+
+    pub box-less : x .kind ≡ 2 → count t - x .b < T
+    box-less k = on-box ns pool n walks-here x i T m k .0
+
+    pub new-less : x .kind ≡ 3 → count t - x .b < T
+    new-less k = on-new ns pool n walks-here x i T m k .0
+
+  -- PARALLEL: one child after the other
+  module _ (k : x .kind ≡ 1) where
+    par-term : term t n ≡ par n (term t (x .a)) (term t (x .b))
+    unfolding build
+    par-term = is 1 k ∙ ap₂ (λ (y z : ℕ). par n (term t y) (term t z)) (sym (i .f1)) (sym (i .f2))
+
+    par-short : (longIn (term t (x .a)) ρ ≡ false) × (longIn (term t (x .b)) ρ ≡ false)
     unfolding longIn
     par-short = neither _ _ (short-here par-term)
 
-    pub left-can : CanUnfold t side p b e d l c
+    pub left-can : CanUnfold t side (x .a) b e d l c
     left-can =
         let z = sizes par-term in
         record {
           narrow = o .narrow;
-          scoped = scoped-left ns pool n d (o .scoped) x i p k sp;
+          scoped = scoped-left ns pool n d (o .scoped) x i k;
           short = par-short .0;
           particles = omega (arith, o .particles);
           boxes = omega (arith, o .boxes);
@@ -109,23 +119,17 @@ module _ {ns pool : List ℕ} {side n b : ℕ} {e : List ℕ} {d : ℕ} {l : Lis
         }
 
     -- the left child is unfolded
-    module _ {e1 l1 : List ℕ} {c1 : Counts} (f : UnfoldedIs side (term t p) b e d l c e1 l1 c1) {q : ℕ} (sq : Step n (x .b) (count t) q) where
-      right-is : q ≡ x .b
-      right-is = to-right ns pool n walks-here x i q k sq .0
-
-      both-term : term t n ≡ par n (term t p) (term t q)
-      both-term = par-term ∙ ap (λ (j : ℕ). par n (term t p) (term t j)) (sym right-is)
-
+    module _ {e1 l1 : List ℕ} {c1 : Counts} (f : UnfoldedIs side (term t (x .a)) b e d l c e1 l1 c1) where
       same-env : envOf e1 d ≡ ρ
       same-env = env-same e e1 d (f .names) (f .places)
 
-      pub right-can : CanUnfold t side q b e1 d l1 c1
+      pub right-can : CanUnfold t side (x .b) b e1 d l1 c1
       right-can =
-          let z = sizes both-term in
+          let z = sizes par-term in
           record {
             narrow = o .narrow;
-            scoped = scoped-right ns pool n d (o .scoped) x i q k sq;
-            short = ap₂ (λ (j : ℕ) (π : Env). longIn (term t j) π) right-is same-env ∙ par-short .1;
+            scoped = scoped-right ns pool n d (o .scoped) x i k;
+            short = ap (λ (π : Env). longIn (term t (x .b)) π) same-env ∙ par-short .1;
             particles = omega (arith, o .particles, f .particles);
             boxes = omega (arith, o .boxes, f .boxes);
             minted = omega (arith, o .minted, f .minted);
@@ -136,10 +140,10 @@ module _ {ns pool : List ℕ} {side n b : ℕ} {e : List ℕ} {d : ℕ} {l : Lis
             fits = f .fits;
           }
 
-      pub par-is : {e2 l2 : List ℕ} {c2 : Counts} → UnfoldedIs side (term t q) b e1 d l1 c1 e2 l2 c2 → UnfoldedIs side (term t n) b e d l c e2 l2 c2
+      pub par-is : {e2 l2 : List ℕ} {c2 : Counts} → UnfoldedIs side (term t (x .b)) b e1 d l1 c1 e2 l2 c2 → UnfoldedIs side (term t n) b e d l c e2 l2 c2
       unfolding unfolds
-      par-is g = here both-term _ _ _ (record {
-        view = g .view ∙ ap₂ (λ (π : Env) (s : Contents). unfolds side (term t q) π b s) same-env (f .view);
+      par-is g = here par-term _ _ _ (record {
+        view = g .view ∙ ap₂ (λ (π : Env) (s : Contents). unfolds side (term t (x .b)) π b s) same-env (f .view);
         fits = g .fits;
         particles = omega (arith, f .particles, g .particles);
         boxes = omega (arith, f .boxes, g .boxes);
@@ -159,12 +163,10 @@ module _ {ns pool : List ℕ} {side n b : ℕ} {e : List ℕ} {d : ℕ} {l : Lis
   abbrev boxName : ℕ
   boxName = word ρ (field t n 1)
 
-  module _ (k : x .kind ≡ 2) {r : ℕ} (s : Step n (x .b) (count t) r) {l1 : List ℕ} {c1 : Counts} (q : c1 ≡ oneBox c) (h : l1 ≡ boxPut l (c .boxes) boxName b) where
-    box-term : term t n ≡ box n (field t n 1) (term t r)
+  module _ (k : x .kind ≡ 2) {l1 : List ℕ} {c1 : Counts} (q : c1 ≡ oneBox c) (h : l1 ≡ boxPut l (c .boxes) boxName b) where
+    box-term : term t n ≡ box n (field t n 1) (term t (x .b))
     unfolding build
-    box-term =
-        let er : r ≡ field t n 2 = to-box ns pool n walks-here x i r k s .0 ∙ i .f2 in
-        is 2 k ∙ ap (λ (j : ℕ). box n (field t n 1) (term t j)) (sym er)
+    box-term = is 2 k ∙ ap (λ (j : ℕ). box n (field t n 1) (term t j)) (sym (i .f2))
 
     same-rows : rowsOf l1 ≡ rowsOf l
     same-rows = ap rowsOf h ∙ box-rows l (c .boxes) boxName b
@@ -178,14 +180,14 @@ module _ {ns pool : List ℕ} {side n b : ℕ} {e : List ℕ} {d : ℕ} {l : Lis
         let bs = ap (λ (y : List ℕ). viewBoxes y (c .boxes + 1)) h ∙ box-view l (c .boxes) boxName b (o .long) (box-free k) in
         ap (counted l1) q ∙ ap₂ (λ (y : List Particle) (z : List Box). contents y z (c .minted)) ps bs
 
-    pub box-can : CanUnfold t side r (c .boxes) e d l1 c1
+    pub box-can : CanUnfold t side (x .b) (c .boxes) e d l1 c1
     unfolding longIn
     box-can =
         let z = sizes box-term in
         let u = numbers q in
         record {
           narrow = o .narrow;
-          scoped = scoped-box ns pool n d (o .scoped) x i r k s;
+          scoped = scoped-box ns pool n d (o .scoped) x i k;
           short = short-here box-term;
           particles = omega (arith, o .particles);
           boxes = omega (arith, o .boxes);
@@ -197,13 +199,13 @@ module _ {ns pool : List ℕ} {side n b : ℕ} {e : List ℕ} {d : ℕ} {l : Lis
           fits = ap₂ (λ (j : ℕ) (y : List (List ℕ)). leb j 32 & every fitsRow (take j y)) (u .0) same-rows ∙ o .fits;
         }
 
-    pub box-is : {e2 l2 : List ℕ} {c2 : Counts} → UnfoldedIs side (term t r) (c .boxes) e d l1 c1 e2 l2 c2 → UnfoldedIs side (term t n) b e d l c e2 l2 c2
+    pub box-is : {e2 l2 : List ℕ} {c2 : Counts} → UnfoldedIs side (term t (x .b)) (c .boxes) e d l1 c1 e2 l2 c2 → UnfoldedIs side (term t n) b e d l c e2 l2 c2
     unfolding unfolds
     box-is g =
         let u = numbers q in
         let number : length (viewBoxes l (c .boxes)) ≡ c .boxes = boxes-held l (c .boxes) (omega (arith, box-free k)) in
         here box-term _ _ _ (record {
-          view = g .view ∙ ap₂ (λ (j : ℕ) (y : Contents). unfolds side (term t r) ρ j y) (sym number) box-more;
+          view = g .view ∙ ap₂ (λ (j : ℕ) (y : Contents). unfolds side (term t (x .b)) ρ j y) (sym number) box-more;
           fits = g .fits;
           particles = omega (arith, g .particles);
           boxes = omega (arith, g .boxes);
@@ -220,20 +222,15 @@ module _ {ns pool : List ℕ} {side n b : ℕ} {e : List ℕ} {d : ℕ} {l : Lis
   unfolding build
   name-free k =
       let z = sizes (is 3 k) in
-      -- the step to the child is to its own number
-      let child = on-new ns pool n walks-here x i _ refl k in
-      let step : Step n (x .b) (count t) (x .b) = record { same = λ p q. refl; above = λ p. omega (arith, child .0) } in
-      (omega (arith, o .minted), new-room ns pool n d (o .scoped) x i (x .b) k step)
+      (omega (arith, o .minted), new-room ns pool n d (o .scoped) x i k)
 
   abbrev newName : List ℕ
   newName = (65536 * side + c .minted) ∷ []
 
-  module _ (k : x .kind ≡ 3) {r : ℕ} (s : Step n (x .b) (count t) r) {e1 : List ℕ} {c1 : Counts} (q : c1 ≡ oneName c) (h : e1 ≡ bound e d (field t n 1) newName) where
-    new-term : term t n ≡ new n (field t n 1) (term t r)
+  module _ (k : x .kind ≡ 3) {e1 : List ℕ} {c1 : Counts} (q : c1 ≡ oneName c) (h : e1 ≡ bound e d (field t n 1) newName) where
+    new-term : term t n ≡ new n (field t n 1) (term t (x .b))
     unfolding build
-    new-term =
-        let er : r ≡ field t n 2 = to-new ns pool n walks-here x i r k s .0 ∙ i .f2 in
-        is 3 k ∙ ap (λ (j : ℕ). new n (field t n 1) (term t j)) (sym er)
+    new-term = is 3 k ∙ ap (λ (j : ℕ). new n (field t n 1) (term t j)) (sym (i .f2))
 
     new-env : envOf e1 (d + 1) ≡ extend ρ (field t n 1 ∷ []) (newName ∷ [])
     new-env = ap (λ (y : List ℕ). envOf y (d + 1)) h ∙ env-bound e d (field t n 1) newName (o .width) (name-free k .1) (omega arith)
@@ -251,18 +248,18 @@ module _ {ns pool : List ℕ} {side n b : ℕ} {e : List ℕ} {d : ℕ} {l : Lis
     old-places = ap (λ (y : List ℕ). take d (placesOf y)) h ∙ places-kept e d (field t n 1) newName (o .width) (name-free k .1) (omega arith)
 
     -- a new name has one word, whichever it is
-    new-short : longIn (term t r) (envOf e1 (d + 1)) ≡ false
+    new-short : longIn (term t (x .b)) (envOf e1 (d + 1)) ≡ false
     unfolding longIn
     new-short =
-        ap (longIn (term t r)) new-env ∙ long-new (term t r) ρ (field t n 1) (65536 * side + c .minted) (sized e d (o .width) names-few) ∙ short-here new-term
+        ap (longIn (term t (x .b))) new-env ∙ long-new (term t (x .b)) ρ (field t n 1) (65536 * side + c .minted) (sized e d (o .width) names-few) ∙ short-here new-term
 
-    pub new-can : CanUnfold t side r b e1 (d + 1) l c1
+    pub new-can : CanUnfold t side (x .b) b e1 (d + 1) l c1
     new-can =
         let z = sizes new-term in
         let u = numbers q in
         record {
           narrow = o .narrow;
-          scoped = scoped-new ns pool n d (o .scoped) x i r k s;
+          scoped = scoped-new ns pool n d (o .scoped) x i k;
           short = new-short;
           particles = omega (arith, o .particles);
           boxes = omega (arith, o .boxes);
@@ -274,12 +271,12 @@ module _ {ns pool : List ℕ} {side n b : ℕ} {e : List ℕ} {d : ℕ} {l : Lis
           fits = ap (fitsRows l) (u .0) ∙ o .fits;
         }
 
-    pub new-is : {e2 l2 : List ℕ} {c2 : Counts} → UnfoldedIs side (term t r) b e1 (d + 1) l c1 e2 l2 c2 → UnfoldedIs side (term t n) b e d l c e2 l2 c2
+    pub new-is : {e2 l2 : List ℕ} {c2 : Counts} → UnfoldedIs side (term t (x .b)) b e1 (d + 1) l c1 e2 l2 c2 → UnfoldedIs side (term t n) b e d l c e2 l2 c2
     unfolding unfolds
     new-is {e2} g =
         let u = numbers q in
         here new-term _ _ _ (record {
-          view = g .view ∙ ap₂ (λ (π : Env) (y : Counts). unfolds side (term t r) π b (counted l y)) new-env q;
+          view = g .view ∙ ap₂ (λ (π : Env) (y : Counts). unfolds side (term t (x .b)) π b (counted l y)) new-env q;
           fits = g .fits;
           particles = omega (arith, g .particles);
           boxes = omega (arith, g .boxes);

@@ -7,7 +7,6 @@ use crate::at_node::add_box;
 use crate::at_node::mint_name;
 use crate::at_node::unfold_input;
 use crate::at_node::unfold_output;
-use scopes::walk::child;
 use tables::nodes::node_at;
 
 // The term at node n unfolds in box b, under the first d names of e. The caller has seen that no output is too long (16) and that
@@ -26,19 +25,18 @@ pub fn unfold_at(
     requires { ⌜ CanUnfold (table (now nodes) (now pool)) side n b (now e) d (now rows) c ⌝ }
     ensures { λ r. ⌜ UnfoldedIs side (term (table (now (nodes .entry)) (now (pool .entry))) n) b (now (e .entry)) d (now (rows .entry)) c (now (e .exit)) (now (rows .exit)) r ⌝ }
 {
-    let m = nodes.len() / 5;
     let x = node_at(nodes, n);
     if x.kind == 1 {
-        let q = unfold_at(nodes, pool, side, child(n, x.a, m), b, e, d, rows, c);
-        return unfold_at(nodes, pool, side, child(n, x.b, m), b, e, d, rows, q);
+        let q = unfold_at(nodes, pool, side, x.a, b, e, d, rows, c);
+        return unfold_at(nodes, pool, side, x.b, b, e, d, rows, q);
     }
     if x.kind == 2 {
         let q = add_box(nodes, n, b, e, d, rows, c);
-        return unfold_at(nodes, pool, side, child(n, x.b, m), c.boxes, e, d, rows, q);
+        return unfold_at(nodes, pool, side, x.b, c.boxes, e, d, rows, q);
     }
     if x.kind == 3 {
         let q = mint_name(nodes, side, n, e, d, c);
-        return unfold_at(nodes, pool, side, child(n, x.b, m), b, e, d + 1, rows, q);
+        return unfold_at(nodes, pool, side, x.b, b, e, d + 1, rows, q);
     }
     if x.kind == 4 {
         return unfold_output(nodes, pool, n, b, e, d, rows, c);

@@ -333,7 +333,7 @@ impl Value {
     }
 
     // One word more: past the sixteenth it is counted and not stored.
-    pub fn push(mut self, w: u32) -> Value
+    fn push(mut self, w: u32) -> Value
         ensures { λ r. ⌜ ((l : List ℕ) → Stores l self → Stores (l ++ (w ∷ [])) r) ⌝ }
     {
         let n = self.len;

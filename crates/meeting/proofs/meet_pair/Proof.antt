@@ -24,8 +24,12 @@ rows-left-requires c κs =
 
 has-room-requires : tie.Need-has-room-requires
 has-room-requires c κs =
-    let start = c .before .before .before .before .before .before .before .before .before .before .before .before .before .before .before .before in
-    pair-counts (start .pre) (c .rows-left .result) _ (c .rows-left .ensures)
+    let at-a = c .before .before .before .before .before .before .before in
+    let at-join = at-a .before .before .before in
+    let start = at-join .before .before .before .before .before .before in
+    let body = joined-at (at-join .join .ensures) (at-a .a .given .1) .scoped in
+    let few = pair-counts (start .pre) (c .rows-left .result) _ (c .rows-left .ensures) in
+    (body .passes, body .inside, few .0, few .1, few .2)
 
 returns-2 : tie.Need-returns-2
 returns-2 c =
@@ -43,7 +47,7 @@ returns-2 c =
     let node = at-wide .wide .ensures ∙ at-word-at .word-at .ensures in
     let ag = replicated-is (start .args .nodes .now) (start .args .pool .now) node (at-node-at .node-at .ensures) in
     let le = at-rows-left .rows-left .ensures in
-    let rm = at-has-room .has-room .ensures (start .args .pool .now) in
+    let rm = at-has-room .has-room .ensures in
     let a = start .args in
     let s = withTable (a .side) (table (a .nodes .now) (a .pool .now)) in
     pair-full M jn ag le rm (not-true _ (at-if1 .if1 .taken)) (c .plain2 .ensures) s refl
@@ -78,7 +82,7 @@ unfold-at-requires c κs =
     let node = at-wide .wide .ensures ∙ at-word-at .word-at .ensures in
     let ag = replicated-is (start .args .nodes .now) (start .args .pool .now) node (at-node-at .node-at .ensures) in
     let le = at-rows-left .rows-left .ensures in
-    let rm = at-has-room .has-room .ensures (start .args .pool .now) in
+    let rm = at-has-room .has-room .ensures in
     let y = not-false _ (at-if1 .if1 .left) in
     let be = at-wide2 .wide2 .ensures ∙ at-word-at2 .word-at2 .ensures in
     let gone = at-remove-pair .remove-pair .ensures in
@@ -105,7 +109,7 @@ returns-3 c =
     let node = at-wide .wide .ensures ∙ at-word-at .word-at .ensures in
     let ag = replicated-is (start .args .nodes .now) (start .args .pool .now) node (at-node-at .node-at .ensures) in
     let le = at-rows-left .rows-left .ensures in
-    let rm = at-has-room .has-room .ensures (start .args .pool .now) in
+    let rm = at-has-room .has-room .ensures in
     let y = not-false _ (at-if1 .if1 .left) in
     let be = at-wide2 .wide2 .ensures ∙ at-word-at2 .word-at2 .ensures in
     let gone = at-remove-pair .remove-pair .ensures in

@@ -2,8 +2,7 @@ use mathlib.Core.Path.{_≡_}
 use lib.ListN.{length}
 use Rattle.model.specs.Table.{term}
 use Rattle.tables.specs.Nodes.{table}
-use Rattle.scopes.proofs.StepLaws.{walks-at}
-use Rattle.scopes.proofs.ScopeBound.{passes-checked}
+use Rattle.scopes.proofs.ScopeBound.{walks-at}
 use Rattle.environments.proofs.Sizes.{too-long-is}
 use borrow.Author.Needs.{needs}
 use Rattle.environments.proofs.long.too_long.Statement.{statement}
@@ -13,7 +12,7 @@ long-in-requires : tie.Need-long-in-requires
 long-in-requires c κs =
     let x = c .before .before .before .before in
     let t = table (x .args .nodes .now) (x .args .pool .now) in
-    walks-at t (passes-checked t (x .pre .0)) (x .args .node) (x .pre .1)
+    walks-at t (x .pre .0) (x .args .node) (x .pre .1)
 
 returns : tie.Need-returns
 returns c =

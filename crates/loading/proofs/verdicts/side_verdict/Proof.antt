@@ -12,6 +12,14 @@ returns c =
     let t = table (x .args .nodes .now) (x .args .pool .now) in
     λ i. side-bad i t (c .before .before .check .result) _ _ (c .before .before .check .ensures) (c .enum-told2 .given .1)
 
+unfolded-at-requires : tie.Need-unfolded-at-requires
+unfolded-at-requires c κs =
+    let at-check = c .before .before in
+    let x = at-check .before .before .before in
+    let t = table (x .args .nodes .now) (x .args .pool .now) in
+    let p = side-passes t (at-check .check .result) (at-check .check .ensures) (c .enum-told .given .1) in
+    (p, root-in t p)
+
 add-contents-within : tie.Need-add-contents-within
 add-contents-within c = omega (arith, c .before .unfolded-at .ensures .0 .boxes)
 
@@ -21,7 +29,7 @@ returns-2 c =
     let t = table (x .args .nodes .now) (x .args .pool .now) in
     let p = side-passes t (c .before .before .before .before .before .before .check .result) (c .before .before .before .before .before .before .check .ensures) (c .before .before .before .before .enum-told .given .1) in
     let u = c .before .before .before .unfolded-at in
-    λ i. side-good i t p (start-within i t (u .result) (u .ensures .1 (x .args .pool .now) p (root-in t p)) ∙ sym (c .before .contents-within .ensures) ∙ c .if1 .taken)
+    λ i. side-good i t p (start-within i t (u .result) (u .ensures .1) ∙ sym (c .before .contents-within .ensures) ∙ c .if1 .taken)
 
 returns-3 : tie.Need-returns-3
 returns-3 c =
@@ -29,7 +37,7 @@ returns-3 c =
     let t = table (x .args .nodes .now) (x .args .pool .now) in
     let p = side-passes t (c .before .before .before .before .before .before .check .result) (c .before .before .before .before .before .before .check .ensures) (c .before .before .before .before .enum-told .given .1) in
     let u = c .before .before .before .unfolded-at in
-    λ i. side-seven i t p (start-within i t (u .result) (u .ensures .1 (x .args .pool .now) p (root-in t p)) ∙ sym (c .before .contents-within .ensures) ∙ c .if1 .left)
+    λ i. side-seven i t p (start-within i t (u .result) (u .ensures .1) ∙ sym (c .before .contents-within .ensures) ∙ c .if1 .left)
 
 pub side-verdict-spec : {M : Type 1} → statement M
 side-verdict-spec =
@@ -39,7 +47,7 @@ side-verdict-spec =
     (λ c. search needs)
     (λ c. search needs)
     returns
-    (λ c κs. search needs)
+    unfolded-at-requires
     add-contents-within
     (λ c κs. search needs)
     returns-2

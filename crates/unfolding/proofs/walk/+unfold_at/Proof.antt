@@ -1,7 +1,7 @@
 use Prim.Native.Nat.{ℕ, _-_, _/_, _<_}
 use native.Mathlib.Omega.{arith}
 use lib.ListN.{length}
-use Rattle.unfolding.proofs.Walking.{names-few, left-can, right-can, par-is, box-free, box-can, box-is, name-free, new-can, new-is, output-can, output-is, input-can, input-is, nil-is}
+use Rattle.unfolding.proofs.Walking.{names-few, left-less, right-less, box-less, new-less, left-can, right-can, par-is, box-free, box-can, box-is, name-free, new-can, new-is, output-can, output-is, input-can, input-is, nil-is}
 use borrow.Author.Needs.{needs}
 use borrow.Fn.Kinds.{In}
 use borrow.Fn.PlainCycle.{Measures, is, falls, and}
@@ -12,7 +12,6 @@ use Rattle.unfolding.proofs.at_node.add_box.Reads as add-box-reads
 use Rattle.unfolding.proofs.at_node.unfold_input.Reads as unfold-input-reads
 use Rattle.unfolding.proofs.at_node.mint_name.Reads as mint-name-reads
 use Rattle.unfolding.proofs.at_node.unfold_output.Reads as unfold-output-reads
-use Rattle.scopes.proofs.walk.child.Reads as child-reads
 use Rattle.tables.proofs.nodes.node_at.Reads as node-at-reads
 use Rattle.unfolding.proofs.walk.+unfold_at.{statement}
 use Rattle.unfolding.proofs.walk.+unfold_at.Tie.{close}
@@ -31,8 +30,6 @@ abbrev claims : ℕ → unfold-at-lts.Claims
 claims t = (
   node-at-reads.Asked,
   node-at-reads.Learnt,
-  child-reads.Asked,
-  child-reads.Learnt,
   unfold-at-below t,
   unfold-at.Post,
   add-box-reads.Asked,
@@ -47,40 +44,35 @@ claims t = (
 
 unfold-at-unfold-at-requires : (t : ℕ) → unfold-at-lts.Need-unfold-at-requires (claims t) (unfold-at-at t) unfold-at.Post
 unfold-at-unfold-at-requires t c κs =
-    let at-child = c .before .before in
-    let at-if1 = at-child .before in
+    let at-if1 = c .before .before in
     let at-node-at = at-if1 .before .before in
     let start = at-node-at .before .before .before .before .before in
     let o = start .pre .1 in
     let node = at-node-at .node-at .ensures in
-    let step = at-child .child .ensures in
-    (omega (arith, start .pre .0, step .above (o .scoped .inside)), left-can o node (at-if1 .if1 .taken) step)
+    let par = at-if1 .if1 .taken in
+    (left-less o node _ (start .pre .0) par, left-can o node par)
 
 unfold-at-unfold-at-requires-2 : (t : ℕ) → unfold-at-lts.Need-unfold-at-requires-2 (claims t) (unfold-at-at t) unfold-at.Post
 unfold-at-unfold-at-requires-2 t c κs =
-    let at-child2 = c .before .before in
-    let at-unfold-at = at-child2 .before .before .before .before .before in
-    let at-child = at-unfold-at .before .before .before in
-    let at-if1 = at-child .before in
+    let at-unfold-at = c .before .before .before .before .before .before in
+    let at-if1 = at-unfold-at .before .before .before in
     let at-node-at = at-if1 .before .before in
     let start = at-node-at .before .before .before .before .before in
     let o = start .pre .1 in
     let node = at-node-at .node-at .ensures in
-    let step = at-child2 .child2 .ensures in
-    (omega (arith, start .pre .0, step .above (o .scoped .inside)), right-can o node (at-if1 .if1 .taken) (at-child .child .ensures) (at-unfold-at .unfold-at .ensures) step)
+    let par = at-if1 .if1 .taken in
+    (right-less o node _ (start .pre .0) par, right-can o node par (at-unfold-at .unfold-at .ensures))
 
 unfold-at-returns : (t : ℕ) → unfold-at-lts.Need-returns (claims t) (unfold-at-at t) unfold-at.Post
 unfold-at-returns t c =
     let at-unfold-at2 = c .before .before .before .before in
-    let at-child2 = at-unfold-at2 .before .before .before in
-    let at-unfold-at = at-child2 .before .before .before .before .before in
-    let at-child = at-unfold-at .before .before .before in
-    let at-if1 = at-child .before in
+    let at-unfold-at = at-unfold-at2 .before .before .before .before .before .before .before in
+    let at-if1 = at-unfold-at .before .before .before in
     let at-node-at = at-if1 .before .before in
     let start = at-node-at .before .before .before .before .before in
     let o = start .pre .1 in
     let node = at-node-at .node-at .ensures in
-    par-is o node (at-if1 .if1 .taken) (at-child .child .ensures) (at-unfold-at .unfold-at .ensures) (at-child2 .child2 .ensures) (at-unfold-at2 .unfold-at2 .ensures)
+    par-is o node (at-if1 .if1 .taken) (at-unfold-at .unfold-at .ensures) (at-unfold-at2 .unfold-at2 .ensures)
 
 unfold-at-add-box-requires : (t : ℕ) → unfold-at-lts.Need-add-box-requires (claims t) (unfold-at-at t) unfold-at.Post
 unfold-at-add-box-requires t c κs =
@@ -94,29 +86,27 @@ unfold-at-add-box-requires t c κs =
 
 unfold-at-unfold-at-requires-3 : (t : ℕ) → unfold-at-lts.Need-unfold-at-requires-3 (claims t) (unfold-at-at t) unfold-at.Post
 unfold-at-unfold-at-requires-3 t c κs =
-    let at-child3 = c .before .before in
-    let at-add-box = at-child3 .before .before .before in
+    let at-add-box = c .before .before .before .before in
     let at-if2 = at-add-box .before .before .before in
     let at-node-at = at-if2 .before .before .before .before in
     let start = at-node-at .before .before .before .before .before in
     let o = start .pre .1 in
     let node = at-node-at .node-at .ensures in
-    let step = at-child3 .child3 .ensures in
     let put = at-add-box .add-box .ensures in
-    (omega (arith, start .pre .0, step .above (o .scoped .inside)), box-can o node (at-if2 .if2 .taken) step (put .0) (put .1 (start .args .pool .now)))
+    let box = at-if2 .if2 .taken in
+    (box-less o node _ (start .pre .0) box, box-can o node box (put .0) (put .1 (start .args .pool .now)))
 
 unfold-at-returns-2 : (t : ℕ) → unfold-at-lts.Need-returns-2 (claims t) (unfold-at-at t) unfold-at.Post
 unfold-at-returns-2 t c =
     let at-unfold-at3 = c .before .before .before .before in
-    let at-child3 = at-unfold-at3 .before .before .before in
-    let at-add-box = at-child3 .before .before .before in
+    let at-add-box = at-unfold-at3 .before .before .before .before .before in
     let at-if2 = at-add-box .before .before .before in
     let at-node-at = at-if2 .before .before .before .before in
     let start = at-node-at .before .before .before .before .before in
     let o = start .pre .1 in
     let node = at-node-at .node-at .ensures in
     let put = at-add-box .add-box .ensures in
-    box-is o node (at-if2 .if2 .taken) (at-child3 .child3 .ensures) (put .0) (put .1 (start .args .pool .now)) (at-unfold-at3 .unfold-at3 .ensures)
+    box-is o node (at-if2 .if2 .taken) (put .0) (put .1 (start .args .pool .now)) (at-unfold-at3 .unfold-at3 .ensures)
 
 unfold-at-mint-name-requires : (t : ℕ) → unfold-at-lts.Need-mint-name-requires (claims t) (unfold-at-at t) unfold-at.Post
 unfold-at-mint-name-requires t c κs =
@@ -130,7 +120,7 @@ unfold-at-mint-name-requires t c κs =
 
 unfold-at-add-unfold-at : (t : ℕ) → unfold-at-lts.Need-add-unfold-at (claims t) (unfold-at-at t) unfold-at.Post
 unfold-at-add-unfold-at t c =
-    let at-node-at = c .before .before .before .before .before .before .before .before .before .before .before .before in
+    let at-node-at = c .before .before .before .before .before .before .before .before .before .before .before in
     let start = at-node-at .before .before .before .before .before in
     let o = start .pre .1 in
     let node = at-node-at .node-at .ensures in
@@ -138,29 +128,27 @@ unfold-at-add-unfold-at t c =
 
 unfold-at-unfold-at-requires-4 : (t : ℕ) → unfold-at-lts.Need-unfold-at-requires-4 (claims t) (unfold-at-at t) unfold-at.Post
 unfold-at-unfold-at-requires-4 t c κs =
-    let at-child4 = c .before .before in
-    let at-mint-name = at-child4 .before .before .before in
+    let at-mint-name = c .before .before .before .before in
     let at-if3 = at-mint-name .before .before in
     let at-node-at = at-if3 .before .before .before .before .before .before in
     let start = at-node-at .before .before .before .before .before in
     let o = start .pre .1 in
     let node = at-node-at .node-at .ensures in
-    let step = at-child4 .child4 .ensures in
     let put = at-mint-name .mint-name .ensures in
-    (omega (arith, start .pre .0, step .above (o .scoped .inside)), new-can o node (at-if3 .if3 .taken) step (put .0) (put .1 (start .args .pool .now)))
+    let new = at-if3 .if3 .taken in
+    (new-less o node _ (start .pre .0) new, new-can o node new (put .0) (put .1 (start .args .pool .now)))
 
 unfold-at-returns-3 : (t : ℕ) → unfold-at-lts.Need-returns-3 (claims t) (unfold-at-at t) unfold-at.Post
 unfold-at-returns-3 t c =
     let at-unfold-at4 = c .before .before .before .before in
-    let at-child4 = at-unfold-at4 .before .before .before in
-    let at-mint-name = at-child4 .before .before .before in
+    let at-mint-name = at-unfold-at4 .before .before .before .before .before in
     let at-if3 = at-mint-name .before .before in
     let at-node-at = at-if3 .before .before .before .before .before .before in
     let start = at-node-at .before .before .before .before .before in
     let o = start .pre .1 in
     let node = at-node-at .node-at .ensures in
     let put = at-mint-name .mint-name .ensures in
-    new-is o node (at-if3 .if3 .taken) (at-child4 .child4 .ensures) (put .0) (put .1 (start .args .pool .now)) (at-unfold-at4 .unfold-at4 .ensures)
+    new-is o node (at-if3 .if3 .taken) (put .0) (put .1 (start .args .pool .now)) (at-unfold-at4 .unfold-at4 .ensures)
 
 unfold-at-unfold-output-requires : (t : ℕ) → unfold-at-lts.Need-unfold-output-requires (claims t) (unfold-at-at t) unfold-at.Post
 unfold-at-unfold-output-requires t c κs =
@@ -215,21 +203,17 @@ unfold-at-returns-6 t c =
 pub +unfold-at-spec : {M : Type 1} → statement M
 +unfold-at-spec = close μ-unfold-at λ t. unfold-at-lts.spec (claims t) (unfold-at-at t) unfold-at.Post
     (λ c κs. search needs)
-    (λ c κs. search needs)
     (unfold-at-unfold-at-requires t)
-    (λ c κs. search needs)
     (unfold-at-unfold-at-requires-2 t)
     (λ c. search needs)
     (λ c. search needs)
     (unfold-at-returns t)
     (unfold-at-add-box-requires t)
-    (λ c κs. search needs)
     (unfold-at-unfold-at-requires-3 t)
     (λ c. search needs)
     (λ c. search needs)
     (unfold-at-returns-2 t)
     (unfold-at-mint-name-requires t)
-    (λ c κs. search needs)
     (unfold-at-add-unfold-at t)
     (unfold-at-unfold-at-requires-4 t)
     (λ c. search needs)
