@@ -2,7 +2,7 @@
 use mathlib.Core.Path.{_≡_, refl, sym, ap, ap₂, subst, _∙_, fun-ext}
 use mathlib.Core.Bool.{Bool, true, false, _||_, false≢true}
 use mathlib.Core.List.{List, [], _∷_, map}
-use Prim.Native.Nat.{ℕ, zero, suc, _-_, _<_, _≤_}
+use Prim.Native.Nat.{ℕ, zero, suc, _+_, _-_, _<_, _≤_}
 use native.Mathlib.Omega.{arith}
 use lib.ListN.{length, getD, set}
 use lib.Seq.{set-getD}
@@ -16,6 +16,7 @@ use Rattle.model.specs.WellFormed.{shelfOf}
 use Rattle.model.specs.Step.{Label, silent, enters, leaves, Step, Moved, settled, local, takes, marked, marks, markAll, known, sideAfter}
 use Rattle.values.specs.Env.{viewValue}
 use Rattle.tables.specs.Nodes as slices
+use Rattle.wrappers.specs.declared.Source.the-variants as route
 use Rattle.sides.specs.declared.Rest.{Rest}
 use Rattle.sides.specs.Layout.{viewShelf, fitsShelf}
 use Rattle.sides.specs.Sides.{coreOf, sideOf}
@@ -168,13 +169,21 @@ shelves-at : (ls : List (List ℕ)) (ns : List ℕ) (m : ℕ) → 0 < m → shel
 shelves-at ls ns zero h = absurd (omega arith)
 shelves-at ls ns (suc k) h = let z : suc k - 1 ≡ k = omega arith in ap (λ (j : ℕ). viewShelf (getD ls j []) (getD ns j 0)) (sym z)
 
-pub take-is : (ls : List (List ℕ)) (ns : List ℕ) (m w p : ℕ) (s : Core) (i : ℕ) → w ≡ m → p ≡ m - 1 → 0 < m → settled (takes m (shelvesIn ls ns m) s i) ≡ settled (takes w (viewShelf (getD ls p []) (getD ns p 0)) s i)
-take-is ls ns m w p s i e q h =
-    ap (λ (sh : List (List ℕ)). settled (takes m sh s i)) (shelves-at ls ns m h ∙ ap (λ (j : ℕ). viewShelf (getD ls j []) (getD ns j 0)) (sym q)) ∙
-    ap (λ (j : ℕ). settled (takes j (viewShelf (getD ls p []) (getD ns p 0)) s i)) (sym e)
+pub place-number : (p m : ℕ) → p ≡ m - 1 → 0 < m → route.Side (p + 1) ≡ route.Side m
+place-number p m e h = let z : p + 1 ≡ m = omega (arith, e, h) in ap route.Side z
 
-pub source-is : (ls : List (List ℕ)) (ns : List ℕ) (m w p : ℕ) → Shelves ls ns → w ≡ m → p ≡ m - 1 → 0 < m → m ≤ length allSides → Source w (getD ls p []) (getD ns p 0)
-source-is ls ns m w p s e q h t = let z : p < length allSides = omega arith in record { first = omega arith; last = omega arith; long = s .long p z; fits = s .fits p z }
+pub take-is : (ls : List (List ℕ)) (ns : List ℕ) (p : ℕ) (s : Core) (i q : ℕ) → q ≡ i →
+    settled (takes (p + 1) (shelvesIn ls ns (p + 1)) s i) ≡ settled (takes (p + 1) (viewShelf (getD ls p []) (getD ns p 0)) s q)
+take-is ls ns p s i q e =
+    let h : 0 < p + 1 = omega arith in
+    let same : p + 1 - 1 ≡ p = omega arith in
+    ap (λ (sh : List (List ℕ)). settled (takes (p + 1) sh s i)) (shelves-at ls ns (p + 1) h ∙ ap (λ (j : ℕ). viewShelf (getD ls j []) (getD ns j 0)) same) ∙
+    ap (λ (y : ℕ). settled (takes (p + 1) (viewShelf (getD ls p []) (getD ns p 0)) s y)) (sym e)
+
+pub source-is : (ls : List (List ℕ)) (ns : List ℕ) (p : ℕ) → Shelves ls ns → p + 1 ≤ length allSides → Source (p + 1) (getD ls p []) (getD ns p 0)
+source-is ls ns p s h =
+    let z : p < length allSides = omega (arith, h) in
+    record { first = omega arith; last = h; long = s .long p z; fits = s .fits p z }
 
 -- MARKS after what is said
 pub marked-out : (s : Said) (v : List ℕ) (ls : List (List Bool)) (k m : ℕ) (y : List Bool) → isOut s ≡ true → k ≡ m → y ≡ markAll (getD ls k []) v → MarkedAt s v ls m (set ls k y)

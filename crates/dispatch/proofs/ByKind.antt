@@ -2,14 +2,14 @@
 use mathlib.Core.Path.{_≡_, refl, sym, ap, subst, _∙_}
 use mathlib.Core.Bool.{Bool, true, false}
 use mathlib.Core.List.{List, [], _∷_}
-use Prim.Native.Nat.{ℕ}
+use Prim.Native.Nat.{ℕ, _+_}
 use native.Mathlib.Omega.{arith}
-use borrow.Author.Tests.{eq-eqb, ne-eqb}
+use borrow.Author.Tests.{eq-eqb, ne-eqb, eqb-true}
 use lib.Dec.{eqb}
 use lib.ListN.{length}
 use Rattle.model.specs.Basics.{_&_, choose, Res, refuse, done, bind, need}
 use Rattle.model.specs.Side.{Core}
-use Rattle.model.specs.Wrapper.{Route, shelves}
+use Rattle.model.specs.Wrapper.{Route, Wrapper, shelves}
 use Rattle.model.specs.Load.{Setting}
 use Rattle.model.specs.Step.{Moved, settled, goDown, up, pass, leave, descend, meet, enter, takes, inner, routeTo, local}
 use Rattle.wrappers.specs.declared.Source.the-variants.{Side, Nowhere}
@@ -17,12 +17,16 @@ use Rattle.wrappers.specs.Routes.{sourceBy, sourceFor}
 use Rattle.sides.specs.declared.Rest.{Rest}
 use Rattle.steps.specs.declared.RestStep.{RestStep}
 use Rattle.steps.specs.StepIs.{Sane, StepIs}
-use Rattle.steps.specs.Asked.{withShelf}
-use Rattle.steps.proofs.Held.{sane}
+use Rattle.steps.specs.declared.Said.the-variants as said
+use Rattle.steps.specs.declared.Offer.{Offer}
+use Rattle.steps.specs.declared.Offer.the-variants.{At, Refused}
+use Rattle.steps.specs.Asked.{Says, numberOf, withShelf}
+use Rattle.steps.proofs.Held.{sane, refused-is}
+use Rattle.steps.proofs.Settling.{no-left, no-right}
 use Rattle.steps.proofs.Settings.{up-with}
 use Rattle.meeting.specs.Meeting.{withTable}
 use Rattle.meeting.proofs.Settings.{meet-with}
-use Rattle.dispatch.specs.Stepping.{asked, onePlace, twoPlaces, OwnReady}
+use Rattle.dispatch.specs.Stepping.{asked, OfferIf, RouteOffer, onePlace, twoPlaces, OwnReady}
 
 -- a side that a step may act on
 pub own-sane : (c : Setting) (l : List ℕ) (o : Rest) → OwnReady c l o → Sane l o
@@ -31,6 +35,30 @@ own-sane c l o h = sane c (h .counts) l o (h .long) (h .arrays) (h .formed)
 -- a step by what it equals
 pub step-by : (x y : Res Moved) (l : List ℕ) (o : Rest) (m : List ℕ) (r : RestStep) → x ≡ y → StepIs y l o m r → StepIs x l o m r
 step-by x y l o m r e h = subst (λ (z : Res Moved). StepIs z l o m r) (sym e) h
+
+-- where a test refuses with 10
+pub ten-is : (x : Res Moved) (l : List ℕ) (o : Rest) (k : ℕ) (r : RestStep) → x ≡ refuse 10 → k ≡ 10 → Says (said.Refused k) o r → StepIs x l o l r
+ten-is x l o k r e is says = refused-is x l o k r (e ∙ ap refuse (sym is)) says
+
+-- what a test answered
+module _ (P : Type 0) (i x : ℕ) (a : Offer) (w : OfferIf P i x a) where
+  pub if-at : (k : ℕ) → a ≡ At k → (k ≡ i) × P
+  if-at k e = subst (λ (y : Offer). OfferIf P i x y) e w
+
+  pub if-refused : (n k : ℕ) → a ≡ Refused n → k ≡ numberOf a → (k ≡ x) × (P → ⊥)
+  if-refused n k e q =
+      let z : (n ≡ x) × (P → ⊥) = subst (λ (y : Offer). OfferIf P i x y) e w in
+      (q ∙ ap numberOf e ∙ z .0, z .1)
+
+-- what the check of a route answered
+module _ (v : Wrapper) (m j : ℕ) (a : Offer) (w : RouteOffer v m j a) where
+  pub route-at : (k : ℕ) → a ≡ At k → Side (k + 1) ≡ sourceFor v m j
+  route-at k e = subst (λ (y : Offer). RouteOffer v m j y) e w
+
+  pub route-refused : (n k : ℕ) → a ≡ Refused n → k ≡ numberOf a → (k ≡ 10) × (Nowhere ≡ sourceFor v m j)
+  route-refused n k e q =
+      let z : (n ≡ 10) × (Nowhere ≡ sourceFor v m j) = subst (λ (y : Offer). RouteOffer v m j y) e w in
+      (q ∙ ap numberOf e ∙ z .0, z .1)
 
 -- KINDS 2, 3, 6, 7
 module _ (c : Setting) (s : Core) (k i : ℕ) where
@@ -76,8 +104,8 @@ module _ (c : Setting) (s : Core) (k i j : ℕ) where
   unfolding twoPlaces choose need
   two-ones a b e = rw (ne-eqb k 4 a, ne-eqb k 5 b, eq-eqb j 0 e)
 
-  pub two-one : (k ≡ 4 → ⊥) → (k ≡ 5 → ⊥) → j ≡ 0 → (t : Bool) → t ≡ shelves (c .wrapper) (c .side) → settled (twoPlaces c s k i j) ≡ settled (onePlace (withShelf t) s k i)
-  two-one a b e t h = two-ones a b e ∙ ap settled (one-with c s k i t (sym h))
+  pub two-one : (k ≡ 4 → ⊥) → (k ≡ 5 → ⊥) → j ≡ 0 → (t : Bool) → t ≡ shelves (c .wrapper) (c .side) → (p : ℕ) → p ≡ i → settled (twoPlaces c s k i j) ≡ settled (onePlace (withShelf t) s k p)
+  two-one a b e t h p q = two-ones a b e ∙ ap settled (one-with c s k i t (sym h)) ∙ ap (λ (y : ℕ). settled (onePlace (withShelf t) s k y)) (sym q)
 
   pub two-bad : (k ≡ 4 → ⊥) → (k ≡ 5 → ⊥) → (j ≡ 0 → ⊥) → settled (twoPlaces c s k i j) ≡ refuse 10
   unfolding twoPlaces choose need settled bind
@@ -99,22 +127,29 @@ module _ (c : Setting) (known : ℕ → Bool) (sh : ℕ → List (List ℕ)) (s 
   pub kind-is : (k x : ℕ) → k ≡ x → settled (local c known sh s (asked k n i j ws)) ≡ settled (local c known sh s (asked x n i j ws))
   kind-is k x e = ap (λ (y : ℕ). settled (local c known sh s (asked y n i j ws))) e
 
-  pub enter-on : i ≡ 0 → j ≡ 0 → settled (local c known sh s (asked 1 n i j ws)) ≡ settled (enter known s ws)
+  pub enter-on : (i ≡ 0) × (j ≡ 0) → settled (local c known sh s (asked 1 n i j ws)) ≡ settled (enter known s ws)
   unfolding local choose need _&_
-  enter-on e f = rw (eq-eqb i 0 e, eq-eqb j 0 f)
+  enter-on e = rw (eq-eqb i 0 (e .0), eq-eqb j 0 (e .1))
 
-  pub enter-i : (i ≡ 0 → ⊥) → settled (local c known sh s (asked 1 n i j ws)) ≡ refuse 10
-  unfolding local choose need _&_ settled bind
-  enter-i e = rw (ne-eqb i 0 e)
+  pub enter-off : ((i ≡ 0) × (j ≡ 0) → ⊥) → settled (local c known sh s (asked 1 n i j ws)) ≡ refuse 10
+  unfolding local choose need settled bind
+  enter-off e = rw (unused (eqb i 0) refl)
+    where
+      second : i ≡ 0 → (y : Bool) → eqb j 0 ≡ y → eqb j 0 ≡ false
+      second z true q = absurd (e (z, eqb-true j 0 q))
+      second z false q = q
 
-  pub enter-j : i ≡ 0 → (j ≡ 0 → ⊥) → settled (local c known sh s (asked 1 n i j ws)) ≡ refuse 10
-  unfolding local choose need _&_ settled bind
-  enter-j e f = rw (eq-eqb i 0 e, ne-eqb j 0 f)
+      unused : (x : Bool) → eqb i 0 ≡ x → eqb i 0 & eqb j 0 ≡ false
+      unused true q = no-right _ _ (second (eqb-true i 0 q) (eqb j 0) refl)
+      unused false q = no-left _ _ q
 
   module _ (k : ℕ) (a : k ≡ 1 → ⊥) (b : k ≡ 8 → ⊥) where
-    pub own-two : length ws ≡ 0 → settled (local c known sh s (asked k n i j ws)) ≡ settled (twoPlaces c s k i j)
+    own-twos : length ws ≡ 0 → settled (local c known sh s (asked k n i j ws)) ≡ settled (twoPlaces c s k i j)
     unfolding local inner twoPlaces onePlace choose need
-    own-two e = rw (ne-eqb k 1 a, ne-eqb k 8 b, eq-eqb (length ws) 0 e)
+    own-twos e = rw (ne-eqb k 1 a, ne-eqb k 8 b, eq-eqb (length ws) 0 e)
+
+    pub own-two : length ws ≡ 0 → (p : ℕ) → p ≡ i → settled (local c known sh s (asked k n i j ws)) ≡ settled (twoPlaces c s k p j)
+    own-two e p q = own-twos e ∙ ap (λ (y : ℕ). settled (twoPlaces c s k y j)) (sym q)
 
     pub own-words : (length ws ≡ 0 → ⊥) → settled (local c known sh s (asked k n i j ws)) ≡ refuse 10
     unfolding local inner choose need settled bind

@@ -2,17 +2,21 @@
 use mathlib.Core.Path.{_≡_}
 use mathlib.Core.Bool.{true}
 use mathlib.Core.List.{List}
-use Prim.Native.Nat.{ℕ, _<_}
+use Prim.Native.Nat.{ℕ, _+_, _<_}
 use lib.Dec.{eqb}
 use lib.ListN.{length}
 use Rattle.model.specs.Basics.{choose, Res, refuse, need}
 use Rattle.model.specs.Side.{Core}
-use Rattle.model.specs.Wrapper.{described}
+use Rattle.model.specs.Wrapper.{Wrapper, described}
 use Rattle.model.specs.Load.{Setting}
 use Rattle.model.specs.WellFormed.{Counts, wfCore}
 use Rattle.model.specs.Step.{Step, Moved, goDown, up, pass, leave, descend, meet}
 use Rattle.tables.specs.Nodes.{table}
 use Rattle.tables.specs.Checks.{Passes}
+use Rattle.wrappers.specs.declared.Source.the-variants.{Side, Nowhere}
+use Rattle.wrappers.specs.Routes.{sourceFor}
+use Rattle.steps.specs.declared.Offer.{Offer}
+use Rattle.steps.specs.declared.Offer.the-variants.{At, Refused}
 use Rattle.sides.specs.declared.Rest.{Rest}
 use Rattle.sides.specs.Sides.{coreOf, fitsSide}
 
@@ -23,6 +27,16 @@ settingOf w n ns ws = record { wrapper = described w; side = n; table = table ns
 -- the step asked for
 abbrev pub asked : (kind side i j : ℕ) → List ℕ → Step
 asked k n i j ws = record { kind = k; side = n; i = i; j = j; words = ws }
+
+-- the number i where P holds, or the refusal x where it does not
+abbrev pub OfferIf : Type 0 → (i x : ℕ) → Offer → Type 0
+OfferIf P i x (At k) = (k ≡ i) × P
+OfferIf P i x (Refused n) = (n ≡ x) × (P → ⊥)
+
+-- the place of the side that the route by j leads from, or 10 where there is no route
+abbrev pub RouteOffer : Wrapper → (side j : ℕ) → Offer → Type 0
+RouteOffer w n j (At p) = Side (p + 1) ≡ sourceFor w n j
+RouteOffer w n j (Refused x) = (x ≡ 10) × (Nowhere ≡ sourceFor w n j)
 
 -- kinds 2, 3, 6 and 7
 unfoldable pub onePlace : Setting → Core → (kind i : ℕ) → Res Moved

@@ -4,19 +4,21 @@ ghost use mathlib.Core.Bool.{Bool};
 ghost use mathlib.Core.List.{List, []};
 ghost use Prim.Native.Nat.{ℕ, _-_, _<_, _≤_};
 ghost use lib.ListN.{length, getD};
-ghost use Rattle.model.specs.Wrapper.{allSides};
+ghost use Rattle.model.specs.Wrapper.{allSides, described};
 ghost use Rattle.model.specs.Step.{local, settled};
 ghost use Rattle.values.specs.Env.{viewValue};
 ghost use Rattle.sides.specs.Sides.{coreOf};
 ghost use Rattle.steps.specs.Asked.{knownBy};
 ghost use Rattle.steps.specs.StepIs.{Sane, StepIs};
-ghost use Rattle.dispatch.specs.Stepping.{settingOf, asked, OwnReady};
+ghost use Rattle.dispatch.specs.Stepping.{settingOf, asked, RouteOffer, OwnReady};
 ghost use Rattle.dispatch.specs.Sharing.{shelvesIn, Shelves, AtSide, isOut, MarkedAt};
 use crate::own_side::own_step;
+use crate::own_side::wordless;
 use loading::place_of;
 use sides::Rest;
 use sides::Rows;
 use sides::Sides;
+use steps::Offer;
 use steps::RestStep;
 use steps::Said;
 use steps::mark_all;
@@ -25,11 +27,15 @@ use values::Value;
 use wrappers::Source;
 use wrappers::source_of;
 
-// A side's number as a number of places.
-fn wide(n: u32) -> usize
-    ensures { λ r. ⌜ r ≡ n ⌝ }
+// Whether a route leads to the side by j. The position is the place of the side that it leads from.
+fn route_offer(wrapper: u32, side: u32, j: usize) -> Offer
+    ensures { λ r. ⌜ RouteOffer (described wrapper) side j r ⌝ }
 {
-    n as usize
+    let s = source_of(wrapper, side, j);
+    let Source::Side(m) = s else {
+        return Offer::Refused(10);
+    };
+    Offer::At(place_of(m))
 }
 
 // Kind 8 of the side at place k: there are no value words, and j names a route. No word changes.
@@ -47,15 +53,15 @@ fn taking(
     requires { ⌜ (length (now rows) ≡ length allSides) × (k < length allSides) × (Sane (getD (now rows) k []) o) × Shelves (now rows) shelved ⌝ }
     ensures { λ r. ⌜ ((nodes pool : List ℕ) (ms : List (List Bool)) (n : ℕ) → StepIs (settled (local (settingOf wrapper side nodes pool) (knownBy ms) (shelvesIn (now (rows .entry)) shelved) (coreOf (getD (now (rows .entry)) k []) o) (asked 8 n i j (now (words .entry))))) (getD (now (rows .entry)) k []) o (getD (now (rows .entry)) k []) r) ⌝ }
 {
-    if words.len() != 0 {
-        return RestStep::plain(Said::Refused(10), o);
-    }
-    let s = source_of(wrapper, side, j);
-    let Source::Side(m) = s else {
-        return RestStep::plain(Said::Refused(10), o);
+    let a = wordless(words, i);
+    let Offer::At(q) = a else {
+        return RestStep::plain(Said::Refused(a.number()), o);
     };
-    let p = place_of(m);
-    take(&rows[k], o, &rows[p], shelved[p], wide(m), i)
+    let f = route_offer(wrapper, side, j);
+    let Offer::At(p) = f else {
+        return RestStep::plain(Said::Refused(f.number()), o);
+    };
+    take(&rows[k], o, &rows[p], shelved[p], p + 1, q)
 }
 
 // Kinds 1 to 8 of a side. `shelved` says how many values each side has on its shelf.

@@ -9,10 +9,11 @@ ghost use Rattle.model.specs.Step.{local, settled};
 ghost use Rattle.sides.specs.Sides.{coreOf};
 ghost use Rattle.steps.specs.Asked.{knownBy, withShelf};
 ghost use Rattle.steps.specs.StepIs.{Sane, StepIs};
-ghost use Rattle.dispatch.specs.Stepping.{settingOf, asked, onePlace, twoPlaces, OwnReady};
+ghost use Rattle.dispatch.specs.Stepping.{settingOf, asked, OfferIf, onePlace, twoPlaces, OwnReady};
 use meeting::meet;
 use sides::Rest;
 use sides::Sides;
+use steps::Offer;
 use steps::RestStep;
 use steps::Said;
 use steps::descend;
@@ -43,6 +44,39 @@ fn one_place(shelving: bool, rows: &mut [u32], o: Rest, kind: u32, i: usize) -> 
     RestStep::plain(Said::Refused(10), o)
 }
 
+// Whether j, which the kinds of one place do not use, is 0. The position is i.
+fn place_offer(i: usize, j: usize) -> Offer
+    ensures { λ r. ⌜ OfferIf (j ≡ 0) i 10 r ⌝ }
+{
+    if j != 0 {
+        return Offer::Refused(10);
+    }
+    Offer::At(i)
+}
+
+// Whether there are no value words, which kind 1 alone has. The position is i.
+pub(crate) fn wordless(words: &[u32], i: usize) -> Offer
+    ensures { λ r. ⌜ OfferIf (length (now (words .entry)) ≡ 0) i 10 r ⌝ }
+{
+    if words.len() != 0 {
+        return Offer::Refused(10);
+    }
+    Offer::At(i)
+}
+
+// Whether i and j, which kind 1 does not use, are 0. The position is i.
+fn no_place_offer(i: usize, j: usize) -> Offer
+    ensures { λ r. ⌜ OfferIf ((i ≡ 0) × (j ≡ 0)) i 10 r ⌝ }
+{
+    if i != 0 {
+        return Offer::Refused(10);
+    }
+    if j != 0 {
+        return Offer::Refused(10);
+    }
+    Offer::At(i)
+}
+
 // Kinds 2 to 7.
 fn two_places(
     wrapper: u32,
@@ -64,10 +98,11 @@ fn two_places(
     if kind == 5 {
         return meet(nodes, pool, side, rows, o, i, j);
     }
-    if j == 0 {
-        return one_place(has_shelf(wrapper, side), rows, o, kind, i);
-    }
-    RestStep::plain(Said::Refused(10), o)
+    let a = place_offer(i, j);
+    let Offer::At(k) = a else {
+        return RestStep::plain(Said::Refused(a.number()), o);
+    };
+    one_place(has_shelf(wrapper, side), rows, o, kind, k)
 }
 
 // Kind 1: unused i and j must be 0.
@@ -82,13 +117,11 @@ fn entering(
     requires { ⌜ (Sane (now rows) o) × (length (now marks) ≡ length allSides) ⌝ }
     ensures { λ r. ⌜ ((c : Setting) (sh : ℕ → List (List ℕ)) (n : ℕ) → StepIs (settled (local c (knownBy (now (marks .entry))) sh (coreOf (now (rows .entry)) o) (asked 1 n i j (now (words .entry))))) (now (rows .entry)) o (now (rows .entry)) r) ⌝ }
 {
-    if i == 0 {
-        if j == 0 {
-            return enter(rows, o, marks, words);
-        }
-        return RestStep::plain(Said::Refused(10), o);
-    }
-    RestStep::plain(Said::Refused(10), o)
+    let a = no_place_offer(i, j);
+    let Offer::At(_) = a else {
+        return RestStep::plain(Said::Refused(a.number()), o);
+    };
+    enter(rows, o, marks, words)
 }
 
 // Kinds 1 to 7.
@@ -111,8 +144,9 @@ pub(crate) fn own_step(
     if kind == 1 {
         return entering(rows, o, marks, i, j, words);
     }
-    if words.len() == 0 {
-        return two_places(wrapper, nodes, pool, side, rows, o, kind, i, j);
-    }
-    RestStep::plain(Said::Refused(10), o)
+    let a = wordless(words, i);
+    let Offer::At(k) = a else {
+        return RestStep::plain(Said::Refused(a.number()), o);
+    };
+    two_places(wrapper, nodes, pool, side, rows, o, kind, k, j)
 }

@@ -2,7 +2,7 @@
 ghost use Prim.Native.Nat.{_≤_};
 use sides::State;
 use test_states::case;
-use test_states::has_shelf;
+use wrappers::has_shelf;
 
 // The most that there may be of what is counted.
 fn limit(what: usize) -> usize

@@ -9,9 +9,9 @@ use test_changes::word;
 use test_changes::write;
 use test_states::ask;
 use test_states::case;
-use test_states::has_shelf;
 use test_states::head;
 use values::Value;
+use wrappers::has_shelf;
 
 // Whether a side has a place: no shelf but where it may have one.
 fn is_place(place: usize, wrapper: u32, side: u32) -> bool {

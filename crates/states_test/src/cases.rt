@@ -7,8 +7,8 @@ use test_changes::put;
 use test_changes::write;
 use test_states::ask;
 use test_states::case;
-use test_states::has_shelf;
 use test_states::head;
+use wrappers::has_shelf;
 
 // Where: 0 on every side, 1 where the side may have a shelf, 2 where it may not. Whether it is allowed. What is put, by its number in
 // the crate `changes`; how much or which.

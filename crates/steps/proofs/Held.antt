@@ -34,7 +34,7 @@ use Rattle.steps.specs.declared.Said.the-variants as said
 use Rattle.steps.specs.declared.Offer.{Offer}
 use Rattle.steps.specs.declared.Offer.the-variants.{At, Refused}
 use Rattle.steps.specs.StepIs.{labelOf, housed}
-use Rattle.steps.specs.Asked.{OfferIs, numberOf}
+use Rattle.steps.specs.Asked.{OfferIs, OfferIf, numberOf}
 use Rattle.steps.proofs.CoreSteps.{quiet}
 use Rattle.steps.specs.declared.RestStep.{RestStep}
 use Rattle.steps.specs.StepIs.{Outcome, StepIs, Sane}
@@ -227,6 +227,16 @@ quiet-is x k l m o s t r e p q c n f = said-is x (quiet k) l m o t r e (ap label
 -- what a check answered
 pub offer-at : (x : Res Moved) (i : ℕ) (P : ℕ → Type 0) (a : Offer) → OfferIs x i P a → (k : ℕ) → a ≡ At k → (k ≡ i) × P k
 offer-at x i P a w k e = subst (λ (y : Offer). OfferIs x i P y) e w
+
+-- what a test answered
+module _ (P : Type 0) (i x : ℕ) (a : Offer) (w : OfferIf P i x a) where
+  pub if-at : (k : ℕ) → a ≡ At k → (k ≡ i) × P
+  if-at k e = subst (λ (y : Offer). OfferIf P i x y) e w
+
+  pub if-refused : (n k : ℕ) → a ≡ Refused n → k ≡ numberOf a → (k ≡ x) × (P → ⊥)
+  if-refused n k e q =
+      let z : (n ≡ x) × (P → ⊥) = subst (λ (y : Offer). OfferIf P i x y) e w in
+      (q ∙ ap numberOf e ∙ z .0, z .1)
 
 pub offer-refused : (x : Res Moved) (i : ℕ) (P : ℕ → Type 0) (a : Offer) → OfferIs x i P a → (n k : ℕ) (l : List ℕ) (o : Rest) (r : RestStep) → a ≡ Refused n → k ≡ numberOf a → Says (said.Refused k) o r → StepIs x l o l r
 offer-refused x i P a w n k l o r e q p =

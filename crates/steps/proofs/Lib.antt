@@ -6,3 +6,4 @@ pub mod LobbySteps
 pub mod ParticleSteps
 pub mod EnterSteps
 pub mod Settings
+pub mod Placing

@@ -38,7 +38,8 @@ use Rattle.steps.specs.StepIs.{StepIs, Sane}
 use Rattle.steps.specs.declared.Offer.{Offer}
 use Rattle.steps.specs.declared.Offer.the-variants.{At}
 use Rattle.steps.specs.Asked.{Says, OfferIs, withShelf, channelIn, valueIn, UpAt, DescendAt}
-use Rattle.steps.proofs.Held.{Full, side-rows, side-lobby, side-shelf, side-again, boxes-kept, shelf-kept, shelf-fits-kept, same-core, rows-cap, rows-n, boxes-n, shelf-n, lobby-n, box-at, row-in, fits-at, input-at, output-at, value-length, refused-is, quiet-is, offer-at}
+use Rattle.steps.proofs.Held.{Full, side-rows, side-lobby, side-shelf, side-again, boxes-kept, shelf-kept, shelf-fits-kept, same-core, rows-cap, rows-n}
+use Rattle.steps.proofs.Held.{boxes-n, shelf-n, lobby-n, box-at, row-in, fits-at, input-at, output-at, value-length, refused-is, quiet-is, offer-at}
 
 module _ (l : List ℕ) (o : Rest) (i : ℕ) (ok : Sane l o) where
   pub up-past : (c : Setting) → o .particles ≤ i → settled (up c (coreOf l o) i) ≡ refuse 10
@@ -124,14 +125,14 @@ module _ (l : List ℕ) (o : Rest) (i : ℕ) (ok : Sane l o) (h : i < o .particl
         subst (λ (z : List ℕ). StepIs (settled (upFrom c (coreOf l o) i 0 (channelIn l i) (valueIn l i))) l o z r) (sym (gone .1))
         (quiet-is _ _ l w o t u r d says (te ∙ ap (λ (x : Rest). putLobby x y) (se ∙ ap (putParticles o) (gone .0))) is (gone-length l i (o .particles)) fits)
 
-    pub shelf-did : (w : List ℕ) (s t : Rest) → shelves (c .wrapper) (c .side) ≡ true → o .shelved < 32 →
-        w ≡ shelfPut l (o .shelved) (viewValue v) →
+    pub shelf-did : (p : ℕ) (w : List ℕ) (s t : Rest) → shelves (c .wrapper) (c .side) ≡ true → p ≡ o .shelved → o .shelved < 32 →
+        w ≡ shelfPut l p (viewValue v) →
         (n ≡ o .particles - 1) × (m ≡ rowGone w i (o .particles)) →
         s ≡ putParticles o n →
-        t ≡ putShelved s (o .shelved + 1) →
+        t ≡ putShelved s (p + 1) →
         Says said.Silent t r →
         StepIs (settled (upFrom c (coreOf l o) i 0 2 (valueIn l i))) l o m r
-    shelf-did w s t on room we gone se te says =
+    shelf-did p w s t on pe room we gone se te says =
         let x : List ℕ = valueIn l i in
         let a : List ℕ = shelfPut l (o .shelved) x in
         let z : List ℕ = rowGone a i (o .particles) in
@@ -148,18 +149,22 @@ module _ (l : List ℕ) (o : Rest) (i : ℕ) (ok : Sane l o) (h : i < o .particl
         let ps = gone-view a i (o .particles) al h cap ∙ ap (λ (y : List (List ℕ)). remove (map viewRow (take (o .particles) y)) i) (shelf-rows l (o .shelved) x) in
         let bs = boxes-kept a z b (o .boxes) ∙ ap (λ (y : List (List ℕ)). map viewBox (take (o .boxes) y)) (shelf-boxes l (o .shelved) x) in
         let hs = shelf-kept a z b (o .shelved + 1) ∙ shelf-view l (o .shelved) x (ok .long) room few in
-        let words : m ≡ z = gone .1 ∙ ap (λ (y : List ℕ). rowGone y i (o .particles)) (we ∙ ap (shelfPut l (o .shelved)) (vi .view)) in
+        let words : m ≡ z = gone .1 ∙ ap (λ (y : List ℕ). rowGone y i (o .particles)) (we ∙ ap (λ (y : ℕ). shelfPut l y (viewValue v)) pe ∙ ap (shelfPut l (o .shelved)) (vi .view)) in
         subst (λ (y : List ℕ). StepIs (settled (upFrom c (coreOf l o) i 0 2 x)) l o y r) (sym words)
-        (quiet-is _ _ l z o t u r d says (te ∙ ap (λ (y : Rest). putShelved y (o .shelved + 1)) (se ∙ ap (putParticles o) (gone .0))) (same-core (o .minted) (o .taken) ps bs refl hs)
+        (quiet-is _ _ l z o t u r d says (te ∙ ap (λ (y : ℕ). putShelved s (y + 1)) pe ∙ ap (λ (y : Rest). putShelved y (o .shelved + 1)) (se ∙ ap (putParticles o) (gone .0))) (same-core (o .minted) (o .taken) ps bs refl hs)
         (gone-length a i (o .particles) ∙ shelf-length l (o .shelved) x) fits)
 
 -- no room
-module _ (l : List ℕ) (o : Rest) (i : ℕ) (ok : Sane l o) (c : Setting) (r : RestStep) (v : List ℕ) (says : Says (said.Refused 17) o r) where
-  pub shelf-full : shelves (c .wrapper) (c .side) ≡ true → 32 ≤ o .shelved → StepIs (settled (upFrom c (coreOf l o) i 0 2 v)) l o l r
-  shelf-full on h = refused-is _ l o 17 r (core.shelf-17 (coreOf l o) (ok .short-outputs) (ok .few) c i v on (rw (shelf-n l o ok) h)) says
+module _ (l : List ℕ) (o : Rest) (i : ℕ) (ok : Sane l o) (c : Setting) (r : RestStep) (v : List ℕ) (k : ℕ) (is : k ≡ 17) (says : Says (said.Refused k) o r) where
+  pub shelf-full : shelves (c .wrapper) (c .side) ≡ true → (o .shelved < 32 → ⊥) → StepIs (settled (upFrom c (coreOf l o) i 0 2 v)) l o l r
+  shelf-full on h =
+      let full : 32 ≤ o .shelved = omega (arith, h) in
+      refused-is _ l o k r (core.shelf-17 (coreOf l o) (ok .short-outputs) (ok .few) c i v on (rw (shelf-n l o ok) full) ∙ ap refuse (sym is)) says
 
-  pub lobby-full : (ch : ℕ) → shelves (c .wrapper) (c .side) & eqb ch 2 ≡ false → Full o → 16 ≤ o .lobby .len → StepIs (settled (upFrom c (coreOf l o) i 0 ch v)) l o l r
-  lobby-full ch off full h = refused-is _ l o 17 r (core.lobby-17 (coreOf l o) (ok .short-outputs) (ok .few) c i ch v off (rw (lobby-n l o ok full) h)) says
+  pub lobby-full : (ch : ℕ) → shelves (c .wrapper) (c .side) & eqb ch 2 ≡ false → Full o → (o .lobby .len < 16 → ⊥) → StepIs (settled (upFrom c (coreOf l o) i 0 ch v)) l o l r
+  lobby-full ch off held h =
+      let full : 16 ≤ o .lobby .len = omega (arith, h) in
+      refused-is _ l o k r (core.lobby-17 (coreOf l o) (ok .short-outputs) (ok .few) c i ch v off (rw (lobby-n l o ok held) full) ∙ ap refuse (sym is)) says
 
 -- what the check of up found, whatever the setting
 pub up-found : (l : List ℕ) (o : Rest) (i : ℕ) (a : Offer) → ((c : Setting) → OfferIs (settled (up c (coreOf l o) i)) i (UpAt l o) a) → (k : ℕ) → a ≡ At k → (k ≡ i) × UpAt l o k

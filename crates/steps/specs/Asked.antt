@@ -36,6 +36,11 @@ abbrev pub OfferIs : Res Moved → ℕ → (ℕ → Type 0) → Offer → Type 0
 OfferIs m i P (At k) = (k ≡ i) × P k
 OfferIs m i P (Refused n) = m ≡ refuse n
 
+-- the number i where P holds, or the refusal x where it does not
+abbrev pub OfferIf : Type 0 → (i x : ℕ) → Offer → Type 0
+OfferIf P i x (At k) = (k ≡ i) × P
+OfferIf P i x (Refused n) = (n ≡ x) × (P → ⊥)
+
 -- lobby i is down, and there is room for a particle
 pub record DownAt (o : Rest) (i : ℕ) : Type 0 where
   pub held : i < o .lobby .len

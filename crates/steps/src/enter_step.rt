@@ -12,6 +12,7 @@ use crate::Offer;
 use crate::RestStep;
 use crate::Said;
 use crate::left_marks::may_enter;
+use crate::room::placed;
 use sides::Message;
 use sides::Rest;
 use sides::Side;
@@ -71,13 +72,13 @@ pub fn enter(
     ensures { λ r. ⌜ StepIs (settled (enter (knownBy (now (marks .entry))) (coreOf (now (rows .entry)) o) (now (words .entry)))) (now (rows .entry)) o (now (rows .entry)) r ⌝ }
 {
     let a = enter_offer(rows, o, marks, words);
-    let Offer::At(_) = a else {
+    let Offer::At(k) = a else {
         return RestStep::plain(Said::Refused(a.number()), o);
     };
     let l = o.lobby;
     let value = Value::of(words);
     let m = Message::new(Status::Down, 0, value);
-    let rest = o.with_lobby(l.with(m));
+    let rest = o.with_lobby(placed(l, k, m));
     RestStep {
         said: Said::In,
         value,

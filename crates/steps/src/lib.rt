@@ -9,6 +9,7 @@ mod enter_step;
 mod left_marks;
 mod lobby_steps;
 mod particle_steps;
+mod room;
 mod take_step;
 
 pub use enter_step::enter;

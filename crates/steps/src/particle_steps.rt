@@ -16,10 +16,12 @@ ghost use Rattle.steps.specs.StepIs.{Sane, StepIs};
 use crate::Offer;
 use crate::RestStep;
 use crate::Said;
+use crate::room::lobby_place;
+use crate::room::placed;
+use crate::room::shelf_place;
 use sides::Message;
 use sides::Rest;
 use sides::Row;
-use sides::Side;
 use sides::Status;
 use sides::Tag;
 use sides::box_name;
@@ -56,10 +58,10 @@ fn to_shelf(rows: &mut [u32], o: Rest, i: usize) -> RestStep
     requires { ⌜ (Sane (now rows) o) × (i < o .particles) × (getD (rowAt (now rows) i) 0 0 ≡ 1) ⌝ }
     ensures { λ r. ⌜ ((c : Setting) → shelves (c .wrapper) (c .side) ≡ true → StepIs (settled (upFrom c (coreOf (now (rows .entry)) o) i 0 2 (valueIn (now (rows .entry)) i))) (now (rows .entry)) o (now (rows .exit)) r) ⌝ }
 {
-    let h = o.shelved;
-    if !Side::shelf_within(h + 1) {
-        return RestStep::plain(Said::Refused(17), o);
-    }
+    let a = shelf_place(o.shelved);
+    let Offer::At(h) = a else {
+        return RestStep::plain(Said::Refused(a.number()), o);
+    };
     put_shelf(rows, h, value_at(rows, i, 0));
     let n = remove_row(rows, i, o.particles);
     RestStep::plain(Said::Silent, o.with_particles(n).with_shelved(h + 1))
@@ -71,13 +73,17 @@ fn to_lobby(rows: &mut [u32], o: Rest, i: usize) -> RestStep
     ensures { λ r. ⌜ ((c : Setting) → shelves (c .wrapper) (c .side) & eqb (channelIn (now (rows .entry)) i) 2 ≡ false → StepIs (settled (upFrom c (coreOf (now (rows .entry)) o) i 0 (channelIn (now (rows .entry)) i) (valueIn (now (rows .entry)) i))) (now (rows .entry)) o (now (rows .exit)) r) ⌝ }
 {
     let l = o.lobby;
-    if !Side::lobby_within(l.len + 1) {
-        return RestStep::plain(Said::Refused(17), o);
-    }
+    let a = lobby_place(l.len);
+    let Offer::At(k) = a else {
+        return RestStep::plain(Said::Refused(a.number()), o);
+    };
     let ch = word_at(rows, i, Row::CHANNEL);
     let m = Message::new(Status::Arrived, ch, value_at(rows, i, 0));
     let n = remove_row(rows, i, o.particles);
-    RestStep::plain(Said::Silent, o.with_particles(n).with_lobby(l.with(m)))
+    RestStep::plain(
+        Said::Silent,
+        o.with_particles(n).with_lobby(placed(l, k, m)),
+    )
 }
 
 // Output i goes out of box b, another than box 0, to that box's parent.

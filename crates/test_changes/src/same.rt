@@ -1,15 +1,19 @@
 // Whether two states are equal in every field, places past a count and words past a length too.
+ghost use mathlib.Core.Path.{_≡_};
+ghost use lib.Dec.{eqb};
+ghost use Rattle.test_changes.specs.Same.{sameAll, sameMark, sameValue, statusNumber, sameMessage, sameLobby, sameCounts, sameRest, sameSide, sameState};
 use sides::Lobby;
 use sides::Message;
 use sides::Rest;
-use sides::Rows;
 use sides::Side;
 use sides::Sides;
 use sides::State;
 use sides::Status;
 use values::Value;
 
-fn same_value(a: Value, b: Value) -> bool {
+fn same_value(a: Value, b: Value) -> bool
+    ensures { λ r. ⌜ r ≡ sameValue a b ⌝ }
+{
     let mut k: usize = 0;
     while k < 16 {
         if a.words[k] != b.words[k] {
@@ -21,7 +25,9 @@ fn same_value(a: Value, b: Value) -> bool {
 }
 
 // A number for each status.
-fn status_number(s: Status) -> u32 {
+fn status_number(s: Status) -> u32
+    ensures { λ r. ⌜ r ≡ statusNumber s ⌝ }
+{
     match s {
         Status::Down => 0,
         Status::Arrived => 1,
@@ -29,16 +35,26 @@ fn status_number(s: Status) -> u32 {
     }
 }
 
-fn same_message(a: Message, b: Message) -> bool {
+fn same_message(a: Message, b: Message) -> bool
+    ensures { λ r. ⌜ r ≡ sameMessage a b ⌝ }
+{
     let s = a.status;
     let t = b.status;
     let v = a.value;
     let w = b.value;
-    status_number(s) == status_number(t) && a.channel == b.channel && same_value(v, w)
+    if status_number(s) != status_number(t) {
+        return false;
+    }
+    if a.channel != b.channel {
+        return false;
+    }
+    same_value(v, w)
 }
 
 // All 16 messages, and their number.
-fn same_lobby(a: Lobby, b: Lobby) -> bool {
+fn same_lobby(a: Lobby, b: Lobby) -> bool
+    ensures { λ r. ⌜ r ≡ sameLobby a b ⌝ }
+{
     let mut k: usize = 0;
     while k < 16 {
         if same_message(a.msgs[k], b.msgs[k]) {
@@ -50,34 +66,51 @@ fn same_lobby(a: Lobby, b: Lobby) -> bool {
     a.len == b.len
 }
 
+fn same_mark(a: bool, b: bool) -> bool
+    ensures { λ r. ⌜ r ≡ sameMark a b ⌝ }
+{
+    if a { b } else { !b }
+}
+
 // Marks of shelf places that are taken.
-fn same_taken(a: [bool; Sides::TAKEN], b: [bool; Sides::TAKEN]) -> bool {
+fn same_taken(a: [bool; Sides::TAKEN], b: [bool; Sides::TAKEN]) -> bool
+    ensures { λ r. ⌜ r ≡ sameAll sameMark a b ⌝ }
+{
     let mut k: usize = 0;
     while k < Sides::TAKEN {
-        if a[k] != b[k] {
+        if same_mark(a[k], b[k]) {
+            k += 1;
+        } else {
             return false;
         }
-        k += 1;
     }
     true
 }
 
 // Marks of names that have left.
-fn same_left(a: [bool; Sides::MARKS], b: [bool; Sides::MARKS]) -> bool {
+fn same_left(a: [bool; Sides::MARKS], b: [bool; Sides::MARKS]) -> bool
+    ensures { λ r. ⌜ r ≡ sameAll sameMark a b ⌝ }
+{
     let mut k: usize = 0;
     while k < Sides::MARKS {
-        if a[k] != b[k] {
+        if same_mark(a[k], b[k]) {
+            k += 1;
+        } else {
             return false;
         }
-        k += 1;
     }
     true
 }
 
 // All words: rows, boxes, shelf.
-fn same_words(a: &[u32; Rows::WORDS], b: &[u32; Rows::WORDS]) -> bool {
+fn same_words(a: &[u32], b: &[u32]) -> bool
+    ensures { λ r. ⌜ r ≡ sameAll eqb (now (a .entry)) (now (b .entry)) ⌝ }
+{
+    if a.len() != b.len() {
+        return false;
+    }
     let mut k: usize = 0;
-    while k < Rows::WORDS {
+    while k < a.len() {
         if a[k] != b[k] {
             return false;
         }
@@ -87,32 +120,58 @@ fn same_words(a: &[u32; Rows::WORDS], b: &[u32; Rows::WORDS]) -> bool {
 }
 
 // How many particles, boxes, shelf values and minted names there are.
-fn same_counts(a: Rest, b: Rest) -> bool {
-    a.particles == b.particles
-        && a.boxes == b.boxes
-        && a.shelved == b.shelved
-        && a.minted == b.minted
+fn same_counts(a: Rest, b: Rest) -> bool
+    ensures { λ r. ⌜ r ≡ sameCounts a b ⌝ }
+{
+    if a.particles != b.particles {
+        return false;
+    }
+    if a.boxes != b.boxes {
+        return false;
+    }
+    if a.shelved != b.shelved {
+        return false;
+    }
+    a.minted == b.minted
 }
 
-fn same_rest(a: Rest, b: Rest) -> bool {
+fn same_rest(a: Rest, b: Rest) -> bool
+    ensures { λ r. ⌜ r ≡ sameRest a b ⌝ }
+{
     let l = a.lobby;
     let m = b.lobby;
     let t = a.taken;
     let u = b.taken;
-    same_counts(a, b) && same_lobby(l, m) && same_taken(t, u)
+    if same_counts(a, b) {
+        if same_lobby(l, m) {
+            return same_taken(t, u);
+        }
+        return false;
+    }
+    false
 }
 
-fn same_side(a: Side, b: Side) -> bool {
+fn same_side(a: Side, b: Side) -> bool
+    ensures { λ r. ⌜ r ≡ sameSide a b ⌝ }
+{
     let v = a.words;
     let w = b.words;
     let l = a.left;
     let m = b.left;
     let r = a.rest;
     let q = b.rest;
-    same_words(&v, &w) && same_left(l, m) && same_rest(r, q)
+    if same_words(&v, &w) {
+        if same_left(l, m) {
+            return same_rest(r, q);
+        }
+        return false;
+    }
+    false
 }
 
-pub fn same_state(a: State, b: State) -> bool {
+pub fn same_state(a: State, b: State) -> bool
+    ensures { λ r. ⌜ r ≡ sameState a b ⌝ }
+{
     let mut k: usize = 0;
     while k < Sides::COUNT {
         if same_side(a.sides[k], b.sides[k]) {

@@ -1,4 +1,6 @@
 // Numbers and texts on the standard output.
+ghost use mathlib.Core.Path.{_≡_};
+
 pub fn write(text: &[u8]) {
     io::write_all(1, text);
 }
@@ -8,7 +10,9 @@ fn wide(n: usize) -> u64 {
 }
 
 // A word as a number.
-pub fn size(w: u32) -> usize {
+pub fn size(w: u32) -> usize
+    ensures { λ r. ⌜ r ≡ w ⌝ }
+{
     w as usize
 }
 

@@ -71,8 +71,3 @@ pub fn case(good: bool, wrapper: u32, side: u32, s: State, what: usize, n: usize
     }
     ask(wrapper, put(s, side, what, n));
 }
-
-// Whether a side may have a shelf: side 1 under the pipeline.
-pub fn has_shelf(wrapper: u32, side: u32) -> bool {
-    if wrapper == 2 { side == 1 } else { false }
-}

@@ -5,7 +5,6 @@ mod handler; // the table, and states by load and steps
 pub use asking::answer;
 pub use asking::ask;
 pub use asking::case;
-pub use asking::has_shelf;
 pub use asking::head;
 pub use handler::filtered;
 pub use handler::piped;

@@ -1,14 +1,14 @@
-use mathlib.Core.Path.{sym, _∙_}
+use mathlib.Core.Path.{_≡_, _∙_}
 use mathlib.Core.List.{[]}
-use lib.ListN.{getD}
+use lib.ListN.{length, getD}
 use Rattle.model.specs.Step.{local, settled}
+use Rattle.model.specs.Wrapper.{described}
 use Rattle.wrappers.proofs.Described.{source-in}
 use Rattle.sides.specs.Sides.{coreOf}
 use Rattle.steps.specs.Asked.{knownBy}
-use Rattle.steps.proofs.Held.{refused-is}
 use Rattle.dispatch.specs.Stepping.{settingOf, asked}
 use Rattle.dispatch.specs.Sharing.{shelvesIn}
-use Rattle.dispatch.proofs.ByKind.{step-by, take-words, take-none, take-from}
+use Rattle.dispatch.proofs.ByKind.{step-by, ten-is, if-at, if-refused, route-at, route-refused, take-words, take-none, take-from}
 use Rattle.dispatch.proofs.AllSides.{take-is, source-is}
 use native.Mathlib.Omega.{arith}
 use borrow.Author.Needs.{needs}
@@ -18,139 +18,162 @@ use Rattle.dispatch.proofs.all_sides.taking.Tie as tie
 returns : tie.Need-returns
 returns c =
     λ nodes pool ms n.
-    let x = c .before .before .before in
+    let at-number = c .before in
+    let at-told = at-number .before in
+    let at-words = at-told .before .before in
+    let x = at-words .before .before in
     let ls = x .args .rows .now in
-    let k = x .args .k in
-    let l = getD ls k [] in
+    let l = getD ls (x .args .k) [] in
     let o = x .args .o in
-    let ns = x .args .t5 in
     let i = x .args .i in
-    let j = x .args .j in
     let ws = x .args .words .now in
-    let w = x .args .wrapper in
-    let b = settingOf w (x .args .side) nodes pool in
-    let f = knownBy ms in
-    let sh = shelvesIn ls ns in
-    let s = coreOf l o in
-    refused-is _ l o 10 _ (take-words b f sh s n i j ws (c .before .if1 .taken)) (c .plain .ensures)
+    let b = settingOf (x .args .wrapper) (x .args .side) nodes pool in
+    let w = at-words .wordless in
+    let no = if-refused (length ws ≡ 0) i 10 (w .result) (w .ensures) _ (at-number .number .result) (at-told .enum-told .given .1) (at-number .number .ensures) in
+    ten-is _ l o _ _ (take-words b (knownBy ms) (shelvesIn ls (x .args .t5)) (coreOf l o) n i (x .args .j) ws (no .1)) (no .0) (c .plain .ensures)
 
 returns-2 : tie.Need-returns-2
 returns-2 c =
     λ nodes pool ms n.
-    let x = c .before .before .before .before .before .before in
+    let at-number = c .before in
+    let at-told = at-number .before in
+    let at-route = at-told .before .before in
+    let at-a = at-route .before .before in
+    let at-words = at-a .before .before in
+    let x = at-words .before .before in
     let ls = x .args .rows .now in
-    let k = x .args .k in
-    let l = getD ls k [] in
+    let l = getD ls (x .args .k) [] in
     let o = x .args .o in
-    let ns = x .args .t5 in
     let i = x .args .i in
     let j = x .args .j in
     let ws = x .args .words .now in
-    let w = x .args .wrapper in
-    let b = settingOf w (x .args .side) nodes pool in
-    let f = knownBy ms in
-    let sh = shelvesIn ls ns in
-    let s = coreOf l o in
-    refused-is _ l o 10 _ (take-none b f sh s n i j ws (c .before .before .before .before .if1 .left) (sym (c .before .enum-told .given .1) ∙ c .before .before .before .source-of .ensures)) (c .plain2 .ensures)
+    let b = settingOf (x .args .wrapper) (x .args .side) nodes pool in
+    let w = at-words .wordless in
+    let p = if-at (length ws ≡ 0) i 10 (w .result) (w .ensures) _ (at-a .a .given .1) in
+    let r = at-route .route-offer in
+    let no = route-refused (b .wrapper) (x .args .side) j (r .result) (r .ensures) _ (at-number .number2 .result) (at-told .enum-told2 .given .1) (at-number .number2 .ensures) in
+    ten-is _ l o _ _ (take-none b (knownBy ms) (shelvesIn ls (x .args .t5)) (coreOf l o) n i j ws (p .1) (no .1)) (no .0) (c .plain2 .ensures)
 
-place-of-requires : tie.Need-place-of-requires
-place-of-requires c κs =
-    let x = c .before .before .before .before .before .before in
-    let ls = x .args .rows .now in
-    let k = x .args .k in
-    let l = getD ls k [] in
-    let o = x .args .o in
-    let ns = x .args .t5 in
-    let i = x .args .i in
-    let j = x .args .j in
-    let ws = x .args .words .now in
+mul-take-2 : tie.Need-mul-take-2
+mul-take-2 c =
+    let at-f = c .before .before .before in
+    let at-route = at-f .before .before in
+    let at-words = at-route .before .before .before .before in
+    let x = at-words .before .before in
     let w = x .args .wrapper in
-    let m = source-in w (x .args .side) j _ (sym (c .before .s .given .1) ∙ c .before .before .before .source-of .ensures) in
-    m .0
+    let r = at-route .route-offer in
+    let from = route-at (described w) (x .args .side) (x .args .j) (r .result) (r .ensures) _ (at-f .f .given .1) in
+    let m = source-in w (x .args .side) (x .args .j) _ from in
+    omega (arith, m .1)
 
 index-1-take-2 : tie.Need-index-1-take-2
 index-1-take-2 c =
-    let x = c .before .before .before .before .before .before .before .before .before in
-    let ls = x .args .rows .now in
-    let k = x .args .k in
-    let l = getD ls k [] in
-    let o = x .args .o in
-    let ns = x .args .t5 in
-    let i = x .args .i in
-    let j = x .args .j in
-    let ws = x .args .words .now in
+    let at-f = c .before .before .before in
+    let at-route = at-f .before .before in
+    let at-words = at-route .before .before .before .before in
+    let x = at-words .before .before in
     let w = x .args .wrapper in
-    let m = source-in w (x .args .side) j _ (sym (c .before .before .before .before .s .given .1) ∙ c .before .before .before .before .before .before .source-of .ensures) in
-    omega (arith, c .before .before .place-of .ensures, m .0, m .1, x .pre .0)
+    let r = at-route .route-offer in
+    let from = route-at (described w) (x .args .side) (x .args .j) (r .result) (r .ensures) _ (at-f .f .given .1) in
+    let m = source-in w (x .args .side) (x .args .j) _ from in
+    omega (arith, m .1, x .pre .0)
+
+mul-take-3 : tie.Need-mul-take-3
+mul-take-3 c =
+    let at-f = c .before .before .before .before .before in
+    let at-route = at-f .before .before in
+    let at-words = at-route .before .before .before .before in
+    let x = at-words .before .before in
+    let w = x .args .wrapper in
+    let r = at-route .route-offer in
+    let from = route-at (described w) (x .args .side) (x .args .j) (r .result) (r .ensures) _ (at-f .f .given .1) in
+    let m = source-in w (x .args .side) (x .args .j) _ from in
+    omega (arith, m .1)
 
 array-read-take : tie.Need-array-read-take
 array-read-take c =
-    let x = c .before .before .before .before .before .before .before .before .before .before .before in
-    let ls = x .args .rows .now in
-    let k = x .args .k in
-    let l = getD ls k [] in
-    let o = x .args .o in
-    let ns = x .args .t5 in
-    let i = x .args .i in
-    let j = x .args .j in
-    let ws = x .args .words .now in
+    let at-f = c .before .before .before .before .before in
+    let at-route = at-f .before .before in
+    let at-words = at-route .before .before .before .before in
+    let x = at-words .before .before in
     let w = x .args .wrapper in
-    let m = source-in w (x .args .side) j _ (sym (c .before .before .before .before .before .before .s .given .1) ∙ c .before .before .before .before .before .before .before .before .source-of .ensures) in
-    omega (arith, c .before .before .before .before .place-of .ensures, m .0, m .1)
+    let r = at-route .route-offer in
+    let from = route-at (described w) (x .args .side) (x .args .j) (r .result) (r .ensures) _ (at-f .f .given .1) in
+    let m = source-in w (x .args .side) (x .args .j) _ from in
+    omega (arith, m .1)
+
+add-take : tie.Need-add-take
+add-take c =
+    let at-f = c .before .before .before .before .before in
+    let at-route = at-f .before .before in
+    let at-words = at-route .before .before .before .before in
+    let x = at-words .before .before in
+    let w = x .args .wrapper in
+    let r = at-route .route-offer in
+    let from = route-at (described w) (x .args .side) (x .args .j) (r .result) (r .ensures) _ (at-f .f .given .1) in
+    let m = source-in w (x .args .side) (x .args .j) _ from in
+    omega (arith, m .1)
 
 take-requires : tie.Need-take-requires
 take-requires c κs =
-    let x = c .before .before .before .before .before .before .before .before .before .before .before .before in
-    let ls = x .args .rows .now in
-    let k = x .args .k in
-    let l = getD ls k [] in
-    let o = x .args .o in
-    let ns = x .args .t5 in
-    let i = x .args .i in
-    let j = x .args .j in
-    let ws = x .args .words .now in
+    let at-f = c .before .before .before .before .before in
+    let at-route = at-f .before .before in
+    let at-words = at-route .before .before .before .before in
+    let x = at-words .before .before in
     let w = x .args .wrapper in
-    let m = source-in w (x .args .side) j _ (sym (c .before .before .before .before .before .before .before .s .given .1) ∙ c .before .before .before .before .before .before .before .before .before .source-of .ensures) in
-    (x .pre .2, source-is ls ns _ _ _ (x .pre .3) (c .wide .ensures) (c .before .before .before .before .before .place-of .ensures) (m .0) (m .1))
+    let r = at-route .route-offer in
+    let from = route-at (described w) (x .args .side) (x .args .j) (r .result) (r .ensures) _ (at-f .f .given .1) in
+    let m = source-in w (x .args .side) (x .args .j) _ from in
+    (x .pre .2, source-is (x .args .rows .now) (x .args .t5) _ (x .pre .3) (m .1))
 
 returns-3 : tie.Need-returns-3
 returns-3 c =
     λ nodes pool ms n.
-    let x = c .before .before .before .before .before .before .before .before .before .before .before .before .before in
+    let at-f = c .before .before .before .before .before .before in
+    let at-route = at-f .before .before in
+    let at-a = at-route .before .before in
+    let at-words = at-a .before .before in
+    let x = at-words .before .before in
     let ls = x .args .rows .now in
-    let k = x .args .k in
-    let l = getD ls k [] in
-    let o = x .args .o in
     let ns = x .args .t5 in
+    let l = getD ls (x .args .k) [] in
+    let o = x .args .o in
     let i = x .args .i in
     let j = x .args .j in
     let ws = x .args .words .now in
-    let w = x .args .wrapper in
-    let m = source-in w (x .args .side) j _ (sym (c .before .before .before .before .before .before .before .before .s .given .1) ∙ c .before .before .before .before .before .before .before .before .before .before .source-of .ensures) in
-    let b = settingOf w (x .args .side) nodes pool in
+    let b = settingOf (x .args .wrapper) (x .args .side) nodes pool in
     let f = knownBy ms in
     let sh = shelvesIn ls ns in
     let s = coreOf l o in
-    step-by (settled (local b f sh s (asked 8 n i j ws))) _ l o _ _ (take-from b f sh s n i j ws (c .before .before .before .before .before .before .before .before .before .before .before .if1 .left) _ (sym (c .before .before .before .before .before .before .before .before .s .given .1) ∙ c .before .before .before .before .before .before .before .before .before .before .source-of .ensures) ∙ take-is ls ns _ _ _ s i (c .before .wide .ensures) (c .before .before .before .before .before .before .place-of .ensures) (m .0)) (c .take .ensures)
+    let w = at-words .wordless in
+    let p = if-at (length ws ≡ 0) i 10 (w .result) (w .ensures) _ (at-a .a .given .1) in
+    let r = at-route .route-offer in
+    let from = route-at (described (x .args .wrapper)) (x .args .side) j (r .result) (r .ensures) _ (at-f .f .given .1) in
+    let same = take-from b f sh s n i j ws (p .1) _ from ∙ take-is ls ns _ s i _ (p .0) in
+    step-by (settled (local b f sh s (asked 8 n i j ws))) _ l o _ _ same (c .take .ensures)
 
 pub taking-spec : {M : Type 1} → statement M
 taking-spec =
     tie.close
     (tie.spec
     (λ c κs. search needs)
+    (λ c. search needs)
+    (λ c. search needs)
+    (λ c κs. search needs)
+    (λ c κs. search needs)
     returns
     (λ c κs. search needs)
     (λ c. search needs)
     (λ c. search needs)
     (λ c κs. search needs)
-    returns-2
-    place-of-requires
-    (λ c. search needs)
-    (λ c. search needs)
-    (λ c. search needs)
-    index-1-take-2
-    (λ c. search needs)
-    array-read-take
     (λ c κs. search needs)
+    returns-2
+    (λ c. search needs)
+    (λ c. search needs)
+    mul-take-2
+    index-1-take-2
+    mul-take-3
+    array-read-take
+    add-take
     take-requires
     returns-3)

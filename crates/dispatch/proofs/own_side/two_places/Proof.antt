@@ -1,10 +1,9 @@
+use mathlib.Core.Path.{_≡_}
 use Rattle.model.specs.Step.{descend, meet, settled}
 use Rattle.sides.specs.Sides.{coreOf}
-use Rattle.steps.specs.Asked.{withShelf}
-use Rattle.steps.proofs.Held.{refused-is}
 use Rattle.meeting.specs.Meeting.{withTable}
-use Rattle.dispatch.specs.Stepping.{settingOf, onePlace, twoPlaces}
-use Rattle.dispatch.proofs.ByKind.{own-sane, step-by, two-descend, two-meet, two-one, two-bad}
+use Rattle.dispatch.specs.Stepping.{settingOf, twoPlaces}
+use Rattle.dispatch.proofs.ByKind.{own-sane, step-by, ten-is, if-at, if-refused, two-descend, two-meet, two-one, two-bad}
 use borrow.Author.Needs.{needs}
 use Rattle.dispatch.proofs.own_side.two_places.Statement.{statement}
 use Rattle.dispatch.proofs.own_side.two_places.Tie as tie
@@ -45,47 +44,51 @@ returns-2 c =
     let b = settingOf (x .args .wrapper) (x .args .side) (x .args .nodes .now) (x .args .pool .now) in
     step-by (settled (twoPlaces b s k i j)) (settled (meet (withTable (b .side) (b .table)) s i j)) l o _ _ (two-meet b s k i j (c .before .before .before .before .if2 .taken)) (c .before .before .meet .ensures)
 
-one-place-requires : tie.Need-one-place-requires
-one-place-requires c κs =
-    let x = c .before .before .before .before .before .before .before .before in
-    let l = x .args .rows .now in
-    let o = x .args .o in
-    let i = x .args .i in
-    let k = x .args .kind in
-    let s = coreOf l o in
-    let j = x .args .j in
-    let b = settingOf (x .args .wrapper) (x .args .side) (x .args .nodes .now) (x .args .pool .now) in
-    own-sane b l o (x .pre)
-
 returns-3 : tie.Need-returns-3
 returns-3 c =
-    let x = c .before .before .before .before .before .before .before .before .before .before .before in
+    let at-number = c .before in
+    let at-told = at-number .before in
+    let at-place = at-told .before .before in
+    let at-if2 = at-place .before in
+    let at-if1 = at-if2 .before in
+    let x = at-if1 .before .before .before .before in
     let l = x .args .rows .now in
     let o = x .args .o in
     let i = x .args .i in
-    let k = x .args .kind in
-    let s = coreOf l o in
     let j = x .args .j in
     let b = settingOf (x .args .wrapper) (x .args .side) (x .args .nodes .now) (x .args .pool .now) in
-    let at-one-place = c .before .before in
-    let at-has-shelf = at-one-place .before .before in
-    let at-if3 = at-has-shelf .before in
-    let at-if2 = at-if3 .before in
-    let t = at-has-shelf .has-shelf in
-    let same = two-one b s k i j (at-if2 .before .if1 .left) (at-if2 .if2 .left) (at-if3 .if3 .taken) (t .result) (t .ensures) in
-    step-by (settled (twoPlaces b s k i j)) (settled (onePlace (withShelf (t .result)) s k i)) l o _ _ same (at-one-place .one-place .ensures)
+    let w = at-place .place-offer in
+    let no = if-refused (j ≡ 0) i 10 (w .result) (w .ensures) _ (at-number .number .result) (at-told .enum-told .given .1) (at-number .number .ensures) in
+    ten-is _ l o _ _ (two-bad b (coreOf l o) (x .args .kind) i j (at-if1 .if1 .left) (at-if2 .if2 .left) (no .1)) (no .0) (c .plain .ensures)
+
+one-place-requires : tie.Need-one-place-requires
+one-place-requires c κs =
+    let at-place = c .before .before .before .before .before in
+    let x = at-place .before .before .before .before .before .before in
+    let b = settingOf (x .args .wrapper) (x .args .side) (x .args .nodes .now) (x .args .pool .now) in
+    own-sane b (x .args .rows .now) (x .args .o) (x .pre)
 
 returns-4 : tie.Need-returns-4
 returns-4 c =
-    let x = c .before .before .before .before .before .before .before in
+    let at-one = c .before .before in
+    let at-shelf = at-one .before .before in
+    let at-a = at-shelf .before .before in
+    let at-place = at-a .before .before in
+    let at-if2 = at-place .before in
+    let at-if1 = at-if2 .before in
+    let x = at-if1 .before .before .before .before in
     let l = x .args .rows .now in
     let o = x .args .o in
     let i = x .args .i in
+    let j = x .args .j in
     let k = x .args .kind in
     let s = coreOf l o in
-    let j = x .args .j in
     let b = settingOf (x .args .wrapper) (x .args .side) (x .args .nodes .now) (x .args .pool .now) in
-    refused-is _ l o 10 _ (two-bad b s k i j (c .before .before .before .if1 .left) (c .before .before .if2 .left) (c .before .if3 .left)) (c .plain .ensures)
+    let w = at-place .place-offer in
+    let p = if-at (j ≡ 0) i 10 (w .result) (w .ensures) _ (at-a .a .given .1) in
+    let t = at-shelf .has-shelf in
+    let same = two-one b s k i j (at-if1 .if1 .left) (at-if2 .if2 .left) (p .1) (t .result) (t .ensures) _ (p .0) in
+    step-by (settled (twoPlaces b s k i j)) _ l o _ _ same (at-one .one-place .ensures)
 
 pub two-places-spec : {M : Type 1} → statement M
 two-places-spec =
@@ -98,8 +101,12 @@ two-places-spec =
     (λ c. search needs)
     returns-2
     (λ c κs. search needs)
-    one-place-requires
     (λ c. search needs)
+    (λ c. search needs)
+    (λ c κs. search needs)
+    (λ c κs. search needs)
     returns-3
     (λ c κs. search needs)
+    one-place-requires
+    (λ c. search needs)
     returns-4)

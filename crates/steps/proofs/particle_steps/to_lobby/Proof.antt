@@ -1,7 +1,7 @@
-use Rattle.steps.proofs.Held.{none-more, one-more}
+use Prim.Native.Nat.{_<_}
 use Rattle.values.proofs.Lists.{unmap}
 use Rattle.steps.specs.Asked.{channelIn, valueIn}
-use Rattle.steps.proofs.Held.{Full, rows-cap, lobby-cap, value-in-place}
+use Rattle.steps.proofs.Held.{Full, rows-cap, lobby-cap, value-in-place, if-at, if-refused}
 use Rattle.steps.proofs.ParticleSteps.{lobby-did, lobby-full}
 use native.Mathlib.Omega.{arith}
 use borrow.Author.Needs.{needs}
@@ -11,65 +11,89 @@ use Rattle.steps.proofs.particle_steps.to_lobby.Tie as tie
 full : (x : tie.Start) → Full (x .args .o)
 full x = record { msgs = search unmap }
 
-add-lobby-within : tie.Need-add-lobby-within
-add-lobby-within c =
-    let x = c .before .before .before in
-    let l = x .args .rows .now in
-    let o = x .args .o in
-    let i = x .args .i in
-    omega (arith, lobby-cap l o (x .pre .0))
+lobby-place-requires : tie.Need-lobby-place-requires
+lobby-place-requires c κs =
+    let x = c .before .before in
+    lobby-cap (x .args .rows .now) (x .args .o) (x .pre .0)
 
 returns : tie.Need-returns
 returns c =
     λ s e.
-    let x = c .before .before .before .before .before .before in
+    let at-number = c .before in
+    let at-told = at-number .before in
+    let at-place = at-told .before .before in
+    let x = at-place .before .before .before in
     let l = x .args .rows .now in
     let o = x .args .o in
     let i = x .args .i in
-    lobby-full l o i (x .pre .0) s _ (valueIn l i) (c .plain .ensures) (channelIn l i) e (full x) (none-more _ 16 _ (c .before .before .lobby-within .ensures) (c .before .if1 .taken))
+    let n = o .lobby .len in
+    let w = at-place .lobby-place in
+    let no = if-refused (n < 16) n 17 (w .result) (w .ensures) _ (at-number .number .result) (at-told .enum-told .given .1) (at-number .number .ensures) in
+    lobby-full l o i (x .pre .0) s _ (valueIn l i) _ (no .0) (c .plain .ensures) (channelIn l i) e (full x) (no .1)
 
 word-at-requires : tie.Need-word-at-requires
 word-at-requires c κs =
-    let x = c .before .before .before .before .before .before in
-    let l = x .args .rows .now in
-    let o = x .args .o in
-    let i = x .args .i in
-    (x .pre .0 .long, omega (arith, x .pre .1, rows-cap l o (x .pre .0)), search needs)
+    let at-place = c .before .before .before .before in
+    let x = at-place .before .before .before in
+    (x .pre .0 .long, omega (arith, x .pre .1, rows-cap (x .args .rows .now) (x .args .o) (x .pre .0)), search needs)
 
 value-at-requires : tie.Need-value-at-requires
 value-at-requires c κs =
-    let x = c .before .before .before .before .before .before .before .before in
+    let at-word = c .before in
+    let at-place = at-word .before .before .before .before .before in
+    let x = at-place .before .before .before in
     let l = x .args .rows .now in
     let o = x .args .o in
-    let i = x .args .i in
-    (x .pre .0 .long, omega (arith, x .pre .1, rows-cap l o (x .pre .0)), search needs, value-in-place l o (x .pre .0) i (x .pre .1) (x .pre .2))
+    (x .pre .0 .long, omega (arith, x .pre .1, rows-cap l o (x .pre .0)), search needs, value-in-place l o (x .pre .0) (x .args .i) (x .pre .1) (x .pre .2))
 
 remove-row-requires : tie.Need-remove-row-requires
 remove-row-requires c κs =
-    let x = c .before .before .before .before .before .before .before .before .before .before .before in
-    let l = x .args .rows .now in
-    let o = x .args .o in
-    let i = x .args .i in
-    (x .pre .0 .long, x .pre .1, rows-cap l o (x .pre .0))
+    let at-word = c .before .before .before .before in
+    let at-place = at-word .before .before .before .before .before in
+    let x = at-place .before .before .before in
+    (x .pre .0 .long, x .pre .1, rows-cap (x .args .rows .now) (x .args .o) (x .pre .0))
 
-with-requires : tie.Need-with-requires
-with-requires c κs = one-more _ 16 _ (c .before .before .before .before .before .before .before .before .before .before .before .lobby-within .ensures) (c .before .before .before .before .before .before .before .before .before .before .if1 .left)
+placed-requires : tie.Need-placed-requires
+placed-requires c κs =
+    let at-word = c .before .before .before .before .before .before .before .before in
+    let at-a = at-word .before .before .before in
+    let at-place = at-a .before .before in
+    let x = at-place .before .before .before in
+    let n = x .args .o .lobby .len in
+    let w = at-place .lobby-place in
+    let p = if-at (n < 16) n 17 (w .result) (w .ensures) _ (at-a .a .given .1) in
+    (p .0, omega (arith, p .0, p .1))
 
 returns-2 : tie.Need-returns-2
 returns-2 c =
     λ s e.
-    let x = c .before .before .before .before .before .before .before .before .before .before .before .before .before .before .before .before .before .before in
+    let at-with-lobby = c .before in
+    let at-placed = at-with-lobby .before in
+    let at-particles = at-placed .before in
+    let at-remove = at-particles .before .before .before in
+    let at-new = at-remove .before .before in
+    let at-value = at-new .before in
+    let at-word = at-value .before .before in
+    let at-a = at-word .before .before .before in
+    let at-place = at-a .before .before in
+    let x = at-place .before .before .before in
     let l = x .args .rows .now in
     let o = x .args .o in
-    let i = x .args .i in
-    let room = one-more _ 16 _ (c .before .before .before .before .before .before .before .before .before .before .before .before .before .before .lobby-within .ensures) (c .before .before .before .before .before .before .before .before .before .before .before .before .before .if1 .left) in
-    lobby-did l o i (x .pre .0) (x .pre .1) (x .pre .2) _ s (c .before .before .before .before .before .before .before .before .before .value-at .result) (c .before .before .before .before .before .before .before .before .before .value-at .ensures) _ (c .before .before .before .before .before .before .remove-row .result) _ (c .before .before .before .before .before .before .before .before .new .result) (c .before .before .with .result) _ (c .before .before .before .with-particles .result) (c .before .with-lobby .result) e (full x) room (c .before .before .before .before .before .before .before .before .before .before .before .word-at .ensures) (c .before .before .before .before .before .before .before .before .new .ensures) (c .before .before .before .before .before .before .remove-row .ensures) (c .before .before .before .with-particles .ensures) (c .before .before .with .ensures) (c .before .with-lobby .ensures) (c .plain2 .ensures)
+    let n = o .lobby .len in
+    let w = at-place .lobby-place in
+    let p = if-at (n < 16) n 17 (w .result) (w .ensures) _ (at-a .a .given .1) in
+    lobby-did l o (x .args .i) (x .pre .0) (x .pre .1) (x .pre .2) _ s (at-value .value-at .result) (at-value .value-at .ensures) _ (at-remove .remove-row .result)
+    _ (at-new .new .result) (at-placed .placed .result) _ (at-particles .with-particles .result) (at-with-lobby .with-lobby .result) e (full x) (p .1)
+    (at-word .word-at .ensures) (at-new .new .ensures) (at-remove .remove-row .ensures) (at-particles .with-particles .ensures) (at-placed .placed .ensures)
+    (at-with-lobby .with-lobby .ensures) (c .plain2 .ensures)
 
 pub to-lobby-spec : {M : Type 1} → statement M
 to-lobby-spec =
     tie.close
     (tie.spec
-    add-lobby-within
+    lobby-place-requires
+    (λ c. search needs)
+    (λ c. search needs)
     (λ c κs. search needs)
     (λ c κs. search needs)
     returns
@@ -78,7 +102,7 @@ to-lobby-spec =
     (λ c κs. search needs)
     remove-row-requires
     (λ c κs. search needs)
-    with-requires
+    placed-requires
     (λ c κs. search needs)
     (λ c κs. search needs)
     (λ c. search needs)

@@ -1,39 +1,36 @@
--- `test_changes::same::same_left` meets its contract: the loop reads marks below their number.
-use Prim.Native.Nat.{_-_, _≤_}
+use mathlib.Core.Path.{_≡_, refl, sym, _∙_}
+use mathlib.Core.Bool.{false}
+use Prim.Native.Nat.{_≤_, _-_}
+use lib.ListN.{drop}
+use Rattle.test_changes.specs.Same.{sameAll, sameMark}
+use Rattle.test_changes.proofs.SameLaws.{same-further, same-not, same-end}
 use borrow.Author.Needs.{needs}
-use lib.ListN.{length}
 use Rattle.test_changes.proofs.same.same_left.Statement.{statement}
 use Rattle.test_changes.proofs.same.same_left.Tie as tie
 
 abbrev Inv-loop : tie.InvT-loop
-Inv-loop a b k₀ k = 0 ≤ k
+Inv-loop a b k₀ k = (k ≤ 512) × (sameAll sameMark (drop k a) (drop k b) ≡ sameAll sameMark a b)
 
 abbrev μ-loop : tie.MeasureT-loop
-μ-loop a b k₀ k = length a - k
+μ-loop a b k₀ k = 512 - k
 
 loop-holds : tie.Need-loop-holds Inv-loop μ-loop
-loop-holds c = search needs
-
-array-read-if1 : tie.Need-array-read-if1 Inv-loop μ-loop
-array-read-if1 c = search needs
-
-array-read-if1-2 : tie.Need-array-read-if1-2 Inv-loop μ-loop
-array-read-if1-2 c = search needs
-
-returns : tie.Need-returns Inv-loop μ-loop
-returns c = search needs
-
-add-k : tie.Need-add-k Inv-loop μ-loop
-add-k c = search needs
-
-loop-less : tie.Need-loop-less Inv-loop μ-loop
-loop-less c = search needs
+loop-holds c = (search needs, refl)
 
 loop-again : tie.Need-loop-again Inv-loop μ-loop
-loop-again c = search needs
+loop-again c =
+    let l = c .before .before .before .loop in
+    (search needs, same-further sameMark _ _ (l .k) false (search needs) (search needs) (sym (c .before .same-mark .ensures) ∙ c .if1 .taken) ∙ l .inv .1)
+
+returns : tie.Need-returns Inv-loop μ-loop
+returns c =
+    let l = c .before .before .before .loop in
+    sym (sym (l .inv .1) ∙ same-not sameMark _ _ (l .k) false (search needs) (search needs) (sym (c .before .same-mark .ensures) ∙ c .if1 .left))
 
 returns-2 : tie.Need-returns-2 Inv-loop μ-loop
-returns-2 c = search needs
+returns-2 c =
+    let l = c .before .loop in
+    sym (sym (l .inv .1) ∙ same-end sameMark _ _ (l .k) (search needs) (search needs))
 
 pub same-left-spec : {M : Type 1} → statement M
 same-left-spec =
@@ -42,10 +39,11 @@ same-left-spec =
     Inv-loop
     μ-loop
     loop-holds
-    array-read-if1
-    array-read-if1-2
-    returns
-    add-k
-    loop-less
+    (λ c. search needs)
+    (λ c. search needs)
+    (λ c κs. search needs)
+    (λ c. search needs)
+    (λ c. search needs)
     loop-again
+    returns
     returns-2)

@@ -1,47 +1,49 @@
--- `test_changes::same::same_lobby` meets its contract: the loop goes over messages below 16.
-use Prim.Native.Nat.{_-_, _≤_}
+use mathlib.Core.Path.{_≡_, refl, sym, _∙_}
+use Prim.Native.Nat.{_≤_, _-_}
+use lib.ListN.{length, drop}
+use Rattle.test_changes.specs.Same.{sameAll, sameMessage}
+use Rattle.test_changes.proofs.SameLaws.{same-further, same-not, same-end}
+use Rattle.sides.proofs.Lists.{stops, goes-on}
+use Rattle.values.proofs.Lists.{unmap}
 use borrow.Author.Needs.{needs}
+use native.Mathlib.Omega.{arith}
 use Rattle.test_changes.proofs.same.same_lobby.Statement.{statement}
 use Rattle.test_changes.proofs.same.same_lobby.Tie as tie
 
 abbrev Inv-loop : tie.InvT-loop
-Inv-loop a b k₀ k = k ≤ 16
+Inv-loop a b k₀ k = (k ≤ 16) × (sameAll sameMessage (drop k (a .msgs)) (drop k (b .msgs)) ≡ sameAll sameMessage (a .msgs) (b .msgs))
 
 abbrev μ-loop : tie.MeasureT-loop
 μ-loop a b k₀ k = 16 - k
 
 loop-holds : tie.Need-loop-holds Inv-loop μ-loop
-loop-holds c = search needs
-
-mul-same-message : tie.Need-mul-same-message Inv-loop μ-loop
-mul-same-message c = search needs
-
-element-copy-out-same-message : tie.Need-element-copy-out-same-message Inv-loop μ-loop
-element-copy-out-same-message c = search needs
-
-mul-same-message-2 : tie.Need-mul-same-message-2 Inv-loop μ-loop
-mul-same-message-2 c = search needs
-
-element-copy-out-same-message-2 : tie.Need-element-copy-out-same-message-2 Inv-loop μ-loop
-element-copy-out-same-message-2 c = search needs
-
-same-message-requires : tie.Need-same-message-requires Inv-loop μ-loop
-same-message-requires c κs = search needs
-
-add-k : tie.Need-add-k Inv-loop μ-loop
-add-k c = search needs
-
-loop-less : tie.Need-loop-less Inv-loop μ-loop
-loop-less c = search needs
+loop-holds c = (search needs, refl)
 
 loop-again : tie.Need-loop-again Inv-loop μ-loop
-loop-again c = search needs
+loop-again c =
+    let x = c .before .before .before .before .before .before .args in
+    let full : length (x .t1 .msgs) ≡ 16 = search unmap in
+    let full′ : length (x .t2 .msgs) ≡ 16 = search unmap in
+    let l = c .before .before .before .before .before .loop in
+    (search needs, same-further sameMessage (x .t1 .msgs) (x .t2 .msgs) (l .k) _ (omega (arith, c .before .before .before .before .loop-test .taken)) (omega (arith, c .before .before .before .before .loop-test .taken)) (sym (c .before .same-message .ensures) ∙ c .if1 .taken) ∙ l .inv .1)
 
 returns : tie.Need-returns Inv-loop μ-loop
-returns c = search needs
+returns c =
+    let x = c .before .before .before .before .before .before .args in
+    let full : length (x .t1 .msgs) ≡ 16 = search unmap in
+    let full′ : length (x .t2 .msgs) ≡ 16 = search unmap in
+    let l = c .before .before .before .before .before .loop in
+    let no = sym (l .inv .1) ∙ same-not sameMessage (x .t1 .msgs) (x .t2 .msgs) (l .k) _ (omega (arith, c .before .before .before .before .loop-test .taken)) (omega (arith, c .before .before .before .before .loop-test .taken)) (sym (c .before .same-message .ensures) ∙ c .if1 .left) in
+    stops _ _ no
 
 returns-2 : tie.Need-returns-2 Inv-loop μ-loop
-returns-2 c = search needs
+returns-2 c =
+    let x = c .before .before .args in
+    let full : length (x .t1 .msgs) ≡ 16 = search unmap in
+    let full′ : length (x .t2 .msgs) ≡ 16 = search unmap in
+    let l = c .before .loop in
+    let all = sym (l .inv .1) ∙ same-end sameMessage (x .t1 .msgs) (x .t2 .msgs) (l .k) (omega (arith, c .loop-test .left)) (omega (arith, c .loop-test .left)) in
+    goes-on _ _ _ all refl
 
 pub same-lobby-spec : {M : Type 1} → statement M
 same-lobby-spec =
@@ -50,13 +52,13 @@ same-lobby-spec =
     Inv-loop
     μ-loop
     loop-holds
-    mul-same-message
-    element-copy-out-same-message
-    mul-same-message-2
-    element-copy-out-same-message-2
-    same-message-requires
-    add-k
-    loop-less
+    (λ c. search needs)
+    (λ c. search needs)
+    (λ c. search needs)
+    (λ c. search needs)
+    (λ c κs. search needs)
+    (λ c. search needs)
+    (λ c. search needs)
     loop-again
     returns
     returns-2)

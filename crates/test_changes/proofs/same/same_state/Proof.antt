@@ -1,47 +1,48 @@
--- `test_changes::same::same_state` meets its contract: the loop goes over the sides.
-use Prim.Native.Nat.{_-_, _≤_}
+use mathlib.Core.Path.{_≡_, refl, sym, _∙_}
+use Prim.Native.Nat.{_≤_, _-_}
+use lib.ListN.{length, drop}
+use Rattle.test_changes.specs.Same.{sameAll, sameSide}
+use Rattle.test_changes.proofs.SameLaws.{same-further, same-not, same-end}
+use Rattle.values.proofs.Lists.{unmap}
 use borrow.Author.Needs.{needs}
+use native.Mathlib.Omega.{arith}
 use Rattle.test_changes.proofs.same.same_state.Statement.{statement}
 use Rattle.test_changes.proofs.same.same_state.Tie as tie
 
 abbrev Inv-loop : tie.InvT-loop
-Inv-loop a b k₀ k = 0 ≤ k
+Inv-loop a b k₀ k = (k ≤ 2) × (sameAll sameSide (drop k (a .sides)) (drop k (b .sides)) ≡ sameAll sameSide (a .sides) (b .sides))
 
 abbrev μ-loop : tie.MeasureT-loop
 μ-loop a b k₀ k = 2 - k
 
 loop-holds : tie.Need-loop-holds Inv-loop μ-loop
-loop-holds c = search needs
-
-mul-same-side : tie.Need-mul-same-side Inv-loop μ-loop
-mul-same-side c = search needs
-
-element-copy-out-same-side : tie.Need-element-copy-out-same-side Inv-loop μ-loop
-element-copy-out-same-side c = search needs
-
-mul-same-side-2 : tie.Need-mul-same-side-2 Inv-loop μ-loop
-mul-same-side-2 c = search needs
-
-element-copy-out-same-side-2 : tie.Need-element-copy-out-same-side-2 Inv-loop μ-loop
-element-copy-out-same-side-2 c = search needs
-
-same-side-requires : tie.Need-same-side-requires Inv-loop μ-loop
-same-side-requires c κs = search needs
-
-add-k : tie.Need-add-k Inv-loop μ-loop
-add-k c = search needs
-
-loop-less : tie.Need-loop-less Inv-loop μ-loop
-loop-less c = search needs
+loop-holds c = (search needs, refl)
 
 loop-again : tie.Need-loop-again Inv-loop μ-loop
-loop-again c = search needs
+loop-again c =
+    let x = c .before .before .before .before .before .before .args in
+    let full : length (x .t1 .sides) ≡ 2 = search unmap in
+    let full′ : length (x .t2 .sides) ≡ 2 = search unmap in
+    let l = c .before .before .before .before .before .loop in
+    (search needs, same-further sameSide (x .t1 .sides) (x .t2 .sides) (l .k) _ (omega (arith, c .before .before .before .before .loop-test .taken)) (omega (arith, c .before .before .before .before .loop-test .taken)) (sym (c .before .same-side .ensures) ∙ c .if1 .taken) ∙ l .inv .1)
 
 returns : tie.Need-returns Inv-loop μ-loop
-returns c = search needs
+returns c =
+    let x = c .before .before .before .before .before .before .args in
+    let full : length (x .t1 .sides) ≡ 2 = search unmap in
+    let full′ : length (x .t2 .sides) ≡ 2 = search unmap in
+    let l = c .before .before .before .before .before .loop in
+    let no = sym (l .inv .1) ∙ same-not sameSide (x .t1 .sides) (x .t2 .sides) (l .k) _ (omega (arith, c .before .before .before .before .loop-test .taken)) (omega (arith, c .before .before .before .before .loop-test .taken)) (sym (c .before .same-side .ensures) ∙ c .if1 .left) in
+    sym no
 
 returns-2 : tie.Need-returns-2 Inv-loop μ-loop
-returns-2 c = search needs
+returns-2 c =
+    let x = c .before .before .args in
+    let full : length (x .t1 .sides) ≡ 2 = search unmap in
+    let full′ : length (x .t2 .sides) ≡ 2 = search unmap in
+    let l = c .before .loop in
+    let all = sym (l .inv .1) ∙ same-end sameSide (x .t1 .sides) (x .t2 .sides) (l .k) (omega (arith, c .loop-test .left)) (omega (arith, c .loop-test .left)) in
+    sym all
 
 pub same-state-spec : {M : Type 1} → statement M
 same-state-spec =
@@ -50,13 +51,13 @@ same-state-spec =
     Inv-loop
     μ-loop
     loop-holds
-    mul-same-side
-    element-copy-out-same-side
-    mul-same-side-2
-    element-copy-out-same-side-2
-    same-side-requires
-    add-k
-    loop-less
+    (λ c. search needs)
+    (λ c. search needs)
+    (λ c. search needs)
+    (λ c. search needs)
+    (λ c κs. search needs)
+    (λ c. search needs)
+    (λ c. search needs)
     loop-again
     returns
     returns-2)

@@ -1,44 +1,44 @@
--- `test_changes::same::same_value` meets its contract: the loop reads places below 16.
-use Prim.Native.Nat.{_-_, _≤_}
+use mathlib.Core.Path.{_≡_, refl, sym, _∙_}
+use Prim.Native.Nat.{_≤_, _-_}
+use lib.ListN.{length, drop}
+use lib.Dec.{eqb}
+use Rattle.sides.proofs.Lists.{stops, goes-on}
+use Rattle.test_changes.specs.Same.{sameAll}
+use Rattle.test_changes.proofs.SameLaws.{same-further, same-not, same-end}
 use borrow.Author.Needs.{needs}
+use native.Mathlib.Omega.{arith}
+use borrow.Author.Tests.{eq-eqb, ne-eqb}
 use Rattle.test_changes.proofs.same.same_value.Statement.{statement}
 use Rattle.test_changes.proofs.same.same_value.Tie as tie
 
 abbrev Inv-loop : tie.InvT-loop
-Inv-loop a b k₀ k = k ≤ 16
+Inv-loop a b k₀ k = (k ≤ 16) × (sameAll eqb (drop k (a .words)) (drop k (b .words)) ≡ sameAll eqb (a .words) (b .words))
 
 abbrev μ-loop : tie.MeasureT-loop
 μ-loop a b k₀ k = 16 - k
 
 loop-holds : tie.Need-loop-holds Inv-loop μ-loop
-loop-holds c = search needs
-
-mul-if1 : tie.Need-mul-if1 Inv-loop μ-loop
-mul-if1 c = search needs
-
-element-copy-out-if1 : tie.Need-element-copy-out-if1 Inv-loop μ-loop
-element-copy-out-if1 c = search needs
-
-mul-if1-2 : tie.Need-mul-if1-2 Inv-loop μ-loop
-mul-if1-2 c = search needs
-
-element-copy-out-if1-2 : tie.Need-element-copy-out-if1-2 Inv-loop μ-loop
-element-copy-out-if1-2 c = search needs
+loop-holds c = (search needs, refl)
 
 returns : tie.Need-returns Inv-loop μ-loop
-returns c = search needs
-
-add-k : tie.Need-add-k Inv-loop μ-loop
-add-k c = search needs
-
-loop-less : tie.Need-loop-less Inv-loop μ-loop
-loop-less c = search needs
+returns c =
+    let l = c .before .before .before .before .loop in
+    let no = sym (l .inv .1) ∙ same-not eqb _ _ (l .k) 0 (search needs) (search needs) (ne-eqb _ _ (c .if1 .taken)) in
+    stops _ _ no
 
 loop-again : tie.Need-loop-again Inv-loop μ-loop
-loop-again c = search needs
+loop-again c =
+    let l = c .before .before .before .before .loop in
+    (search needs, same-further eqb _ _ (l .k) 0 (search needs) (search needs) (eq-eqb _ _ (c .if1 .left)) ∙ l .inv .1)
 
 returns-2 : tie.Need-returns-2 Inv-loop μ-loop
-returns-2 c = search needs
+returns-2 c =
+    let l = c .before .loop in
+    let x = c .before .before .args in
+    let full : length (x .t1 .words) ≡ 16 = search (needs, c .before .before .good) in
+    let full′ : length (x .t2 .words) ≡ 16 = search (needs, c .before .before .good) in
+    let all = sym (l .inv .1) ∙ same-end eqb (x .t1 .words) (x .t2 .words) (l .k) (omega (arith, full, c .loop-test .left)) (omega (arith, full′, c .loop-test .left)) in
+    goes-on _ _ _ all refl
 
 pub same-value-spec : {M : Type 1} → statement M
 same-value-spec =
@@ -47,12 +47,12 @@ same-value-spec =
     Inv-loop
     μ-loop
     loop-holds
-    mul-if1
-    element-copy-out-if1
-    mul-if1-2
-    element-copy-out-if1-2
+    (λ c. search needs)
+    (λ c. search needs)
+    (λ c. search needs)
+    (λ c. search needs)
     returns
-    add-k
-    loop-less
+    (λ c. search needs)
+    (λ c. search needs)
     loop-again
     returns-2)

@@ -1,44 +1,40 @@
--- `test_changes::same::same_words` meets its contract: the loop reads words below their number.
-use Prim.Native.Nat.{_-_, _≤_}
+use mathlib.Core.Path.{_≡_, refl, sym, _∙_}
+use Prim.Native.Nat.{_≤_, _-_}
+use lib.Dec.{eqb}
+use lib.ListN.{length, drop}
+use Rattle.test_changes.specs.Same.{sameAll}
+use Rattle.test_changes.proofs.SameLaws.{same-further, same-not, same-end, same-lengths}
 use borrow.Author.Needs.{needs}
+use borrow.Author.Tests.{eq-eqb, ne-eqb}
 use Rattle.test_changes.proofs.same.same_words.Statement.{statement}
 use Rattle.test_changes.proofs.same.same_words.Tie as tie
 
 abbrev Inv-loop : tie.InvT-loop
-Inv-loop a b k₀ k = k ≤ 5184
+Inv-loop a b k₀ k = (k ≤ length a) × (sameAll eqb (drop k a) (drop k b) ≡ sameAll eqb a b)
 
 abbrev μ-loop : tie.MeasureT-loop
-μ-loop a b k₀ k = 5184 - k
-
-loop-holds : tie.Need-loop-holds Inv-loop μ-loop
-loop-holds c = search needs
-
-mul-if1 : tie.Need-mul-if1 Inv-loop μ-loop
-mul-if1 c = search needs
-
-element-copy-out-if1 : tie.Need-element-copy-out-if1 Inv-loop μ-loop
-element-copy-out-if1 c = search needs
-
-mul-if1-2 : tie.Need-mul-if1-2 Inv-loop μ-loop
-mul-if1-2 c = search needs
-
-element-copy-out-if1-2 : tie.Need-element-copy-out-if1-2 Inv-loop μ-loop
-element-copy-out-if1-2 c = search needs
+μ-loop a b k₀ k = length a - k
 
 returns : tie.Need-returns Inv-loop μ-loop
-returns c = search needs
+returns c = sym (same-lengths eqb _ _ (c .if1 .taken))
 
-add-k : tie.Need-add-k Inv-loop μ-loop
-add-k c = search needs
-
-loop-less : tie.Need-loop-less Inv-loop μ-loop
-loop-less c = search needs
-
-loop-again : tie.Need-loop-again Inv-loop μ-loop
-loop-again c = search needs
+loop-holds : tie.Need-loop-holds Inv-loop μ-loop
+loop-holds c = (search needs, refl)
 
 returns-2 : tie.Need-returns-2 Inv-loop μ-loop
-returns-2 c = search needs
+returns-2 c =
+    let l = c .before .before .before .before .loop in
+    sym (sym (l .inv .1) ∙ same-not eqb _ _ (l .k) 0 (search needs) (search needs) (ne-eqb _ _ (c .if2 .taken)))
+
+loop-again : tie.Need-loop-again Inv-loop μ-loop
+loop-again c =
+    let l = c .before .before .before .before .loop in
+    (search needs, same-further eqb _ _ (l .k) 0 (search needs) (search needs) (eq-eqb _ _ (c .if2 .left)) ∙ l .inv .1)
+
+returns-3 : tie.Need-returns-3 Inv-loop μ-loop
+returns-3 c =
+    let l = c .before .loop in
+    sym (sym (l .inv .1) ∙ same-end eqb _ _ (l .k) (search needs) (search needs))
 
 pub same-words-spec : {M : Type 1} → statement M
 same-words-spec =
@@ -46,13 +42,14 @@ same-words-spec =
     (tie.spec
     Inv-loop
     μ-loop
-    loop-holds
-    mul-if1
-    element-copy-out-if1
-    mul-if1-2
-    element-copy-out-if1-2
     returns
-    add-k
-    loop-less
+    loop-holds
+    (λ c. search needs)
+    (λ c. search needs)
+    (λ c. search needs)
+    (λ c. search needs)
+    returns-2
+    (λ c. search needs)
+    (λ c. search needs)
     loop-again
-    returns-2)
+    returns-3)
