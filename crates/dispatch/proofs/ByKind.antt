@@ -6,7 +6,8 @@ use Prim.Native.Nat.{ℕ, _+_}
 use native.Mathlib.Omega.{arith}
 use borrow.Author.Tests.{eq-eqb, ne-eqb, eqb-true}
 use lib.Dec.{eqb}
-use lib.ListN.{length}
+use lib.ListN.{length, take}
+use lib.Seq.{take-all}
 use Rattle.model.specs.Basics.{_&_, choose, Res, refuse, done, bind, need}
 use Rattle.model.specs.Side.{Core}
 use Rattle.model.specs.Wrapper.{Route, Wrapper, shelves}
@@ -26,7 +27,7 @@ use Rattle.steps.proofs.Settling.{no-left, no-right}
 use Rattle.steps.proofs.Settings.{up-with}
 use Rattle.meeting.specs.Meeting.{withTable}
 use Rattle.meeting.proofs.Settings.{meet-with}
-use Rattle.dispatch.specs.Stepping.{asked, OfferIf, RouteOffer, onePlace, twoPlaces, OwnReady}
+use Rattle.dispatch.specs.Stepping.{asked, RouteOffer, onePlace, twoPlaces, OwnReady}
 
 -- a side that a step may act on
 pub own-sane : (c : Setting) (l : List ℕ) (o : Rest) → OwnReady c l o → Sane l o
@@ -39,16 +40,6 @@ step-by x y l o m r e h = subst (λ (z : Res Moved). StepIs z l o m r) (sym e) h
 -- where a test refuses with 10
 pub ten-is : (x : Res Moved) (l : List ℕ) (o : Rest) (k : ℕ) (r : RestStep) → x ≡ refuse 10 → k ≡ 10 → Says (said.Refused k) o r → StepIs x l o l r
 ten-is x l o k r e is says = refused-is x l o k r (e ∙ ap refuse (sym is)) says
-
--- what a test answered
-module _ (P : Type 0) (i x : ℕ) (a : Offer) (w : OfferIf P i x a) where
-  pub if-at : (k : ℕ) → a ≡ At k → (k ≡ i) × P
-  if-at k e = subst (λ (y : Offer). OfferIf P i x y) e w
-
-  pub if-refused : (n k : ℕ) → a ≡ Refused n → k ≡ numberOf a → (k ≡ x) × (P → ⊥)
-  if-refused n k e q =
-      let z : (n ≡ x) × (P → ⊥) = subst (λ (y : Offer). OfferIf P i x y) e w in
-      (q ∙ ap numberOf e ∙ z .0, z .1)
 
 -- what the check of a route answered
 module _ (v : Wrapper) (m j : ℕ) (a : Offer) (w : RouteOffer v m j a) where
@@ -127,9 +118,13 @@ module _ (c : Setting) (known : ℕ → Bool) (sh : ℕ → List (List ℕ)) (s 
   pub kind-is : (k x : ℕ) → k ≡ x → settled (local c known sh s (asked k n i j ws)) ≡ settled (local c known sh s (asked x n i j ws))
   kind-is k x e = ap (λ (y : ℕ). settled (local c known sh s (asked y n i j ws))) e
 
-  pub enter-on : (i ≡ 0) × (j ≡ 0) → settled (local c known sh s (asked 1 n i j ws)) ≡ settled (enter known s ws)
+  enter-all : (i ≡ 0) × (j ≡ 0) → settled (local c known sh s (asked 1 n i j ws)) ≡ settled (enter known s ws)
   unfolding local choose need _&_
-  enter-on e = rw (eq-eqb i 0 (e .0), eq-eqb j 0 (e .1))
+  enter-all e = rw (eq-eqb i 0 (e .0), eq-eqb j 0 (e .1))
+
+  -- the first m words, which are all
+  pub enter-on : (i ≡ 0) × (j ≡ 0) → (m : ℕ) → m ≡ length ws → settled (local c known sh s (asked 1 n i j ws)) ≡ settled (enter known s (take m ws))
+  enter-on e m same = enter-all e ∙ ap (λ (v : List ℕ). settled (enter known s v)) (sym (take-all m ws (omega (arith, same))))
 
   pub enter-off : ((i ≡ 0) × (j ≡ 0) → ⊥) → settled (local c known sh s (asked 1 n i j ws)) ≡ refuse 10
   unfolding local choose need settled bind

@@ -2,8 +2,9 @@ use mathlib.Core.Path.{_≡_}
 use Rattle.model.specs.Step.{descend, meet, settled}
 use Rattle.sides.specs.Sides.{coreOf}
 use Rattle.meeting.specs.Meeting.{withTable}
+use Rattle.steps.proofs.Held.{if-at, if-refused}
 use Rattle.dispatch.specs.Stepping.{settingOf, twoPlaces}
-use Rattle.dispatch.proofs.ByKind.{own-sane, step-by, ten-is, if-at, if-refused, two-descend, two-meet, two-one, two-bad}
+use Rattle.dispatch.proofs.ByKind.{own-sane, step-by, ten-is, two-descend, two-meet, two-one, two-bad}
 use borrow.Author.Needs.{needs}
 use Rattle.dispatch.proofs.own_side.two_places.Statement.{statement}
 use Rattle.dispatch.proofs.own_side.two_places.Tie as tie
