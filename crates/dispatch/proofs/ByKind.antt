@@ -2,9 +2,9 @@
 use mathlib.Core.Path.{_≡_, refl, sym, ap, subst, _∙_}
 use mathlib.Core.Bool.{Bool, true, false}
 use mathlib.Core.List.{List, [], _∷_}
-use Prim.Native.Nat.{ℕ, _+_}
+use Prim.Native.Nat.{ℕ, _+_, _≤_}
 use native.Mathlib.Omega.{arith}
-use borrow.Author.Tests.{eq-eqb, ne-eqb, eqb-true}
+use borrow.Author.Tests.{eq-eqb, ne-eqb, eqb-true, eqb-false}
 use lib.Dec.{eqb}
 use lib.ListN.{length, take}
 use lib.Seq.{take-all}
@@ -27,7 +27,7 @@ use Rattle.steps.proofs.Settling.{no-left, no-right}
 use Rattle.steps.proofs.Settings.{up-with}
 use Rattle.meeting.specs.Meeting.{withTable}
 use Rattle.meeting.proofs.Settings.{meet-with}
-use Rattle.dispatch.specs.Stepping.{asked, RouteOffer, onePlace, twoPlaces, OwnReady}
+use Rattle.dispatch.specs.Stepping.{asked, RouteOffer, OnePlaceKind, onePlace, twoPlaces, OwnReady}
 
 -- a side that a step may act on
 pub own-sane : (c : Setting) (l : List ℕ) (o : Rest) → OwnReady c l o → Sane l o
@@ -51,6 +51,13 @@ module _ (v : Wrapper) (m j : ℕ) (a : Offer) (w : RouteOffer v m j a) where
       let z : (n ≡ 10) × (Nowhere ≡ sourceFor v m j) = subst (λ (y : Offer). RouteOffer v m j y) e w in
       (q ∙ ap numberOf e ∙ z .0, z .1)
 
+-- a number by its bounds
+beyond : (n k : ℕ) → n ≤ k → (k ≡ n → ⊥) → n + 1 ≤ k
+beyond n k h z = omega (arith, z)
+
+meets : (n k : ℕ) → n ≤ k → k ≤ n → k ≡ n
+meets n k h g = omega arith
+
 -- KINDS 2, 3, 6, 7
 module _ (c : Setting) (s : Core) (k i : ℕ) where
   pub one-down : k ≡ 2 → settled (onePlace c s k i) ≡ settled (goDown s i)
@@ -65,11 +72,16 @@ module _ (c : Setting) (s : Core) (k i : ℕ) where
   unfolding onePlace choose
   one-pass e = ap (λ (x : ℕ). settled (onePlace c s x i)) e
 
-  pub one-leave : k ≡ 7 → settled (onePlace c s k i) ≡ settled (leave s i)
+  one-seven : k ≡ 7 → settled (onePlace c s k i) ≡ settled (leave s i)
   unfolding onePlace choose
-  one-leave e = ap (λ (x : ℕ). settled (onePlace c s x i)) e
+  one-seven e = ap (λ (x : ℕ). settled (onePlace c s x i)) e
 
-  pub one-none : (k ≡ 2 → ⊥) → (k ≡ 3 → ⊥) → (k ≡ 6 → ⊥) → (k ≡ 7 → ⊥) → settled (onePlace c s k i) ≡ refuse 10
+  pub one-leave : OnePlaceKind k → (k ≡ 2 → ⊥) → (k ≡ 3 → ⊥) → (k ≡ 6 → ⊥) → settled (onePlace c s k i) ≡ settled (leave s i)
+  one-leave h a b d =
+      let five = beyond 4 k (beyond 3 k (beyond 2 k (h .first) a) b) (h .not-4) in
+      one-seven (meets 7 k (beyond 6 k (beyond 5 k five (h .not-5)) d) (h .last))
+
+  one-none : (k ≡ 2 → ⊥) → (k ≡ 3 → ⊥) → (k ≡ 6 → ⊥) → (k ≡ 7 → ⊥) → settled (onePlace c s k i) ≡ refuse 10
   unfolding onePlace choose settled bind
   one-none a b d e = rw (ne-eqb k 2 a, ne-eqb k 3 b, ne-eqb k 6 d, ne-eqb k 7 e)
 
@@ -98,9 +110,20 @@ module _ (c : Setting) (s : Core) (k i j : ℕ) where
   pub two-one : (k ≡ 4 → ⊥) → (k ≡ 5 → ⊥) → j ≡ 0 → (t : Bool) → t ≡ shelves (c .wrapper) (c .side) → (p : ℕ) → p ≡ i → settled (twoPlaces c s k i j) ≡ settled (onePlace (withShelf t) s k p)
   two-one a b e t h p q = two-ones a b e ∙ ap settled (one-with c s k i t (sym h)) ∙ ap (λ (y : ℕ). settled (onePlace (withShelf t) s k y)) (sym q)
 
-  pub two-bad : (k ≡ 4 → ⊥) → (k ≡ 5 → ⊥) → (j ≡ 0 → ⊥) → settled (twoPlaces c s k i j) ≡ refuse 10
+  two-unused : (k ≡ 4 → ⊥) → (k ≡ 5 → ⊥) → (j ≡ 0 → ⊥) → settled (twoPlaces c s k i j) ≡ refuse 10
   unfolding twoPlaces choose need settled bind
-  two-bad a b e = rw (ne-eqb k 4 a, ne-eqb k 5 b, ne-eqb j 0 e)
+  two-unused a b e = rw (ne-eqb k 4 a, ne-eqb k 5 b, ne-eqb j 0 e)
+
+  pub two-bad : (k ≡ 4 → ⊥) → (k ≡ 5 → ⊥) → ((2 ≤ k) × (k ≤ 7) × (j ≡ 0) → ⊥) → settled (twoPlaces c s k i j) ≡ refuse 10
+  two-bad a b h = go (eqb j 0) refl
+    where
+      go : (z : Bool) → eqb j 0 ≡ z → settled (twoPlaces c s k i j) ≡ refuse 10
+      go true e =
+          let zero-j = eqb-true j 0 e in
+          let off : (x : ℕ) → 2 ≤ x → x ≤ 7 → k ≡ x → ⊥ = λ x p q z. h (subst (λ (y : ℕ). 2 ≤ y) (sym z) p, subst (λ (y : ℕ). y ≤ 7) (sym z) q, zero-j) in
+          two-ones a b zero-j ∙
+          one-none c s k i (off 2 (omega arith) (omega arith)) (off 3 (omega arith) (omega arith)) (off 6 (omega arith) (omega arith)) (off 7 (omega arith) (omega arith))
+      go false e = two-unused a b (eqb-false j 0 e)
 
 -- where there is no route, 10
 route-ten : (rs : List Route) (n j x : ℕ) → routeTo rs n j ≡ refuse x → x ≡ 10

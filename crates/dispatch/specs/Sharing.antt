@@ -59,17 +59,17 @@ pub record AtSide (x : Res Moved) (ls : List (List ℕ)) (k : ℕ) (o : Rest) (m
   pub step : StepIs x (getD ls k []) o words r
 
 -- what a step of the side that c names is given: the words, the marks and the shelves of all sides, and a side that may act
-abbrev pub SideReady : Setting → List (List ℕ) → (shelved : List ℕ) → List (List Bool) → Rest → Type 0
-SideReady c ls ns ms o =
+abbrev pub SideReady : Setting → (marks : List (List Bool)) → (words : List (List ℕ)) → (shelved : List ℕ) → Rest → Type 0
+SideReady c ms ls ns o =
     (length ls ≡ length allSides) × (length ms ≡ length allSides) × (0 < c .side) × (c .side - 1 < length allSides) × (OwnReady c (getD ls (c .side - 1) []) o) × Shelves ls ns
 
--- the answer r is what the model makes of the step x of the side at place k: no word changes
-abbrev pub TakenAt : Setting → List (List ℕ) → (shelved : List ℕ) → List (List Bool) → Step → ℕ → Rest → RestStep → Type 0
-TakenAt c ls ns ms x k o r = LocalIs c ms (shelvesIn ls ns) x (getD ls k []) o (getD ls k []) r
+-- the model's step x of the side at place k, run with c: no word changes, and r is the answer
+abbrev pub StillAt : Setting → (marks : List (List Bool)) → (words : List (List ℕ)) → (shelved : List ℕ) → Step → ℕ → Rest → RestStep → Type 0
+StillAt c ms ls ns x k o r = LocalIs c ms (shelvesIn ls ns) x (getD ls k []) o (getD ls k []) r
 
--- the words ls′ and the answer r are what the model makes of the step x of the side that c names: the words of the others stay
-abbrev pub LocalAt : Setting → List (List ℕ) → (shelved : List ℕ) → List (List Bool) → Step → Rest → List (List ℕ) → RestStep → Type 0
-LocalAt c ls ns ms x o ls′ r = AtSide (settled (local c (knownBy ms) (shelvesIn ls ns) (coreOf (getD ls (c .side - 1) []) o) x)) ls (c .side - 1) o ls′ r
+-- the model's step x of the side that c names: to all words ls′, in which those of the others stay, and the answer r
+abbrev pub LocalAt : Setting → (marks : List (List Bool)) → (words : List (List ℕ)) → (shelved : List ℕ) → Step → Rest → List (List ℕ) → RestStep → Type 0
+LocalAt c ms ls ns x o ls′ r = AtSide (settled (local c (knownBy ms) (shelvesIn ls ns) (coreOf (getD ls (c .side - 1) []) o) x)) ls (c .side - 1) o ls′ r
 
 -- what is said is that a value left
 abbrev pub isOut : Said → Bool

@@ -2,7 +2,7 @@
 use mathlib.Core.Path.{_≡_}
 use mathlib.Core.Bool.{Bool, true}
 use mathlib.Core.List.{List}
-use Prim.Native.Nat.{ℕ, _+_, _<_}
+use Prim.Native.Nat.{ℕ, _+_, _<_, _≤_}
 use lib.Dec.{eqb}
 use lib.ListN.{length}
 use Rattle.model.specs.Basics.{choose, Res, refuse, need}
@@ -35,8 +35,7 @@ asked k n i j ws = record { kind = k; side = n; i = i; j = j; words = ws }
 abbrev pub ShelvesBy : Type 0
 ShelvesBy = ℕ → List (List ℕ)
 
--- the words m and the answer r are what the model makes of the step x: c is what the side is run with, ms are all sides' marks of
--- names that have left, sh the shelves, l and o the side's words and its rest
+-- the model's step x of a side that is run with c, beside all sides' marks ms and shelves sh: from the words l and the rest o to the words m and the answer r
 abbrev pub LocalIs : Setting → List (List Bool) → ShelvesBy → Step → List ℕ → Rest → List ℕ → RestStep → Type 0
 LocalIs c ms sh x l o m r = StepIs (settled (local c (knownBy ms) sh (coreOf l o) x)) l o m r
 
@@ -44,6 +43,13 @@ LocalIs c ms sh x l o m r = StepIs (settled (local c (knownBy ms) sh (coreOf l o
 abbrev pub RouteOffer : Wrapper → (side j : ℕ) → Offer → Type 0
 RouteOffer w n j (At p) = Side (p + 1) ≡ sourceFor w n j
 RouteOffer w n j (Refused x) = (x ≡ 10) × (Nowhere ≡ sourceFor w n j)
+
+-- kind 2, 3, 6 or 7
+pub record OnePlaceKind (k : ℕ) : Type 0 where
+  pub first : 2 ≤ k
+  pub last : k ≤ 7
+  pub not-4 : k ≡ 4 → ⊥
+  pub not-5 : k ≡ 5 → ⊥
 
 -- kinds 2, 3, 6 and 7
 unfoldable pub onePlace : Setting → Core → (kind i : ℕ) → Res Moved

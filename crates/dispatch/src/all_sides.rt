@@ -8,7 +8,7 @@ ghost use Rattle.model.specs.Wrapper.{allSides, described};
 ghost use Rattle.values.specs.Env.{viewValue};
 ghost use Rattle.steps.specs.StepIs.{Sane};
 ghost use Rattle.dispatch.specs.Stepping.{settingOf, asked, RouteOffer};
-ghost use Rattle.dispatch.specs.Sharing.{Shelves, SideReady, TakenAt, LocalAt, isOut, MarkedAt};
+ghost use Rattle.dispatch.specs.Sharing.{Shelves, SideReady, StillAt, LocalAt, isOut, MarkedAt};
 use crate::own_side::own_step;
 use crate::own_side::wordless;
 use loading::place_of;
@@ -48,7 +48,7 @@ fn taking(
     words: &[u32],
 ) -> RestStep
     requires { ⌜ (length (now rows) ≡ length allSides) × (k < length allSides) × (Sane (getD (now rows) k []) o) × Shelves (now rows) shelved ⌝ }
-    ensures { λ r. ⌜ ((nodes pool : List ℕ) (ms : List (List Bool)) (n : ℕ) → TakenAt (settingOf wrapper side nodes pool) (now (rows .entry)) shelved ms (asked 8 n i j (now (words .entry))) k o r) ⌝ }
+    ensures { λ r. ⌜ ((nodes pool : List ℕ) (ms : List (List Bool)) (n : ℕ) → StillAt (settingOf wrapper side nodes pool) ms (now (rows .entry)) shelved (asked 8 n i j (now (words .entry))) k o r) ⌝ }
 {
     let a = wordless(words, i);
     let Offer::At(q) = a else {
@@ -76,8 +76,8 @@ pub fn side_step(
     j: usize,
     words: &[u32],
 ) -> RestStep
-    requires { ⌜ SideReady (settingOf wrapper side (now nodes) (now pool)) (now rows) shelved (now marks) o ⌝ }
-    ensures { λ r. ⌜ ((n : ℕ) → LocalAt (settingOf wrapper side (now (nodes .entry)) (now (pool .entry))) (now (rows .entry)) shelved (now (marks .entry)) (asked kind n i j (now (words .entry))) o (now (rows .exit)) r) ⌝ }
+    requires { ⌜ SideReady (settingOf wrapper side (now nodes) (now pool)) (now marks) (now rows) shelved o ⌝ }
+    ensures { λ r. ⌜ ((n : ℕ) → LocalAt (settingOf wrapper side (now (nodes .entry)) (now (pool .entry))) (now (marks .entry)) (now (rows .entry)) shelved (asked kind n i j (now (words .entry))) o (now (rows .exit)) r) ⌝ }
 {
     let k = place_of(side);
     if kind == 8 {

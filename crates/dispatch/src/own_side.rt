@@ -1,6 +1,6 @@
 // Kinds 1 to 7: the side's own words are lent.
 ghost use mathlib.Core.Path.{_≡_};
-ghost use Prim.Native.Nat.{ℕ};
+ghost use Prim.Native.Nat.{ℕ, _≤_};
 ghost use lib.ListN.{length};
 ghost use Rattle.model.specs.Wrapper.{allSides};
 ghost use Rattle.model.specs.Load.{Setting};
@@ -8,7 +8,7 @@ ghost use Rattle.model.specs.Step.{settled};
 ghost use Rattle.sides.specs.Sides.{coreOf};
 ghost use Rattle.steps.specs.Asked.{OfferIf, withShelf};
 ghost use Rattle.steps.specs.StepIs.{Sane, StepIs};
-ghost use Rattle.dispatch.specs.Stepping.{settingOf, asked, ShelvesBy, LocalIs, onePlace, twoPlaces, OwnReady};
+ghost use Rattle.dispatch.specs.Stepping.{settingOf, asked, ShelvesBy, LocalIs, OnePlaceKind, onePlace, twoPlaces, OwnReady};
 use meeting::meet;
 use sides::Rest;
 use sides::Sides;
@@ -25,7 +25,7 @@ use wrappers::has_shelf;
 
 // Kinds 2, 3, 6 and 7: the steps that name one place. `shelving` says whether what goes up on `mid` goes to the shelf.
 fn one_place(shelving: bool, rows: &mut [u32], o: Rest, kind: u32, i: usize) -> RestStep
-    requires { ⌜ Sane (now rows) o ⌝ }
+    requires { ⌜ Sane (now rows) o × OnePlaceKind kind ⌝ }
     ensures { λ r. ⌜ StepIs (settled (onePlace (withShelf shelving) (coreOf (now (rows .entry)) o) kind i)) (now (rows .entry)) o (now (rows .exit)) r ⌝ }
 {
     if kind == 2 {
@@ -37,16 +37,19 @@ fn one_place(shelving: bool, rows: &mut [u32], o: Rest, kind: u32, i: usize) -> 
     if kind == 6 {
         return pass(rows, o, i);
     }
-    if kind == 7 {
-        return leave(rows, o, i);
-    }
-    RestStep::plain(Said::Refused(10), o)
+    leave(rows, o, i)
 }
 
-// Whether j, which the kinds of one place do not use, is 0. The position is i.
-fn place_offer(i: usize, j: usize) -> Offer
-    ensures { λ r. ⌜ OfferIf (j ≡ 0) i 10 r ⌝ }
+// Whether the kind is one of 2 to 7, and j, which those of one place do not use, is 0. The position is i.
+fn place_offer(kind: u32, i: usize, j: usize) -> Offer
+    ensures { λ r. ⌜ OfferIf ((2 ≤ kind) × (kind ≤ 7) × (j ≡ 0)) i 10 r ⌝ }
 {
+    if kind < 2 {
+        return Offer::Refused(10);
+    }
+    if 7 < kind {
+        return Offer::Refused(10);
+    }
     if j != 0 {
         return Offer::Refused(10);
     }
@@ -97,7 +100,7 @@ fn two_places(
     if kind == 5 {
         return meet(nodes, pool, side, rows, o, i, j);
     }
-    let a = place_offer(i, j);
+    let a = place_offer(kind, i, j);
     let Offer::At(k) = a else {
         return RestStep::plain(Said::Refused(a.number()), o);
     };

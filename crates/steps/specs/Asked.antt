@@ -33,12 +33,12 @@ pub record Says (s : Said) (o : Rest) (r : RestStep) : Type 0 where
   pub value : Stores [] (r .value)
   pub rest : r .rest ≡ o
 
--- the position asked for, with the facts P of it; or the number with which the model refuses
+-- the position or value length i, with the facts P of it; or the number with which the model refuses
 abbrev pub OfferIs : Res Moved → ℕ → (ℕ → Type 0) → Offer → Type 0
 OfferIs m i P (At k) = (k ≡ i) × P k
 OfferIs m i P (Refused n) = m ≡ refuse n
 
--- the position i where P holds, or the refusal x where it does not
+-- the position or value length i where P holds, or the refusal x where it does not
 abbrev pub OfferIf : Type 0 → (i x : ℕ) → Offer → Type 0
 OfferIf P i x (At k) = (k ≡ i) × P
 OfferIf P i x (Refused n) = (n ≡ x) × (P → ⊥)
