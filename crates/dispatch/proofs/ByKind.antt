@@ -2,11 +2,12 @@
 use mathlib.Core.Path.{_≡_, refl, sym, ap, subst, _∙_}
 use mathlib.Core.Bool.{Bool, true, false}
 use mathlib.Core.List.{List, [], _∷_}
-use Prim.Native.Nat.{ℕ, _+_}
+use Prim.Native.Nat.{ℕ, _+_, _≤_}
 use native.Mathlib.Omega.{arith}
-use borrow.Author.Tests.{eq-eqb, ne-eqb, eqb-true}
+use borrow.Author.Tests.{eq-eqb, ne-eqb, eqb-true, eqb-false}
 use lib.Dec.{eqb}
-use lib.ListN.{length}
+use lib.ListN.{length, take}
+use lib.Seq.{take-all}
 use Rattle.model.specs.Basics.{_&_, choose, Res, refuse, done, bind, need}
 use Rattle.model.specs.Side.{Core}
 use Rattle.model.specs.Wrapper.{Route, Wrapper, shelves}
@@ -26,7 +27,7 @@ use Rattle.steps.proofs.Settling.{no-left, no-right}
 use Rattle.steps.proofs.Settings.{up-with}
 use Rattle.meeting.specs.Meeting.{withTable}
 use Rattle.meeting.proofs.Settings.{meet-with}
-use Rattle.dispatch.specs.Stepping.{asked, OfferIf, RouteOffer, onePlace, twoPlaces, OwnReady}
+use Rattle.dispatch.specs.Stepping.{asked, RouteOffer, OnePlaceKind, onePlace, twoPlaces, OwnReady}
 
 -- a side that a step may act on
 pub own-sane : (c : Setting) (l : List ℕ) (o : Rest) → OwnReady c l o → Sane l o
@@ -40,16 +41,6 @@ step-by x y l o m r e h = subst (λ (z : Res Moved). StepIs z l o m r) (sym e) h
 pub ten-is : (x : Res Moved) (l : List ℕ) (o : Rest) (k : ℕ) (r : RestStep) → x ≡ refuse 10 → k ≡ 10 → Says (said.Refused k) o r → StepIs x l o l r
 ten-is x l o k r e is says = refused-is x l o k r (e ∙ ap refuse (sym is)) says
 
--- what a test answered
-module _ (P : Type 0) (i x : ℕ) (a : Offer) (w : OfferIf P i x a) where
-  pub if-at : (k : ℕ) → a ≡ At k → (k ≡ i) × P
-  if-at k e = subst (λ (y : Offer). OfferIf P i x y) e w
-
-  pub if-refused : (n k : ℕ) → a ≡ Refused n → k ≡ numberOf a → (k ≡ x) × (P → ⊥)
-  if-refused n k e q =
-      let z : (n ≡ x) × (P → ⊥) = subst (λ (y : Offer). OfferIf P i x y) e w in
-      (q ∙ ap numberOf e ∙ z .0, z .1)
-
 -- what the check of a route answered
 module _ (v : Wrapper) (m j : ℕ) (a : Offer) (w : RouteOffer v m j a) where
   pub route-at : (k : ℕ) → a ≡ At k → Side (k + 1) ≡ sourceFor v m j
@@ -59,6 +50,13 @@ module _ (v : Wrapper) (m j : ℕ) (a : Offer) (w : RouteOffer v m j a) where
   route-refused n k e q =
       let z : (n ≡ 10) × (Nowhere ≡ sourceFor v m j) = subst (λ (y : Offer). RouteOffer v m j y) e w in
       (q ∙ ap numberOf e ∙ z .0, z .1)
+
+-- a number by its bounds
+beyond : (n k : ℕ) → n ≤ k → (k ≡ n → ⊥) → n + 1 ≤ k
+beyond n k h z = omega (arith, z)
+
+meets : (n k : ℕ) → n ≤ k → k ≤ n → k ≡ n
+meets n k h g = omega arith
 
 -- KINDS 2, 3, 6, 7
 module _ (c : Setting) (s : Core) (k i : ℕ) where
@@ -74,11 +72,16 @@ module _ (c : Setting) (s : Core) (k i : ℕ) where
   unfolding onePlace choose
   one-pass e = ap (λ (x : ℕ). settled (onePlace c s x i)) e
 
-  pub one-leave : k ≡ 7 → settled (onePlace c s k i) ≡ settled (leave s i)
+  one-seven : k ≡ 7 → settled (onePlace c s k i) ≡ settled (leave s i)
   unfolding onePlace choose
-  one-leave e = ap (λ (x : ℕ). settled (onePlace c s x i)) e
+  one-seven e = ap (λ (x : ℕ). settled (onePlace c s x i)) e
 
-  pub one-none : (k ≡ 2 → ⊥) → (k ≡ 3 → ⊥) → (k ≡ 6 → ⊥) → (k ≡ 7 → ⊥) → settled (onePlace c s k i) ≡ refuse 10
+  pub one-leave : OnePlaceKind k → (k ≡ 2 → ⊥) → (k ≡ 3 → ⊥) → (k ≡ 6 → ⊥) → settled (onePlace c s k i) ≡ settled (leave s i)
+  one-leave h a b d =
+      let five = beyond 4 k (beyond 3 k (beyond 2 k (h .first) a) b) (h .not-4) in
+      one-seven (meets 7 k (beyond 6 k (beyond 5 k five (h .not-5)) d) (h .last))
+
+  one-none : (k ≡ 2 → ⊥) → (k ≡ 3 → ⊥) → (k ≡ 6 → ⊥) → (k ≡ 7 → ⊥) → settled (onePlace c s k i) ≡ refuse 10
   unfolding onePlace choose settled bind
   one-none a b d e = rw (ne-eqb k 2 a, ne-eqb k 3 b, ne-eqb k 6 d, ne-eqb k 7 e)
 
@@ -107,9 +110,20 @@ module _ (c : Setting) (s : Core) (k i j : ℕ) where
   pub two-one : (k ≡ 4 → ⊥) → (k ≡ 5 → ⊥) → j ≡ 0 → (t : Bool) → t ≡ shelves (c .wrapper) (c .side) → (p : ℕ) → p ≡ i → settled (twoPlaces c s k i j) ≡ settled (onePlace (withShelf t) s k p)
   two-one a b e t h p q = two-ones a b e ∙ ap settled (one-with c s k i t (sym h)) ∙ ap (λ (y : ℕ). settled (onePlace (withShelf t) s k y)) (sym q)
 
-  pub two-bad : (k ≡ 4 → ⊥) → (k ≡ 5 → ⊥) → (j ≡ 0 → ⊥) → settled (twoPlaces c s k i j) ≡ refuse 10
+  two-unused : (k ≡ 4 → ⊥) → (k ≡ 5 → ⊥) → (j ≡ 0 → ⊥) → settled (twoPlaces c s k i j) ≡ refuse 10
   unfolding twoPlaces choose need settled bind
-  two-bad a b e = rw (ne-eqb k 4 a, ne-eqb k 5 b, ne-eqb j 0 e)
+  two-unused a b e = rw (ne-eqb k 4 a, ne-eqb k 5 b, ne-eqb j 0 e)
+
+  pub two-bad : (k ≡ 4 → ⊥) → (k ≡ 5 → ⊥) → ((2 ≤ k) × (k ≤ 7) × (j ≡ 0) → ⊥) → settled (twoPlaces c s k i j) ≡ refuse 10
+  two-bad a b h = go (eqb j 0) refl
+    where
+      go : (z : Bool) → eqb j 0 ≡ z → settled (twoPlaces c s k i j) ≡ refuse 10
+      go true e =
+          let zero-j = eqb-true j 0 e in
+          let off : (x : ℕ) → 2 ≤ x → x ≤ 7 → k ≡ x → ⊥ = λ x p q z. h (subst (λ (y : ℕ). 2 ≤ y) (sym z) p, subst (λ (y : ℕ). y ≤ 7) (sym z) q, zero-j) in
+          two-ones a b zero-j ∙
+          one-none c s k i (off 2 (omega arith) (omega arith)) (off 3 (omega arith) (omega arith)) (off 6 (omega arith) (omega arith)) (off 7 (omega arith) (omega arith))
+      go false e = two-unused a b (eqb-false j 0 e)
 
 -- where there is no route, 10
 route-ten : (rs : List Route) (n j x : ℕ) → routeTo rs n j ≡ refuse x → x ≡ 10
@@ -127,9 +141,13 @@ module _ (c : Setting) (known : ℕ → Bool) (sh : ℕ → List (List ℕ)) (s 
   pub kind-is : (k x : ℕ) → k ≡ x → settled (local c known sh s (asked k n i j ws)) ≡ settled (local c known sh s (asked x n i j ws))
   kind-is k x e = ap (λ (y : ℕ). settled (local c known sh s (asked y n i j ws))) e
 
-  pub enter-on : (i ≡ 0) × (j ≡ 0) → settled (local c known sh s (asked 1 n i j ws)) ≡ settled (enter known s ws)
+  enter-all : (i ≡ 0) × (j ≡ 0) → settled (local c known sh s (asked 1 n i j ws)) ≡ settled (enter known s ws)
   unfolding local choose need _&_
-  enter-on e = rw (eq-eqb i 0 (e .0), eq-eqb j 0 (e .1))
+  enter-all e = rw (eq-eqb i 0 (e .0), eq-eqb j 0 (e .1))
+
+  -- the first m words, which are all
+  pub enter-on : (i ≡ 0) × (j ≡ 0) → (m : ℕ) → m ≡ length ws → settled (local c known sh s (asked 1 n i j ws)) ≡ settled (enter known s (take m ws))
+  enter-on e m same = enter-all e ∙ ap (λ (v : List ℕ). settled (enter known s v)) (sym (take-all m ws (omega (arith, same))))
 
   pub enter-off : ((i ≡ 0) × (j ≡ 0) → ⊥) → settled (local c known sh s (asked 1 n i j ws)) ≡ refuse 10
   unfolding local choose need settled bind

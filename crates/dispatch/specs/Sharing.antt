@@ -2,19 +2,22 @@
 use mathlib.Core.Path.{_≡_}
 use mathlib.Core.Bool.{Bool, true, false}
 use mathlib.Core.List.{List, [], _∷_, map}
-use Prim.Native.Nat.{ℕ, zero, suc, _<_}
+use Prim.Native.Nat.{ℕ, zero, suc, _-_, _<_}
 use lib.ListN.{length, getD, set}
 use Rattle.model.specs.Basics.{Res}
 use Rattle.model.specs.Side.{Side, State}
 use Rattle.model.specs.Wrapper.{allSides}
-use Rattle.model.specs.Step.{Moved, markAll}
+use Rattle.model.specs.Load.{Setting}
+use Rattle.model.specs.Step.{Step, Moved, local, settled, markAll}
 use Rattle.sides.specs.declared.Rest.{Rest}
 use Rattle.sides.specs.Layout.{viewShelf, fitsShelf}
-use Rattle.sides.specs.Sides.{fitsSide, sideOf}
+use Rattle.sides.specs.Sides.{coreOf, fitsSide, sideOf}
 use Rattle.steps.specs.declared.Said.{Said}
 use Rattle.steps.specs.declared.Said.the-variants as said
 use Rattle.steps.specs.declared.RestStep.{RestStep}
+use Rattle.steps.specs.Asked.{knownBy}
 use Rattle.steps.specs.StepIs.{StepIs}
+use Rattle.dispatch.specs.Stepping.{LocalIs, OwnReady}
 
 -- side n's shelf, by the words of all sides and how many values each has on its shelf; there is no side 0
 abbrev pub shelvesIn : List (List ℕ) → List ℕ → ℕ → List (List ℕ)
@@ -54,6 +57,19 @@ pub record AtSide (x : Res Moved) (ls : List (List ℕ)) (k : ℕ) (o : Rest) (m
   pub words : List ℕ
   pub others : ms ≡ set ls k words
   pub step : StepIs x (getD ls k []) o words r
+
+-- what a step of the side that c names is given: the words, the marks and the shelves of all sides, and a side that may act
+abbrev pub SideReady : Setting → (marks : List (List Bool)) → (words : List (List ℕ)) → (shelved : List ℕ) → Rest → Type 0
+SideReady c ms ls ns o =
+    (length ls ≡ length allSides) × (length ms ≡ length allSides) × (0 < c .side) × (c .side - 1 < length allSides) × (OwnReady c (getD ls (c .side - 1) []) o) × Shelves ls ns
+
+-- the model's step x of the side at place k, run with c: no word changes, and r is the answer
+abbrev pub StillAt : Setting → (marks : List (List Bool)) → (words : List (List ℕ)) → (shelved : List ℕ) → Step → ℕ → Rest → RestStep → Type 0
+StillAt c ms ls ns x k o r = LocalIs c ms (shelvesIn ls ns) x (getD ls k []) o (getD ls k []) r
+
+-- the model's step x of the side that c names: to all words ls′, in which those of the others stay, and the answer r
+abbrev pub LocalAt : Setting → (marks : List (List Bool)) → (words : List (List ℕ)) → (shelved : List ℕ) → Step → Rest → List (List ℕ) → RestStep → Type 0
+LocalAt c ms ls ns x o ls′ r = AtSide (settled (local c (knownBy ms) (shelvesIn ls ns) (coreOf (getD ls (c .side - 1) []) o) x)) ls (c .side - 1) o ls′ r
 
 -- what is said is that a value left
 abbrev pub isOut : Said → Bool

@@ -1,8 +1,8 @@
 -- What a side's step is given, and the model's step by the parts that the functions have.
 use mathlib.Core.Path.{_≡_}
-use mathlib.Core.Bool.{true}
+use mathlib.Core.Bool.{Bool, true}
 use mathlib.Core.List.{List}
-use Prim.Native.Nat.{ℕ, _+_, _<_}
+use Prim.Native.Nat.{ℕ, _+_, _<_, _≤_}
 use lib.Dec.{eqb}
 use lib.ListN.{length}
 use Rattle.model.specs.Basics.{choose, Res, refuse, need}
@@ -10,13 +10,16 @@ use Rattle.model.specs.Side.{Core}
 use Rattle.model.specs.Wrapper.{Wrapper, described}
 use Rattle.model.specs.Load.{Setting}
 use Rattle.model.specs.WellFormed.{Counts, wfCore}
-use Rattle.model.specs.Step.{Step, Moved, goDown, up, pass, leave, descend, meet}
+use Rattle.model.specs.Step.{Step, Moved, goDown, up, pass, leave, descend, meet, local, settled}
 use Rattle.tables.specs.Nodes.{table}
 use Rattle.tables.specs.Checks.{Passes}
 use Rattle.wrappers.specs.declared.Source.the-variants.{Side, Nowhere}
 use Rattle.wrappers.specs.Routes.{sourceFor}
 use Rattle.steps.specs.declared.Offer.{Offer}
 use Rattle.steps.specs.declared.Offer.the-variants.{At, Refused}
+use Rattle.steps.specs.declared.RestStep.{RestStep}
+use Rattle.steps.specs.Asked.{knownBy}
+use Rattle.steps.specs.StepIs.{StepIs}
 use Rattle.sides.specs.declared.Rest.{Rest}
 use Rattle.sides.specs.Sides.{coreOf, fitsSide}
 
@@ -28,15 +31,25 @@ settingOf w n ns ws = record { wrapper = described w; side = n; table = table ns
 abbrev pub asked : (kind side i j : ℕ) → List ℕ → Step
 asked k n i j ws = record { kind = k; side = n; i = i; j = j; words = ws }
 
--- the number i where P holds, or the refusal x where it does not
-abbrev pub OfferIf : Type 0 → (i x : ℕ) → Offer → Type 0
-OfferIf P i x (At k) = (k ≡ i) × P
-OfferIf P i x (Refused n) = (n ≡ x) × (P → ⊥)
+-- the shelves that a step may take from, by their sides' numbers
+abbrev pub ShelvesBy : Type 0
+ShelvesBy = ℕ → List (List ℕ)
+
+-- the model's step x of a side that is run with c, beside all sides' marks ms and shelves sh: from the words l and the rest o to the words m and the answer r
+abbrev pub LocalIs : Setting → List (List Bool) → ShelvesBy → Step → List ℕ → Rest → List ℕ → RestStep → Type 0
+LocalIs c ms sh x l o m r = StepIs (settled (local c (knownBy ms) sh (coreOf l o) x)) l o m r
 
 -- the place of the side that the route by j leads from, or 10 where there is no route
 abbrev pub RouteOffer : Wrapper → (side j : ℕ) → Offer → Type 0
 RouteOffer w n j (At p) = Side (p + 1) ≡ sourceFor w n j
 RouteOffer w n j (Refused x) = (x ≡ 10) × (Nowhere ≡ sourceFor w n j)
+
+-- kind 2, 3, 6 or 7
+pub record OnePlaceKind (k : ℕ) : Type 0 where
+  pub first : 2 ≤ k
+  pub last : k ≤ 7
+  pub not-4 : k ≡ 4 → ⊥
+  pub not-5 : k ≡ 5 → ⊥
 
 -- kinds 2, 3, 6 and 7
 unfoldable pub onePlace : Setting → Core → (kind i : ℕ) → Res Moved

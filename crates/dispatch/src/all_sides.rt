@@ -5,13 +5,10 @@ ghost use mathlib.Core.List.{List, []};
 ghost use Prim.Native.Nat.{ℕ, _-_, _<_, _≤_};
 ghost use lib.ListN.{length, getD};
 ghost use Rattle.model.specs.Wrapper.{allSides, described};
-ghost use Rattle.model.specs.Step.{local, settled};
 ghost use Rattle.values.specs.Env.{viewValue};
-ghost use Rattle.sides.specs.Sides.{coreOf};
-ghost use Rattle.steps.specs.Asked.{knownBy};
-ghost use Rattle.steps.specs.StepIs.{Sane, StepIs};
-ghost use Rattle.dispatch.specs.Stepping.{settingOf, asked, RouteOffer, OwnReady};
-ghost use Rattle.dispatch.specs.Sharing.{shelvesIn, Shelves, AtSide, isOut, MarkedAt};
+ghost use Rattle.steps.specs.StepIs.{Sane};
+ghost use Rattle.dispatch.specs.Stepping.{settingOf, asked, RouteOffer};
+ghost use Rattle.dispatch.specs.Sharing.{Shelves, SideReady, StillAt, LocalAt, isOut, MarkedAt};
 use crate::own_side::own_step;
 use crate::own_side::wordless;
 use loading::place_of;
@@ -51,7 +48,7 @@ fn taking(
     words: &[u32],
 ) -> RestStep
     requires { ⌜ (length (now rows) ≡ length allSides) × (k < length allSides) × (Sane (getD (now rows) k []) o) × Shelves (now rows) shelved ⌝ }
-    ensures { λ r. ⌜ ((nodes pool : List ℕ) (ms : List (List Bool)) (n : ℕ) → StepIs (settled (local (settingOf wrapper side nodes pool) (knownBy ms) (shelvesIn (now (rows .entry)) shelved) (coreOf (getD (now (rows .entry)) k []) o) (asked 8 n i j (now (words .entry))))) (getD (now (rows .entry)) k []) o (getD (now (rows .entry)) k []) r) ⌝ }
+    ensures { λ r. ⌜ ((nodes pool : List ℕ) (ms : List (List Bool)) (n : ℕ) → StillAt (settingOf wrapper side nodes pool) ms (now (rows .entry)) shelved (asked 8 n i j (now (words .entry))) k o r) ⌝ }
 {
     let a = wordless(words, i);
     let Offer::At(q) = a else {
@@ -79,8 +76,8 @@ pub fn side_step(
     j: usize,
     words: &[u32],
 ) -> RestStep
-    requires { ⌜ (length (now rows) ≡ length allSides) × (length (now marks) ≡ length allSides) × (0 < side) × (side - 1 < length allSides) × (OwnReady (settingOf wrapper side (now nodes) (now pool)) (getD (now rows) (side - 1) []) o) × Shelves (now rows) shelved ⌝ }
-    ensures { λ r. ⌜ ((n : ℕ) → AtSide (settled (local (settingOf wrapper side (now (nodes .entry)) (now (pool .entry))) (knownBy (now (marks .entry))) (shelvesIn (now (rows .entry)) shelved) (coreOf (getD (now (rows .entry)) (side - 1) []) o) (asked kind n i j (now (words .entry))))) (now (rows .entry)) (side - 1) o (now (rows .exit)) r) ⌝ }
+    requires { ⌜ SideReady (settingOf wrapper side (now nodes) (now pool)) (now marks) (now rows) shelved o ⌝ }
+    ensures { λ r. ⌜ ((n : ℕ) → LocalAt (settingOf wrapper side (now (nodes .entry)) (now (pool .entry))) (now (marks .entry)) (now (rows .entry)) shelved (asked kind n i j (now (words .entry))) o (now (rows .exit)) r) ⌝ }
 {
     let k = place_of(side);
     if kind == 8 {

@@ -1,15 +1,14 @@
 // Kinds 1 to 7: the side's own words are lent.
 ghost use mathlib.Core.Path.{_≡_};
-ghost use mathlib.Core.List.{List};
-ghost use Prim.Native.Nat.{ℕ};
+ghost use Prim.Native.Nat.{ℕ, _≤_};
 ghost use lib.ListN.{length};
 ghost use Rattle.model.specs.Wrapper.{allSides};
 ghost use Rattle.model.specs.Load.{Setting};
-ghost use Rattle.model.specs.Step.{local, settled};
+ghost use Rattle.model.specs.Step.{settled};
 ghost use Rattle.sides.specs.Sides.{coreOf};
-ghost use Rattle.steps.specs.Asked.{knownBy, withShelf};
+ghost use Rattle.steps.specs.Asked.{OfferIf, withShelf};
 ghost use Rattle.steps.specs.StepIs.{Sane, StepIs};
-ghost use Rattle.dispatch.specs.Stepping.{settingOf, asked, OfferIf, onePlace, twoPlaces, OwnReady};
+ghost use Rattle.dispatch.specs.Stepping.{settingOf, asked, ShelvesBy, LocalIs, OnePlaceKind, onePlace, twoPlaces, OwnReady};
 use meeting::meet;
 use sides::Rest;
 use sides::Sides;
@@ -26,7 +25,7 @@ use wrappers::has_shelf;
 
 // Kinds 2, 3, 6 and 7: the steps that name one place. `shelving` says whether what goes up on `mid` goes to the shelf.
 fn one_place(shelving: bool, rows: &mut [u32], o: Rest, kind: u32, i: usize) -> RestStep
-    requires { ⌜ Sane (now rows) o ⌝ }
+    requires { ⌜ Sane (now rows) o × OnePlaceKind kind ⌝ }
     ensures { λ r. ⌜ StepIs (settled (onePlace (withShelf shelving) (coreOf (now (rows .entry)) o) kind i)) (now (rows .entry)) o (now (rows .exit)) r ⌝ }
 {
     if kind == 2 {
@@ -38,16 +37,19 @@ fn one_place(shelving: bool, rows: &mut [u32], o: Rest, kind: u32, i: usize) -> 
     if kind == 6 {
         return pass(rows, o, i);
     }
-    if kind == 7 {
-        return leave(rows, o, i);
-    }
-    RestStep::plain(Said::Refused(10), o)
+    leave(rows, o, i)
 }
 
-// Whether j, which the kinds of one place do not use, is 0. The position is i.
-fn place_offer(i: usize, j: usize) -> Offer
-    ensures { λ r. ⌜ OfferIf (j ≡ 0) i 10 r ⌝ }
+// Whether the kind is one of 2 to 7, and j, which those of one place do not use, is 0. The position is i.
+fn place_offer(kind: u32, i: usize, j: usize) -> Offer
+    ensures { λ r. ⌜ OfferIf ((2 ≤ kind) × (kind ≤ 7) × (j ≡ 0)) i 10 r ⌝ }
 {
+    if kind < 2 {
+        return Offer::Refused(10);
+    }
+    if 7 < kind {
+        return Offer::Refused(10);
+    }
     if j != 0 {
         return Offer::Refused(10);
     }
@@ -64,9 +66,9 @@ pub(crate) fn wordless(words: &[u32], i: usize) -> Offer
     Offer::At(i)
 }
 
-// Whether i and j, which kind 1 does not use, are 0. The position is i.
-fn no_place_offer(i: usize, j: usize) -> Offer
-    ensures { λ r. ⌜ OfferIf ((i ≡ 0) × (j ≡ 0)) i 10 r ⌝ }
+// Whether i and j, which kind 1 does not use, are 0. The answer is the value length.
+fn no_place_offer(i: usize, j: usize, words: &[u32]) -> Offer
+    ensures { λ r. ⌜ OfferIf ((i ≡ 0) × (j ≡ 0)) (length (now (words .entry))) 10 r ⌝ }
 {
     if i != 0 {
         return Offer::Refused(10);
@@ -74,7 +76,7 @@ fn no_place_offer(i: usize, j: usize) -> Offer
     if j != 0 {
         return Offer::Refused(10);
     }
-    Offer::At(i)
+    Offer::At(words.len())
 }
 
 // Kinds 2 to 7.
@@ -98,7 +100,7 @@ fn two_places(
     if kind == 5 {
         return meet(nodes, pool, side, rows, o, i, j);
     }
-    let a = place_offer(i, j);
+    let a = place_offer(kind, i, j);
     let Offer::At(k) = a else {
         return RestStep::plain(Said::Refused(a.number()), o);
     };
@@ -115,13 +117,13 @@ fn entering(
     words: &[u32],
 ) -> RestStep
     requires { ⌜ (Sane (now rows) o) × (length (now marks) ≡ length allSides) ⌝ }
-    ensures { λ r. ⌜ ((c : Setting) (sh : ℕ → List (List ℕ)) (n : ℕ) → StepIs (settled (local c (knownBy (now (marks .entry))) sh (coreOf (now (rows .entry)) o) (asked 1 n i j (now (words .entry))))) (now (rows .entry)) o (now (rows .entry)) r) ⌝ }
+    ensures { λ r. ⌜ ((c : Setting) (sh : ShelvesBy) (n : ℕ) → LocalIs c (now (marks .entry)) sh (asked 1 n i j (now (words .entry))) (now (rows .entry)) o (now (rows .entry)) r) ⌝ }
 {
-    let a = no_place_offer(i, j);
-    let Offer::At(_) = a else {
+    let a = no_place_offer(i, j, words);
+    let Offer::At(n) = a else {
         return RestStep::plain(Said::Refused(a.number()), o);
     };
-    enter(rows, o, marks, words)
+    enter(rows, o, marks, &words[..n])
 }
 
 // Kinds 1 to 7.
@@ -139,7 +141,7 @@ pub(crate) fn own_step(
     words: &[u32],
 ) -> RestStep
     requires { ⌜ (OwnReady (settingOf wrapper side (now nodes) (now pool)) (now rows) o) × (length (now marks) ≡ length allSides) × (kind ≡ 8 → ⊥) ⌝ }
-    ensures { λ r. ⌜ ((sh : ℕ → List (List ℕ)) (n : ℕ) → StepIs (settled (local (settingOf wrapper side (now (nodes .entry)) (now (pool .entry))) (knownBy (now (marks .entry))) sh (coreOf (now (rows .entry)) o) (asked kind n i j (now (words .entry))))) (now (rows .entry)) o (now (rows .exit)) r) ⌝ }
+    ensures { λ r. ⌜ ((sh : ShelvesBy) (n : ℕ) → LocalIs (settingOf wrapper side (now (nodes .entry)) (now (pool .entry))) (now (marks .entry)) sh (asked kind n i j (now (words .entry))) (now (rows .entry)) o (now (rows .exit)) r) ⌝ }
 {
     if kind == 1 {
         return entering(rows, o, marks, i, j, words);

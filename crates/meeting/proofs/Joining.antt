@@ -21,19 +21,18 @@ use Rattle.tables.specs.Checks.{Passes}
 use Rattle.sides.specs.Layout.{rowAt, tagIn, viewRow, ValueIs}
 use Rattle.sides.specs.Environments.{envOf}
 use Rattle.sides.proofs.Viewing.{output-view, input-view}
-use Rattle.environments.specs.declared.matching.Binding.{Binding}
 use Rattle.environments.specs.Fits.{Fits}
 use Rattle.environments.specs.Inputs.{valuesOf, InputEnvIs}
 use Rattle.environments.specs.Long.{longIn}
-use Rattle.environments.specs.Matching.{patternAt, Matchable, BindingIs}
+use Rattle.environments.specs.Matching.{patternAt, Matchable}
 use Rattle.environments.proofs.Slots.{env-sized}
 use Rattle.environments.proofs.Waiting.{env-is}
-use Rattle.environments.proofs.Bindings.{binding-env, binding-none}
 use Rattle.steps.specs.declared.Offer.{Offer}
 use Rattle.steps.specs.declared.Offer.the-variants.{At, Refused}
-use Rattle.steps.specs.Asked.{channelIn, valueIn}
+use Rattle.steps.specs.Asked.{OfferIf, channelIn, valueIn}
 use Rattle.unfolding.specs.Scoped.{Scoped}
-use Rattle.meeting.specs.Meeting.{nodeAt, inputEnv, inputPattern, fitsAt, Joinable, BodyAnswer, Joining}
+use Rattle.meeting.specs.Meeting.{nodeAt, inputEnv, inputPattern, fitsAt, Joinable, MatchAnswer, BodyAnswer, Joins, Joining}
+use Rattle.meeting.proofs.PairLaws.{is-false}
 use Rattle.meeting.proofs.Inputs.{input-term, body-inside, body-names, names-few}
 use Rattle.meeting.proofs.MeetSteps.{meet-13, meet-14, meet-15, meet-16}
 
@@ -70,93 +69,122 @@ module _ {t : Table} {l : List ℕ} {i j : ℕ} (J : Joinable t l i j) where
     pub fit-asks : (length l ≡ 5184) × (i < 32) × (j < 32) × (length e ≡ 144) × (d ≤ 8)
     fit-asks = (J .waits .long, J .row, J .waits .row, its-env .1 .long, its-env .1 .few)
 
-    module _ {f : Bool} (fe : f ≡ fitsAt t l i j (envOf e d)) where
-      tested : f ≡ fitsAt t l i j ρ
-      tested = fe ∙ ap (fitsAt t l i j) (its-env .0)
+    -- 13
+    pub join-13 : (a : Offer) → OfferIf (fitsAt t l i j (envOf e d) ≡ true) n 13 a → {x : ℕ} → a ≡ Refused x → (e′ : List ℕ) → Joining t l i j e′ a
+    join-13 a h {x} q e′ =
+        let no : (x ≡ 13) × (fitsAt t l i j (envOf e d) ≡ true → ⊥) = subst (λ (y : Offer). OfferIf (fitsAt t l i j (envOf e d) ≡ true) n 13 y) q h in
+        let unfit : fitsAt t l i j ρ ≡ false = sym (ap (fitsAt t l i j) (its-env .0)) ∙ is-false _ (no .1) in
+        subst (λ (y : Offer). Joining t l i j e′ y) (sym q)
+        (λ c ct s. for-all c ct s ∙ meet-13 (onTable c) s i j _ _ _ _ _ n (valuesOf (rowAt l j)) n (eqb (kind t n) 6) _ _ pat _ the-term unfit ∙ ap refuse (sym (no .0)))
 
-      pub join-13 : f ≡ false → Joining t l i j e d (Refused 13)
-      join-13 z c ct s =
-          for-all c ct s ∙ meet-13 (onTable c) s i j _ _ _ _ _ n (valuesOf (rowAt l j)) n (eqb (kind t n) 6) _ _ pat _ the-term (sym tested ∙ z)
+-- where the two fit: the pattern at place p is matched with the output's value v, the input's environment stands in e, d names of it
+pub record Fitted (t : Table) (l : List ℕ) (i j : ℕ) (e₀ e : List ℕ) (d p : ℕ) (v : Value) : Type 0 where
+  pub joinable : Joinable t l i j
+  pub width : length e₀ ≡ 144
+  pub env : InputEnvIs t l j e₀ e d
+  pub fit : fitsAt t l i j (envOf e d) ≡ true
+  pub place : p ≡ field t (nodeAt l j) 3
+  pub value : ValueIs (valueIn l i) v
 
-      -- THE MATCH of the pattern at place p with the output's value
-      module _ (y : f ≡ true) {p : ℕ} (pe : p ≡ field t n 3) {v : Value} (vi : ValueIs (valueIn l i) v) where
-        pat-is : patternAt (t .pool) p ≡ pat
-        pat-is = ap (patternAt (t .pool)) pe
+-- THE MATCH
+module _ {t : Table} {l : List ℕ} {i j : ℕ} {e₀ e : List ℕ} {d p : ℕ} {v : Value} (F : Fitted t l i j e₀ e d p v) where
+  abbrev J : Joinable t l i j
+  J = F .joinable
 
-        pub match-asks : Matchable e d (patternAt (t .pool) p) v
-        match-asks =
-            let few = names-few t (J .waits .passes) n (J .waits .inside) (J .kind) in
-            let names = ap (λ (x : List ℕ). length (binders x)) pat-is in
-            record { long = its-env .1 .long; room = omega (arith, few, names, ie .count); short = vi .short }
+  abbrev node : ℕ
+  node = nodeAt l j
 
-        module _ {e′ : List ℕ} {b : Binding} (bi : BindingIs (patternAt (t .pool) p) (viewValue v) e d e′ b) where
-          met : matches (patternAt (t .pool) p) 1 (viewValue v) ≡ matches pat 1 (valueIn l i)
-          met = ap₂ (λ (x u : List ℕ). matches x 1 u) pat-is (vi .view)
+  abbrev outer : Env
+  outer = inputEnv t l j
 
-          pub join-14 : b .fits ≡ false → Joining t l i j e′ d (Refused 14)
-          join-14 z c ct s =
-              let none : matches pat 1 (valueIn l i) ≡ refuse 14 = sym met ∙ binding-none (t .pool) p e d v match-asks e′ b bi z .0 in
-              for-all c ct s ∙ meet-14 (onTable c) s i j _ _ _ _ _ n (valuesOf (rowAt l j)) n (eqb (kind t n) 6) _ _ pat _ the-term (sym tested ∙ y) none
+  abbrev pattern : List ℕ
+  pattern = inputPattern t l j
 
-          module _ (z : b .fits ≡ true) where
-            some-bound : (m : Fit) × (matches (patternAt (t .pool) p) 1 (viewValue v) ≡ done m) × (envOf e′ (b .n) ≡ extend (envOf e d) (binders (patternAt (t .pool) p)) (m .bound)) × Fits e′ (b .n)
-            some-bound = binding-env (t .pool) p e d v match-asks e′ b bi (its-env .1) z
+  env : (envOf e d ≡ outer) × Fits e d
+  env = its-env J (F .width) (F .env)
 
-            abbrev m : Fit
-            m = some-bound .0
+  fits : fitsAt t l i j outer ≡ true
+  fits = sym (ap (fitsAt t l i j) (env .0)) ∙ F .fit
 
-            abbrev π : Env
-            π = extend ρ (binders pat) (m .bound)
+  pat-is : patternAt (t .pool) p ≡ pattern
+  pat-is = ap (patternAt (t .pool)) (F .place)
 
-            matched : matches pat 1 (valueIn l i) ≡ done m
-            matched = sym met ∙ some-bound .1
+  pub match-asks : Matchable e d (patternAt (t .pool) p) v × Fits e d
+  match-asks =
+      let few = names-few t (J .waits .passes) node (J .waits .inside) (J .kind) in
+      let names = ap (λ (x : List ℕ). length (binders x)) pat-is in
+      (record { long = env .1 .long; room = omega (arith, few, names, F .env .count); short = F .value .short }, env .1)
 
-            env-now : envOf e′ (b .n) ≡ π
-            env-now = some-bound .2 ∙ ap₂ (λ (o : Env) (x : List ℕ). extend o (binders x) (m .bound)) (its-env .0) pat-is
+  met : matches (patternAt (t .pool) p) 1 (viewValue v) ≡ matches pattern 1 (valueIn l i)
+  met = ap₂ (λ (x u : List ℕ). matches x 1 u) pat-is (F .value .view)
 
-            fits-now : Fits e′ (b .n)
-            fits-now = some-bound .3
+  module _ (e′ : List ℕ) (b : Offer) (h : MatchAnswer (patternAt (t .pool) p) (viewValue v) (envOf e d) e′ b) where
+    pub join-14 : {x : ℕ} → b ≡ Refused x → Joining t l i j e′ b
+    join-14 {x} q =
+        let no : (x ≡ 14) × (matches (patternAt (t .pool) p) 1 (viewValue v) ≡ refuse 14) = subst (λ (z : Offer). MatchAnswer (patternAt (t .pool) p) (viewValue v) (envOf e d) e′ z) q h in
+        let none = sym met ∙ no .1 in
+        subst (λ (z : Offer). Joining t l i j e′ z) (sym q)
+        (λ c ct s. for-all J c ct s ∙ meet-14 (onTable J c) s i j _ _ _ _ _ node (valuesOf (rowAt l j)) node (eqb (kind t node) 6) _ _ pattern _ (the-term J) fits none ∙ ap refuse (sym (no .0)))
 
-            pub some-width : length e′ ≡ length e₀
-            some-width = fits-now .long ∙ sym w
+    -- THE BODY at node u, with k names in force
+    module _ {k : ℕ} (q : b ≡ At k) where
+      bound : MatchAnswer (patternAt (t .pool) p) (viewValue v) (envOf e d) e′ (At k)
+      bound = subst (λ (z : Offer). MatchAnswer (patternAt (t .pool) p) (viewValue v) (envOf e d) e′ z) q h
 
-            paired : Sized π
-            paired = subst (λ (o : Env). Sized o) env-now (env-sized e′ (b .n) fits-now)
+      abbrev m : Fit
+      m = bound .0
 
-            inside : field t n 4 < count t
-            inside = body-inside t (J .waits .passes) n (J .waits .inside) (J .kind)
+      abbrev π : Env
+      π = extend outer (binders pattern) (m .bound)
 
-            scoped : Scoped t (field t n 4) (b .n)
-            scoped =
-                let names : length (take (b .n) e′) ≡ length (π .names) = ap (λ (o : Env). length (o .names)) env-now in
-                let all : length (π .names) ≡ length (scope t n) + length (binders pat) = length-append (scope t n) (binders pat) in
-                let there = body-names t (J .waits .passes) n (J .waits .inside) (J .kind) in
-                record { passes = J .waits .passes; inside = inside; names = omega (arith, names, all, there, length-take (b .n) e′, fits-now .few, fits-now .long) }
+      matched : matches pattern 1 (valueIn l i) ≡ done m
+      matched = sym met ∙ bound .1
 
-            -- THE BODY at node k
-            module _ {k : ℕ} (ke : k ≡ field t n 4) where
-              pub body-asks : Passes t × (k < count t) × Fits e′ (b .n)
-              body-asks = (J .waits .passes, subst (λ (x : ℕ). x < count t) (sym ke) inside, fits-now)
+      env-now : envOf e′ k ≡ π
+      env-now = bound .2 ∙ ap₂ (λ (o : Env) (x : List ℕ). extend o (binders x) (m .bound)) (env .0) pat-is
 
-              answered : (a : Offer) → BodyAnswer (field t n 4) (term t (field t n 4)) π a → Joining t l i j e′ (b .n) a
-              answered (At x) (same, df, sh) =
-                  let now : envOf e′ (b .n) ≡ π = env-now in
-                  record {
-                    body = same;
-                    fits = sym tested ∙ y;
-                    fit = m;
-                    matched = matched;
-                    env = now;
-                    words = fits-now;
-                    scoped = subst (λ (u : ℕ). Scoped t u (b .n)) (sym same) scoped;
-                    is-defined = ap₂ (λ (u : ℕ) (o : Env). defined (term t u) o) same now ∙ df;
-                    short = ap₂ (λ (u : ℕ) (o : Env). longIn (term t u) o) same now ∙ sh;
-                  }
-              answered (Refused x) a = λ c ct s. for-all c ct s ∙
-                  ⊎-elim
-                  (λ q. meet-15 (onTable c) s i j _ _ _ _ _ n (valuesOf (rowAt l j)) n (eqb (kind t n) 6) _ _ pat _ the-term (sym tested ∙ y) m matched (q .1) ∙ ap refuse (sym (q .0)))
-                  (λ q. meet-16 (onTable c) s i j _ _ _ _ _ n (valuesOf (rowAt l j)) n (eqb (kind t n) 6) _ _ pat _ the-term (sym tested ∙ y) m matched (q .1) paired (q .2) ∙ ap refuse (sym (q .0)))
-                  a
+      fits-now : Fits e′ k
+      fits-now = bound .3
 
-              pub join-body : (a : Offer) → BodyAnswer k (term t k) (envOf e′ (b .n)) a → Joining t l i j e′ (b .n) a
-              join-body a h = answered a (subst (λ (o : Env). BodyAnswer (field t n 4) (term t (field t n 4)) o a) env-now (subst (λ (x : ℕ). BodyAnswer x (term t x) (envOf e′ (b .n)) a) ke h))
+      pub some-width : length e′ ≡ length e₀
+      some-width = fits-now .long ∙ sym (F .width)
+
+      paired : Sized π
+      paired = subst (λ (o : Env). Sized o) env-now (env-sized e′ k fits-now)
+
+      inside : field t node 4 < count t
+      inside = body-inside t (J .waits .passes) node (J .waits .inside) (J .kind)
+
+      scoped : Scoped t (field t node 4) k
+      scoped =
+          let names : length (take k e′) ≡ length (π .names) = ap (λ (o : Env). length (o .names)) env-now in
+          let all : length (π .names) ≡ length (scope t node) + length (binders pattern) = length-append (scope t node) (binders pattern) in
+          let there = body-names t (J .waits .passes) node (J .waits .inside) (J .kind) in
+          record { passes = J .waits .passes; inside = inside; names = omega (arith, names, all, there, length-take k e′, fits-now .few, fits-now .long) }
+
+      joins : defined (term t (field t node 4)) π ≡ true → longIn (term t (field t node 4)) π ≡ false → Joins t l i j e′ k
+      joins df sh = record {
+        fits = fits;
+        fit = m;
+        matched = matched;
+        env = env-now;
+        words = fits-now;
+        scoped = scoped;
+        is-defined = ap (defined (term t (field t node 4))) env-now ∙ df;
+        short = ap (longIn (term t (field t node 4))) env-now ∙ sh;
+      }
+
+      module _ {u : ℕ} (ue : u ≡ field t node 4) where
+        pub body-asks : Passes t × (u < count t) × Fits e′ k
+        body-asks = (J .waits .passes, subst (λ (x : ℕ). x < count t) (sym ue) inside, fits-now)
+
+        answered : (a : Offer) → BodyAnswer k (term t (field t node 4)) π a → Joining t l i j e′ a
+        answered (At x) (same, df, sh) = subst (λ (z : ℕ). Joins t l i j e′ z) (sym same) (joins df sh)
+        answered (Refused x) a = λ c ct s. for-all J c ct s ∙
+            ⊎-elim
+            (λ q. meet-15 (onTable J c) s i j _ _ _ _ _ node (valuesOf (rowAt l j)) node (eqb (kind t node) 6) _ _ pattern _ (the-term J) fits m matched (q .1) ∙ ap refuse (sym (q .0)))
+            (λ q. meet-16 (onTable J c) s i j _ _ _ _ _ node (valuesOf (rowAt l j)) node (eqb (kind t node) 6) _ _ pattern _ (the-term J) fits m matched (q .1) paired (q .2) ∙ ap refuse (sym (q .0)))
+            a
+
+        pub join-body : (a : Offer) → BodyAnswer k (term t u) (envOf e′ k) a → Joining t l i j e′ a
+        join-body a h = answered a (subst (λ (o : Env). BodyAnswer k (term t (field t node 4)) o a) env-now (subst (λ (x : ℕ). BodyAnswer k (term t x) (envOf e′ k) a) ue h))

@@ -11,7 +11,7 @@ use lib.ListN.{length, take, drop, getD}
 use lib.Seq.{drop-drop}
 use Rattle.model.specs.Basics.{_&_, refuse, every, remove}
 use Rattle.model.specs.Values.{Env, binders, extend}
-use Rattle.model.specs.Table.{Table, count, kind, field, scope, term}
+use Rattle.model.specs.Table.{Table, count, kind, scope, term}
 use Rattle.model.specs.Side.{Particle, Box, input, Contents, Core}
 use Rattle.model.specs.Unfolding.{unfolds, defined, particlesIn, boxesIn, newNamesIn}
 use Rattle.model.specs.Load.{Setting}
@@ -22,6 +22,7 @@ use Rattle.model.proofs.Formed.Growing.{CoreOk, core-ok}
 use Rattle.model.proofs.Basics.Environments.{Sized}
 use Rattle.tables.specs.declared.nodes.Node.{Node}
 use Rattle.tables.specs.Nodes.{table, NodeIs}
+use Rattle.tables.specs.Checks.{Passes}
 use Rattle.sides.specs.declared.Rest.{Rest}
 use Rattle.sides.specs.Layout.{parts, rowAt, viewPlace, fitsPlace, viewRow, viewRows, fitsRows, viewBoxes, viewShelf}
 use Rattle.sides.specs.Sides.{coreOf, fitsSide}
@@ -32,19 +33,19 @@ use Rattle.environments.proofs.Slots.{env-sized}
 use Rattle.steps.specs.declared.Said.the-variants as said
 use Rattle.steps.specs.declared.Offer.{Offer}
 use Rattle.steps.specs.declared.Offer.the-variants.{At, Refused}
-use Rattle.steps.specs.Asked.{OfferIs, numberOf}
+use Rattle.steps.specs.Asked.{OfferIs, OfferIf, numberOf}
 use Rattle.steps.proofs.Settling.{limits-in}
 use Rattle.steps.proofs.Held.{offer-at, every-elem}
 use Rattle.steps.specs.declared.RestStep.{RestStep}
 use Rattle.steps.specs.Asked.{Says}
 use Rattle.steps.specs.StepIs.{Sane, StepIs}
 use Rattle.steps.proofs.Held.{sane, side-rows, side-lobby, side-shelf, boxes-kept, rows-cap, rows-n, boxes-cap, boxes-n, row-in, fits-at, value-in-place, output-home}
-use Rattle.steps.proofs.Held.{offer-refused, refused-is, quiet-is}
+use Rattle.steps.proofs.Held.{if-at, if-refused, offer-refused, refused-is, quiet-is}
 use Rattle.unfolding.specs.declared.Counts.{Counts}
 use Rattle.unfolding.specs.Unfolded.{counted, putCounts, CanUnfold, UnfoldedIs}
-use Rattle.meeting.specs.declared.pairs.Joined.{Joined}
-use Rattle.meeting.specs.Meeting.{withTable, Meetable, MeetablePair, PairAt, nodeAt, inputEnv, inputPattern, Joins, Joining, JoinedIs, roomFor, Apart, RowsLeft}
+use Rattle.meeting.specs.Meeting.{withTable, Meetable, MeetablePair, PairAt, nodeAt, bodyAt, inputEnv, inputPattern, Joins, Joining, roomFor, Apart, RowsLeft}
 use Rattle.meeting.proofs.MeetSteps.{meet-at, meet-17, meet-done}
+use Rattle.meeting.proofs.PairLaws.{is-false}
 use Rattle.meeting.proofs.Joining.{the-term, onTable, for-all}
 
 -- WHAT A PAIR IS GIVEN
@@ -118,9 +119,9 @@ module _ (l : List ℕ) (o : Rest) (i j : ℕ) (a : Offer)
     pub met-at : (c : Setting) {m : List ℕ} {r : RestStep} → StepIs (settled (meet c (coreOf l o) i k)) l o m r → StepIs (settled (meet c (coreOf l o) i j)) l o m r
     met-at c {m} {r} x = subst (λ (y : ℕ). StepIs (settled (meet c (coreOf l o) i y)) l o m r) (at .0) x
 
--- a join where the check answers the body's node
-pub joined-at : {t : Table} {l : List ℕ} {i j : ℕ} {e : List ℕ} {w : Joined} → JoinedIs t l i j e w → {n : ℕ} → w .offer ≡ At n → Joins t l i j n e (w .names)
-joined-at {t} {l} {i} {j} {e} {w} h q = subst (λ (a : Offer). Joining t l i j e (w .names) a) q (h .is)
+-- where the checks 13 to 16 answer how many names are in force
+pub joined-at : (t : Table) (l : List ℕ) (i j : ℕ) (e : List ℕ) (a : Offer) → Joining t l i j e a → {d : ℕ} → a ≡ At d → Joins t l i j e d
+joined-at t l i j e a h q = subst (λ (y : Offer). Joining t l i j e y) q h
 
 -- an input is replicated where its node's kind is 6
 pub replicated-is : (ns pool : List ℕ) {n k : ℕ} → n ≡ k → {x : Node} → NodeIs ns n x → eqb (x .kind) 6 ≡ eqb (kind (table ns pool) k) 6
@@ -140,119 +141,152 @@ module _ {t : Table} {side : ℕ} {l : List ℕ} {o : Rest} {i j : ℕ} (M : Mee
   pub rows-apart : Apart l (o .particles) i j
   rows-apart = record { long = ok .long; few = rows-cap l o ok; held-i = M .pair .held-i; held-j = M .pair .held-j; other = other }
 
-  pub pair-counts : (left k : ℕ) → left ≡ o .particles - k → (left ≤ 32) × (o .boxes ≤ 16) × (o .minted ≤ 256)
-  pair-counts left k e = (omega (arith, rows-cap l o ok), boxes-cap l o ok, limits-in (coreOf l o) (ok .few) .minted)
-
   -- the model's step is that of the two particles
   at-pair : (c : Setting) → meet c (coreOf l o) i j ≡ meetParticles c (coreOf l o) i j (viewRow (rowAt l i)) (viewRow (rowAt l j))
   at-pair c =
       meet-at c (coreOf l o) i j _ _ (view-row l (o .particles) i (M .pair .held-i) (rows-cap l o ok)) (view-row l (o .particles) j (M .pair .held-j) (rows-cap l o ok))
 
   -- a refusal of 13 to 16
-  pub pair-refused : {e : List ℕ} {w : Joined} → JoinedIs t l i j e w → {x : ℕ} → w .offer ≡ Refused x → {k : ℕ} → k ≡ numberOf (w .offer) → {r : RestStep} → Says (said.Refused k) o r →
+  pub pair-refused : (e : List ℕ) (a : Offer) → Joining t l i j e a → {x k : ℕ} → a ≡ Refused x → k ≡ numberOf a → {r : RestStep} → Says (said.Refused k) o r →
       (c : Setting) → c .table ≡ t → StepIs (settled (meet c (coreOf l o) i j)) l o l r
-  pair-refused {e} {w} h {x} q {k} ke {r} says c ct =
-      let z : Joining t l i j e (w .names) (Refused x) = subst (λ (a : Offer). Joining t l i j e (w .names) a) q (h .is) in
+  pair-refused e a h {x} {k} q ke {r} says c ct =
+      let no : Joining t l i j e (Refused x) = subst (λ (y : Offer). Joining t l i j e y) q h in
       let number : x ≡ k = sym (ke ∙ ap numberOf q) in
-      refused-is _ l o k r (ap settled (at-pair c) ∙ z c ct (coreOf l o) ∙ ap refuse number) says
+      refused-is _ l o k r (ap settled (at-pair c) ∙ no c ct (coreOf l o) ∙ ap refuse number) says
 
-  -- WHERE THEY JOIN: the body at node n unfolds under the first d names of e
-  module _ {n : ℕ} {e : List ℕ} {d : ℕ} (J : Joins t l i j n e d) {replicated : Bool} (ag : replicated ≡ eqb (kind t (nodeAt l j)) 6)
-      {left : ℕ} (le : left ≡ o .particles - cond replicated 1 2) {room : Bool} (rm : room ≡ roomFor (term t n) left (o .boxes) (o .minted)) where
-    abbrev node : ℕ
-    node = field t (nodeAt l j) 4
+-- where they join: the body, at node n, is to unfold under the first d names of e, and so many rows are left
+pub record Joined (t : Table) (side : ℕ) (l : List ℕ) (o : Rest) (i j : ℕ) (e : List ℕ) (d : ℕ) (replicated : Bool) (left n : ℕ) : Type 0 where
+  pub given : MeetablePair t side l o i j
+  pub joins : Joins t l i j e d
+  pub again : replicated ≡ eqb (kind t (nodeAt l j)) 6
+  pub rows : left ≡ o .particles - cond replicated 1 2
+  pub body : n ≡ bodyAt t l j
 
-    abbrev π : Env
-    π = extend (inputEnv t l j) (binders (inputPattern t l j)) (J .fit .bound)
+-- WHERE THEY JOIN
+module _ {t : Table} {side : ℕ} {l : List ℕ} {o : Rest} {i j : ℕ} {e : List ℕ} {d : ℕ} {replicated : Bool} {left n : ℕ} (K : Joined t side l o i j e d replicated left n) where
+  abbrev M : MeetablePair t side l o i j
+  M = K .given
 
-    abbrev remains : List Particle
-    remains = without (eqb (kind t (nodeAt l j)) 6) (viewRows l (o .particles)) i j
+  abbrev J : Joins t l i j e d
+  J = K .joins
 
-    its-defined : defined (term t node) π ≡ true
-    its-defined = sym (ap₂ (λ (x : ℕ) (y : Env). defined (term t x) y) (J .body) (J .env)) ∙ J .is-defined
+  abbrev node : ℕ
+  node = bodyAt t l j
 
-    its-short : longIn (term t node) π ≡ false
-    its-short = sym (ap₂ (λ (x : ℕ) (y : Env). longIn (term t x) y) (J .body) (J .env)) ∙ J .short
+  abbrev π : Env
+  π = extend (inputEnv t l j) (binders (inputPattern t l j)) (J .fit .bound)
 
-    its-sized : Sized π
-    its-sized = subst (λ (y : Env). Sized y) (J .env) (env-sized e d (J .words))
+  abbrev remains : List Particle
+  remains = without (eqb (kind t (nodeAt l j)) 6) (viewRows l (o .particles)) i j
 
-    remain-left : length remains ≡ left
-    remain-left =
-        let v = rows-n l o ok in
-        ap (λ (b : Bool). length (without b (viewRows l (o .particles)) i j)) (sym ag) ∙
-        length-left replicated (viewRows l (o .particles)) i j (omega (arith, v, M .pair .held-i)) (omega (arith, v, M .pair .held-j)) other ∙
-        ap (λ (k : ℕ). k - cond replicated 1 2) v ∙ sym le
+  its-defined : defined (term t node) π ≡ true
+  its-defined = sym (ap (defined (term t node)) (J .env)) ∙ J .is-defined
 
-    room-then : roomFor (term t node) left (length (viewBoxes l (o .boxes))) (o .minted) ≡ room
-    room-then = ap₂ (λ (boxes m : ℕ). roomFor (term t m) left boxes (o .minted)) (boxes-n l o ok) (sym (J .body)) ∙ sym rm
+  its-short : longIn (term t node) π ≡ false
+  its-short = sym (ap (longIn (term t node)) (J .env)) ∙ J .short
 
-    pub pair-full : room ≡ false → {r : RestStep} → Says (said.Refused 17) o r → (c : Setting) → c .table ≡ t → StepIs (settled (meet c (coreOf l o) i j)) l o l r
-    pair-full z {r} says c ct =
+  its-sized : Sized π
+  its-sized = subst (λ (y : Env). Sized y) (J .env) (env-sized e d (J .words))
+
+  remain-left : length remains ≡ left
+  remain-left =
+      let v = rows-n l o (ok M) in
+      ap (λ (b : Bool). length (without b (viewRows l (o .particles)) i j)) (sym (K .again)) ∙
+      length-left replicated (viewRows l (o .particles)) i j (omega (arith, v, M .pair .held-i)) (omega (arith, v, M .pair .held-j)) (other M) ∙
+      ap (λ (k : ℕ). k - cond replicated 1 2) v ∙ sym (K .rows)
+
+  abbrev pub Room : ℕ → Type 0
+  Room m = roomFor (term t m) left (o .boxes) (o .minted) ≡ true
+
+  -- the limits as the model has them
+  room-then : roomFor (term t node) left (length (viewBoxes l (o .boxes))) (o .minted) ≡ roomFor (term t node) left (o .boxes) (o .minted)
+  room-then = ap (λ (boxes : ℕ). roomFor (term t node) left boxes (o .minted)) (boxes-n l o (ok M))
+
+  pub room-asks : Passes t × (n < count t) × (left ≤ 32) × (o .boxes ≤ 16) × (o .minted ≤ 256)
+  room-asks =
+      (J .scoped .passes, subst (λ (x : ℕ). x < count t) (sym (K .body)) (J .scoped .inside), omega (arith, K .rows, rows-cap l o (ok M)), boxes-cap l o (ok M), limits-in (coreOf l o) (ok M .few) .minted)
+
+  -- 17
+  module _ (a : Offer) (w : OfferIf (Room n) n 17 a) where
+    pub pair-full : {x k : ℕ} → a ≡ Refused x → k ≡ numberOf a → {r : RestStep} → Says (said.Refused k) o r → (c : Setting) → c .table ≡ t → StepIs (settled (meet c (coreOf l o) i j)) l o l r
+    pair-full {x} {k} q ke {r} says c ct =
+        let no = if-refused (Room n) n 17 a w x k q ke in
+        let none : roomFor (term t node) left (o .boxes) (o .minted) ≡ false = is-false _ (λ y. no .1 (subst Room (sym (K .body)) y)) in
         let full = meet-17 (onTable (M .joinable) c) (coreOf l o) i j _ _ _ _ _ (nodeAt l j) (valuesOf (rowAt l j)) (nodeAt l j) (eqb (kind t (nodeAt l j)) 6) _ _ _ _
-        (the-term (M .joinable)) (J .fits) (J .fit) (J .matched) its-defined its-sized its-short (ok .short-outputs) (ok .few) left remain-left (room-then ∙ z) in
-        refused-is _ l o 17 r (ap settled (at-pair c) ∙ for-all (M .joinable) c ct (coreOf l o) ∙ full) says
+        (the-term (M .joinable)) (J .fits) (J .fit) (J .matched) its-defined its-sized its-short (ok M .short-outputs) (ok M .few) left remain-left (room-then ∙ none) in
+        refused-is _ l o k r (ap settled (at-pair M c) ∙ for-all (M .joinable) c ct (coreOf l o) ∙ full ∙ ap refuse (sym (no .0))) says
 
-    -- THERE IS ROOM: the rows are gone, and the body unfolds in box b
-    module _ (y : room ≡ true) {m : List ℕ} (R : RowsLeft replicated l (o .particles) i j m) {b : ℕ} (be : b ≡ getD (rowAt l i) 1 0) where
+    -- THERE IS ROOM: the rows are gone, and the body, at node k, unfolds in box b
+    module _ {k : ℕ} (q : a ≡ At k) {m : List ℕ} (R : RowsLeft replicated l (o .particles) i j m) {b : ℕ} (be : b ≡ getD (rowAt l i) 1 0) where
       abbrev before : Counts
       before = record { particles = left; boxes = o .boxes; minted = o .minted }
 
-      room-yes : (left + particlesIn (term t n) ≤ 32) × (o .boxes + boxesIn (term t n) ≤ 16) × (o .minted + newNamesIn (term t n) ≤ 256)
-      room-yes =
-          let w = sym rm ∙ y in
-          let few = leb-true (left + particlesIn (term t n)) 32 (fst _ _ w) in
-          let some-boxes = leb-true (o .boxes + boxesIn (term t n)) 16 (fst _ _ (snd _ _ w)) in
-          (few, some-boxes, leb-true (o .minted + newNamesIn (term t n)) 256 (snd _ _ (snd _ _ w)))
+      at-node : k ≡ node
+      at-node = if-at (Room n) n 17 a w k q .0 ∙ K .body
 
-      pub body-can : CanUnfold t side n b e d m before
-      body-can = record {
+      room : Room node
+      room = subst Room (K .body) (if-at (Room n) n 17 a w k q .1)
+
+      room-yes : (left + particlesIn (term t node) ≤ 32) × (o .boxes + boxesIn (term t node) ≤ 16) × (o .minted + newNamesIn (term t node) ≤ 256)
+      room-yes =
+          let few = leb-true (left + particlesIn (term t node)) 32 (fst _ _ room) in
+          let some-boxes = leb-true (o .boxes + boxesIn (term t node)) 16 (fst _ _ (snd _ _ room)) in
+          (few, some-boxes, leb-true (o .minted + newNamesIn (term t node)) 256 (snd _ _ (snd _ _ room)))
+
+      can : CanUnfold t side node b e d m before
+      can = record {
         narrow = M .narrow;
         scoped = J .scoped;
         short = J .short;
         particles = room-yes .0;
         boxes = room-yes .1;
         minted = room-yes .2;
-        place = omega (arith, be, output-home l o ok i (M .pair .held-i) (M .pair .out), boxes-cap l o ok);
-        long = R .long ∙ ok .long;
+        place = omega (arith, be, output-home l o (ok M) i (M .pair .held-i) (M .pair .out), boxes-cap l o (ok M));
+        long = R .long ∙ (ok M) .long;
         width = J .words .long;
         values = J .words .places;
-        fits = ap (fitsRows m) le ∙ R .fits (side-rows l o (ok .arrays));
+        fits = ap (fitsRows m) (K .rows) ∙ R .fits (side-rows l o (ok M .arrays));
       }
+
+      pub body-can : CanUnfold t side k b e d m before
+      body-can = subst (λ (x : ℕ). CanUnfold t side x b e d m before) (sym at-node) can
 
       -- what the body is added to, as the model has it
       before-is : counted m before ≡ withParticles (coreOf l o .contents) remains
       before-is =
-          let ps : viewRows m left ≡ remains = ap (viewRows m) le ∙ R .view ∙ ap (λ (a : Bool). without a (viewRows l (o .particles)) i j) ag in
+          let ps : viewRows m left ≡ remains = ap (viewRows m) (K .rows) ∙ R .view ∙ ap (λ (a : Bool). without a (viewRows l (o .particles)) i j) (K .again) in
           ap₂ (λ (x : List Particle) (z : List Box). record { particles = x; boxes = z; minted = o .minted }) ps (boxes-kept l m (R .behind) (o .boxes))
 
-      module _ {f w : List ℕ} {u : Counts} (U : UnfoldedIs side (term t n) b e d m before f w u) where
-        shelf-same : drop 4640 w ≡ drop 4640 l
-        shelf-same = U .shelf ∙ sym (drop-drop 32 4608 m) ∙ ap (drop 32) (R .behind) ∙ drop-drop 32 4608 l
+      module _ {f z : List ℕ} {u : Counts} (U : UnfoldedIs side (term t k) b e d m before f z u) where
+        unfolded : UnfoldedIs side (term t node) b e d m before f z u
+        unfolded = subst (λ (x : ℕ). UnfoldedIs side (term t x) b e d m before f z u) at-node U
 
-        pub after-fits : fitsSide w (putCounts o u) ≡ true
+        shelf-same : drop 4640 z ≡ drop 4640 l
+        shelf-same = unfolded .shelf ∙ sym (drop-drop 32 4608 m) ∙ ap (drop 32) (R .behind) ∙ drop-drop 32 4608 l
+
+        after-fits : fitsSide z (putCounts o u) ≡ true
         after-fits =
-            let shelf = ap (λ (x : List ℕ). leb (o .shelved) 32 & every fitsPlace (take (o .shelved) (parts 17 32 x))) shelf-same ∙ side-shelf l o (ok .arrays) in
-            both _ _ (U .fits) (both _ _ (le-leb (u .boxes) 16 (omega (arith, U .boxes, room-yes .1))) (both _ _ (side-lobby l o (ok .arrays)) shelf))
+            let shelf = ap (λ (x : List ℕ). leb (o .shelved) 32 & every fitsPlace (take (o .shelved) (parts 17 32 x))) shelf-same ∙ side-shelf l o (ok M .arrays) in
+            both _ _ (unfolded .fits) (both _ _ (le-leb (u .boxes) 16 (omega (arith, unfolded .boxes, room-yes .1))) (both _ _ (side-lobby l o (ok M .arrays)) shelf))
 
         module _ (c : Setting) (cs : c .side ≡ side) (ct : c .table ≡ t) where
           abbrev after : Core
           after = withContents (coreOf l o) (unfolds (c .side) (term t node) π (getD (rowAt l i) 1 0) (withParticles (coreOf l o .contents) remains))
 
-          contents-are : counted w u ≡ unfolds (c .side) (term t node) π (getD (rowAt l i) 1 0) (withParticles (coreOf l o .contents) remains)
+          contents-are : counted z u ≡ unfolds (c .side) (term t node) π (getD (rowAt l i) 1 0) (withParticles (coreOf l o .contents) remains)
           contents-are =
-              U .view ∙ ap₂ (λ (x : ℕ) (v : Env). unfolds side (term t x) v b (counted m before)) (J .body) (J .env) ∙
+              unfolded .view ∙ ap (λ (v : Env). unfolds side (term t node) v b (counted m before)) (J .env) ∙
               ap₂ (λ (x : ℕ) (v : Contents). unfolds side (term t node) π x v) be before-is ∙
               ap (λ (x : ℕ). unfolds x (term t node) π (getD (rowAt l i) 1 0) (withParticles (coreOf l o .contents) remains)) (sym cs)
 
-          after-is : coreOf w (putCounts o u) ≡ after
+          after-is : coreOf z (putCounts o u) ≡ after
           after-is =
-              let shelf : viewShelf w (o .shelved) ≡ viewShelf l (o .shelved) = ap (λ (x : List ℕ). map viewPlace (take (o .shelved) (parts 17 32 x))) shelf-same in
+              let shelf : viewShelf z (o .shelved) ≡ viewShelf l (o .shelved) = ap (λ (x : List ℕ). map viewPlace (take (o .shelved) (parts 17 32 x))) shelf-same in
               ap₂ (λ (x : Contents) (h : List (List ℕ)). record { contents = x; lobby = coreOf l o .lobby; shelf = h; taken = o .taken }) contents-are shelf
 
-          pub pair-did : {s : Rest} → s ≡ putCounts o u → {r : RestStep} → Says said.Silent s r → StepIs (settled (meet c (coreOf l o) i j)) l o w r
+          pub pair-did : {s : Rest} → s ≡ putCounts o u → {r : RestStep} → Says said.Silent s r → StepIs (settled (meet c (coreOf l o) i j)) l o z r
           pair-did {s} se {r} says =
               let did = meet-done (onTable (M .joinable) c) (coreOf l o) i j _ _ _ _ _ (nodeAt l j) (valuesOf (rowAt l j)) (nodeAt l j) (eqb (kind t (nodeAt l j)) 6) _ _ _ _
-              (the-term (M .joinable)) (J .fits) (J .fit) (J .matched) its-defined its-sized its-short (ok .short-outputs) (ok .few) left remain-left (room-then ∙ y) in
-              let whole = ap settled (at-pair c) ∙ for-all (M .joinable) c ct (coreOf l o) ∙ did in
-              quiet-is _ after l w o s (putCounts o u) r whole says se after-is (U .long ∙ R .long) after-fits
+              (the-term (M .joinable)) (J .fits) (J .fit) (J .matched) its-defined its-sized its-short (ok M .short-outputs) (ok M .few) left remain-left (room-then ∙ room) in
+              let whole = ap settled (at-pair M c) ∙ for-all (M .joinable) c ct (coreOf l o) ∙ did in
+              quiet-is _ after l z o s (putCounts o u) r whole says se after-is (unfolded .long ∙ R .long) after-fits

@@ -1,6 +1,6 @@
 -- Which rows are an output and an input; whether the two fit; 15 and 16 of a body: a law for each way that the code goes.
 use mathlib.Core.Path.{_≡_, refl, sym, ap, _∙_}
-use mathlib.Core.Bool.{Bool, true, false}
+use mathlib.Core.Bool.{Bool, true, false, false≢true}
 use mathlib.Core.List.{List}
 use mathlib.Core.Logic.{inl, inr, _≢_}
 use mathlib.Core.Option.{some}
@@ -46,10 +46,15 @@ module _ (l : List ℕ) (n i j : ℕ) (few : n ≤ 32) (c : Setting) (s : Core) 
       pub pair-no-input : getD (rowAt l i) 0 0 ≡ 1 → getD (rowAt l j) 0 0 ≡ 1 → settled (meet c s i j) ≡ refuse 13
       pair-no-input y z = meet-13-no-input c s i j _ _ _ _ _ _ _ _ (row i h ∙ ap some (output-view (rowAt l i) y)) (row j g ∙ ap some (output-view (rowAt l j) z))
 
+-- a test that does not pass
+pub is-false : (b : Bool) → (b ≡ true → ⊥) → b ≡ false
+is-false true h = absurd (h refl)
+is-false false h = refl
+
 -- ONE BOX, ONE CHANNEL, FITTING TAGS: a and b are the two boxes, n the input's node, x the output's channel, w the input's
 module _ (t : Table) (l : List ℕ) (i j : ℕ) (ρ : Env) {a b : ℕ} (ea : a ≡ getD (rowAt l i) 1 0) (eb : b ≡ getD (rowAt l j) 1 0) where
-  pub fit-box : (a ≡ b → ⊥) → false ≡ fitsAt t l i j ρ
-  fit-box z = stops _ _ (ne-eqb _ _ (λ q. z (ea ∙ q ∙ sym eb)))
+  pub fit-box : (a ≡ b → ⊥) → fitsAt t l i j ρ ≡ true → ⊥
+  fit-box z y = false≢true (stops _ _ (ne-eqb _ _ (λ q. z (ea ∙ q ∙ sym eb))) ∙ y)
 
   module _ (q : a ≡ b) {n : ℕ} (en : n ≡ nodeAt l j) {x w : ℕ} (ex : x ≡ channelIn l i) (ew : w ≡ word ρ (field t n 1)) where
     same-box : getD (rowAt l i) 1 0 ≡ getD (rowAt l j) 1 0
@@ -58,8 +63,8 @@ module _ (t : Table) (l : List ℕ) (i j : ℕ) (ρ : Env) {a b : ℕ} (ea : a �
     channel : w ≡ word ρ (field t (nodeAt l j) 1)
     channel = ew ∙ ap (λ (k : ℕ). word ρ (field t k 1)) en
 
-    pub fit-channel : (x ≡ w → ⊥) → false ≡ fitsAt t l i j ρ
-    fit-channel z = goes-on _ _ _ (eq-eqb _ _ same-box) (stops _ _ (ne-eqb _ _ (λ p. z (ex ∙ p ∙ sym channel))))
+    pub fit-channel : (x ≡ w → ⊥) → fitsAt t l i j ρ ≡ true → ⊥
+    fit-channel z y = false≢true (goes-on _ _ _ (eq-eqb _ _ same-box) (stops _ _ (ne-eqb _ _ (λ p. z (ex ∙ p ∙ sym channel)))) ∙ y)
 
     pub fit-tags : x ≡ w → (g k : Tag) → g ≡ tagIn (rowAt l i) → k ≡ tagOf ρ (field t n 2) → (r : Bool) → r ≡ tagsFit g k → r ≡ fitsAt t l i j ρ
     fit-tags p g k eg ek r z =
@@ -68,13 +73,13 @@ module _ (t : Table) (l : List ℕ) (i j : ℕ) (ρ : Env) {a b : ℕ} (ea : a �
         goes-on _ _ _ (eq-eqb _ _ same-box) (goes-on _ _ _ (eq-eqb _ _ (sym ex ∙ p ∙ channel)) both)
 
 -- 15 AND 16
-module _ (n : ℕ) (a : Term) (ρ : Env) {d : Bool} (de : d ≡ defined a ρ) where
-  pub body-15 : d ≡ false → BodyAnswer n a ρ (Refused 15)
-  body-15 z = inl (refl, sym de ∙ z)
+module _ (d : ℕ) (a : Term) (ρ : Env) {c : Bool} (ce : c ≡ defined a ρ) where
+  pub body-15 : c ≡ false → BodyAnswer d a ρ (Refused 15)
+  body-15 z = inl (refl, sym ce ∙ z)
 
-  module _ (y : d ≡ true) {k : Bool} (ke : k ≡ longIn a ρ) where
-    pub body-16 : k ≡ true → BodyAnswer n a ρ (Refused 16)
-    body-16 z = inr (refl, sym de ∙ y, sym ke ∙ z)
+  module _ (y : c ≡ true) {k : Bool} (ke : k ≡ longIn a ρ) where
+    pub body-16 : k ≡ true → BodyAnswer d a ρ (Refused 16)
+    body-16 z = inr (refl, sym ce ∙ y, sym ke ∙ z)
 
-    pub body-at : k ≡ false → BodyAnswer n a ρ (At n)
-    body-at z = (refl, sym de ∙ y, sym ke ∙ z)
+    pub body-at : k ≡ false → BodyAnswer d a ρ (At d)
+    body-at z = (refl, sym ce ∙ y, sym ke ∙ z)

@@ -30,7 +30,6 @@ use Rattle.steps.specs.declared.Offer.the-variants.{At, Refused}
 use Rattle.steps.specs.Asked.{channelIn, valueIn}
 use Rattle.steps.specs.StepIs.{Sane}
 use Rattle.unfolding.specs.Scoped.{Scoped}
-use Rattle.meeting.specs.declared.pairs.Joined.{Joined}
 
 -- a setting with this side and this table: all that meet reads of its setting
 abbrev pub withTable : ℕ → Table → Setting
@@ -55,9 +54,12 @@ pub record PairAt (l : List ℕ) (n i j : ℕ) : Type 0 where
   pub out : getD (rowAt l i) 0 0 ≡ 1
   pub inp : getD (rowAt l j) 0 0 ≢ 1
 
--- the node of the input j, its environment, its pattern
+-- the node of the input j, that of its body, its environment, its pattern
 abbrev pub nodeAt : List ℕ → ℕ → ℕ
 nodeAt l j = nodeOf (rowAt l j)
+
+abbrev pub bodyAt : Table → List ℕ → ℕ → ℕ
+bodyAt t l j = field t (nodeAt l j) 4
 
 abbrev pub inputEnv : Table → List ℕ → ℕ → Env
 inputEnv t l j = envAt t (nodeAt l j) (valuesOf (rowAt l j))
@@ -79,31 +81,31 @@ pub record Joinable (t : Table) (l : List ℕ) (i j : ℕ) : Type 0 where
   pub waits : Waits t l j
   pub kind : 5 ≤ kind t (nodeAt l j)
 
--- the answer of 15 and 16 for the term a at node n, under ρ
-abbrev pub BodyAnswer : ℕ → Term → Env → Offer → Type 0
-BodyAnswer n a ρ (At k) = (k ≡ n) × (defined a ρ ≡ true) × (longIn a ρ ≡ false)
-BodyAnswer n a ρ (Refused x) = ((x ≡ 15) × (defined a ρ ≡ false)) ⊎ ((x ≡ 16) × (defined a ρ ≡ true) × (longIn a ρ ≡ true))
+-- the answer of 14 for the pattern p and the value v under ρ: the first k names of e are those of ρ and p
+abbrev pub MatchAnswer : (p v : List ℕ) → Env → List ℕ → Offer → Type 0
+MatchAnswer p v ρ e (At k) = (m : Fit) × (matches p 1 v ≡ done m) × (envOf e k ≡ extend ρ (binders p) (m .bound)) × Fits e k
+MatchAnswer p v ρ e (Refused x) = (x ≡ 14) × (matches p 1 v ≡ refuse 14)
 
--- the body at node n unfolds under the first d names of e
-pub record Joins (t : Table) (l : List ℕ) (i j n : ℕ) (e : List ℕ) (d : ℕ) : Type 0 where
-  pub body : n ≡ field t (nodeAt l j) 4
+-- the answer of 15 and 16 for the term a under ρ, which has d names
+abbrev pub BodyAnswer : ℕ → Term → Env → Offer → Type 0
+BodyAnswer d a ρ (At k) = (k ≡ d) × (defined a ρ ≡ true) × (longIn a ρ ≡ false)
+BodyAnswer d a ρ (Refused x) = ((x ≡ 15) × (defined a ρ ≡ false)) ⊎ ((x ≡ 16) × (defined a ρ ≡ true) × (longIn a ρ ≡ true))
+
+-- the output i and the input j join: the input's body unfolds under the first d names of e
+pub record Joins (t : Table) (l : List ℕ) (i j : ℕ) (e : List ℕ) (d : ℕ) : Type 0 where
   pub fits : fitsAt t l i j (inputEnv t l j) ≡ true
   pub fit : Fit
   pub matched : matches (inputPattern t l j) 1 (valueIn l i) ≡ done fit
   pub env : envOf e d ≡ extend (inputEnv t l j) (binders (inputPattern t l j)) (fit .bound)
   pub words : Fits e d
-  pub scoped : Scoped t n d
-  pub is-defined : defined (term t n) (envOf e d) ≡ true
-  pub short : longIn (term t n) (envOf e d) ≡ false
+  pub scoped : Scoped t (bodyAt t l j) d
+  pub is-defined : defined (term t (bodyAt t l j)) (envOf e d) ≡ true
+  pub short : longIn (term t (bodyAt t l j)) (envOf e d) ≡ false
 
--- the answer of 13 to 16: the model refuses with the number, whatever else the side holds; or the body unfolds
-abbrev pub Joining : Table → List ℕ → (i j : ℕ) → List ℕ → ℕ → Offer → Type 0
-Joining t l i j e d (At n) = Joins t l i j n e d
-Joining t l i j e d (Refused x) = (c : Setting) → c .table ≡ t → (s : Core) → settled (meetParticles c s i j (viewRow (rowAt l i)) (viewRow (rowAt l j))) ≡ refuse x
-
--- r is that answer, with the environment in e
-pub record JoinedIs (t : Table) (l : List ℕ) (i j : ℕ) (e : List ℕ) (r : Joined) : Type 0 where
-  pub is : Joining t l i j e (r .names) (r .offer)
+-- the answer of 13 to 16: the model refuses with the number, whatever else the side holds; or they join
+abbrev pub Joining : Table → List ℕ → (i j : ℕ) → List ℕ → Offer → Type 0
+Joining t l i j e (At d) = Joins t l i j e d
+Joining t l i j e (Refused x) = (c : Setting) → c .table ≡ t → (s : Core) → settled (meetParticles c s i j (viewRow (rowAt l i)) (viewRow (rowAt l j))) ≡ refuse x
 
 -- the limits are kept where a term unfolds beside so many particles, boxes and minted names
 abbrev pub roomFor : Term → (particles boxes minted : ℕ) → Bool

@@ -1,14 +1,16 @@
 // The rows that go, the limits, and the counts after.
 ghost use mathlib.Core.Path.{_≡_};
-ghost use mathlib.Core.Bool.{cond};
+ghost use mathlib.Core.Bool.{true, cond};
 ghost use Prim.Native.Nat.{_-_, _<_, _≤_};
 ghost use Rattle.model.specs.Table.{count, term};
 ghost use Rattle.tables.specs.Nodes.{table};
 ghost use Rattle.tables.specs.Checks.{Passes};
+ghost use Rattle.steps.specs.Asked.{OfferIf};
 ghost use Rattle.meeting.specs.Meeting.{Apart, RowsLeft, roomFor};
 use scopes::unfolded::unfolded_at;
 use sides::Side;
 use sides::remove_row;
+use steps::Offer;
 
 // How many of n rows are left when an output and, unless it is replicated, an input go.
 pub(crate) fn rows_left(n: usize, replicated: bool) -> usize
@@ -21,20 +23,23 @@ pub(crate) fn rows_left(n: usize, replicated: bool) -> usize
     n - 2
 }
 
-// Whether the limits are kept where the body at node n unfolds beside so many particles, boxes and minted names.
-pub(crate) fn has_room(
+// 17: whether the limits are kept where the body at node n unfolds beside so many particles, boxes and minted names. The position is n.
+pub(crate) fn room_offer(
     nodes: &[u32],
     pool: &[u32],
     n: usize,
     particles: usize,
     boxes: usize,
     minted: usize,
-) -> bool
+) -> Offer
     requires { ⌜ Passes (table (now nodes) (now pool)) × (n < count (table (now nodes) (now pool))) × (particles ≤ 32) × (boxes ≤ 16) × (minted ≤ 256) ⌝ }
-    ensures { λ r. ⌜ r ≡ roomFor (term (table (now (nodes .entry)) (now (pool .entry))) n) particles boxes minted ⌝ }
+    ensures { λ r. ⌜ OfferIf (roomFor (term (table (now (nodes .entry)) (now (pool .entry))) n) particles boxes minted ≡ true) n 17 r ⌝ }
 {
     let u = unfolded_at(nodes, pool, n);
-    Side::contents_within(particles + u.particles, boxes + u.boxes, minted + u.names)
+    if !Side::contents_within(particles + u.particles, boxes + u.boxes, minted + u.names) {
+        return Offer::Refused(17);
+    }
+    Offer::At(n)
 }
 
 // The output i of n rows goes, and the input j unless it is replicated.

@@ -12,10 +12,10 @@ ghost use Rattle.sides.specs.Sides.{coreOf};
 ghost use Rattle.steps.specs.Asked.{OfferIs};
 ghost use Rattle.steps.specs.StepIs.{StepIs};
 ghost use Rattle.meeting.specs.Meeting.{withTable, PairAt, Meetable, MeetablePair};
-use bodies::has_room;
 use bodies::remove_pair;
+use bodies::room_offer;
 use bodies::rows_left;
-use pairs::join;
+use pairs::join_offer;
 use sides::Rest;
 use sides::Row;
 use sides::word_at;
@@ -70,17 +70,17 @@ fn meet_pair(
     ensures { λ r. ⌜ StepIs (settled (meet (withTable side (table (now (nodes .entry)) (now (pool .entry)))) (coreOf (now (rows .entry)) o) i j)) (now (rows .entry)) o (now (rows .exit)) r ⌝ }
 {
     let mut e = [0; 144];
-    let w = join(nodes, pool, rows, i, j, &mut e);
-    let a = w.offer;
-    let Offer::At(n) = a else {
+    let a = join_offer(nodes, pool, rows, i, j, &mut e);
+    let Offer::At(d) = a else {
         return RestStep::plain(Said::Refused(a.number()), o);
     };
     let x = node_at(nodes, wide(word_at(rows, j, Row::NODE)));
     let replicated = x.kind == 6;
     let left = rows_left(o.particles, replicated);
-    if !has_room(nodes, pool, n, left, o.boxes, o.minted) {
-        return RestStep::plain(Said::Refused(17), o);
-    }
+    let f = room_offer(nodes, pool, x.d, left, o.boxes, o.minted);
+    let Offer::At(n) = f else {
+        return RestStep::plain(Said::Refused(f.number()), o);
+    };
     let b = wide(word_at(rows, i, Row::BOX));
     remove_pair(rows, o.particles, replicated, i, j);
     let c = Counts {
@@ -88,7 +88,7 @@ fn meet_pair(
         boxes: o.boxes,
         minted: o.minted,
     };
-    let u = unfold_at(nodes, pool, side, n, b, &mut e, w.names, rows, c);
+    let u = unfold_at(nodes, pool, side, n, b, &mut e, d, rows, c);
     RestStep::plain(Said::Silent, u.put_into(o))
 }
 

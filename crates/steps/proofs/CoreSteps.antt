@@ -14,7 +14,8 @@ use Rattle.model.specs.Side.{Tag, fromParent, fromChild, Particle, output, inpu
 use Rattle.model.specs.Unfolding.{addParticle}
 use Rattle.model.specs.Load.{Setting}
 use Rattle.model.specs.Wrapper.{shelves}
-use Rattle.model.specs.Step.{Moved, silent, enters, leaves, silently, withContents, withLobby, withParticles, enter, isDown, isArrived, isLeaving, goDown, isToParent, upFrom, upParticle, up, isToChild, descendParticle, descend, pass, leave, short, settled}
+use Rattle.model.specs.Step.{Moved, silent, enters, leaves, silently, withContents, withLobby, withParticles, isDown, isArrived, isLeaving, isToParent, isToChild}
+use Rattle.model.specs.Step.{enter, goDown, upFrom, upParticle, up, descendParticle, descend, pass, leave, short, settled}
 use Rattle.model.proofs.Basics.Tests.{both, every-append, every-one, every-remove, every-set, length-remove}
 use Rattle.steps.proofs.Settling.{pick-past, pick-at, need-true, need-false, choose-true, choose-false, no-left, no-right, Within, limits-in, over-particles, over-lobby, over-shelf, settled-refused, settled-full, settled-within}
 
@@ -157,8 +158,9 @@ module _ (s : Core) (sh : every short (s .contents .particles) ≡ true) (few : 
   pub lobby-done : (c : Setting) (i ch : ℕ) (v : List ℕ) → shelves (c .wrapper) (c .side) & eqb ch 2 ≡ false → length (s .lobby) < 16 → settled (upFrom c s i 0 ch v) ≡ done (quiet (lobbyCore s i ch v))
   lobby-done c i ch v e h =
       let w = in-limits in
+      let more = length-append (s .lobby) (record { status = arrived; chan = ch; val = v } ∷ []) in
       settled-within _ (quiet (lobbyCore s i ch v)) (lobby-from c i ch v e) (remove-short i)
-      (record { particles = omega (arith, length-remove (s .contents .particles) i); boxes = w .boxes; minted = w .minted; lobby = omega (arith, length-append (s .lobby) (record { status = arrived; chan = ch; val = v } ∷ [])); shelf = w .shelf })
+      (record { particles = omega (arith, length-remove (s .contents .particles) i); boxes = w .boxes; minted = w .minted; lobby = omega (arith, more); shelf = w .shelf })
 
   put-within : (i : ℕ) (p : Particle) → Within (putCore s i p)
   put-within i p =

@@ -34,9 +34,10 @@ use Rattle.steps.specs.declared.Said.the-variants as said
 use Rattle.steps.proofs.CoreSteps as core
 use Rattle.steps.specs.declared.RestStep.{RestStep}
 use Rattle.steps.specs.StepIs.{StepIs, Sane}
-use Rattle.steps.specs.Asked.{Says, EnterAt, Source, TakeAt, knownBy, mayEnter}
+use Rattle.steps.specs.declared.Offer.{Offer}
+use Rattle.steps.specs.Asked.{Says, OfferIs, OfferIf, EnterAt, Source, TakeAt, knownBy, mayEnter}
 use Rattle.steps.proofs.TakeCore as source
-use Rattle.steps.proofs.Held.{Full, side-rows, side-lobby, side-shelf, side-again, same-core, lobby-n, quiet-is, said-is}
+use Rattle.steps.proofs.Held.{Full, side-rows, side-lobby, side-shelf, side-again, same-core, lobby-n, quiet-is, said-is, offer-last}
 
 -- A MINTED NAME has a place among the marks
 pub mark-in : (w : ℕ) → isMinted w ≡ true → markOf w < 512
@@ -105,27 +106,33 @@ module _ (l : List ℕ) (o : Rest) (ms : List (List Bool)) (ws : List ℕ) (ok :
   enter-unknown e f = core.enter-12 (coreOf l o) (ok .short-outputs) (ok .few) (knownBy ms) ws e f
 
   module _ (full : Full o) where
-    pub enter-full : isValue ws ≡ true → every (mayEnter ms) ws ≡ true → 16 ≤ o .lobby .len → settled (enter (knownBy ms) (coreOf l o) ws) ≡ refuse 17
+    enter-full : isValue ws ≡ true → every (mayEnter ms) ws ≡ true → 16 ≤ o .lobby .len → settled (enter (knownBy ms) (coreOf l o) ws) ≡ refuse 17
     enter-full e f n = core.enter-17 (coreOf l o) (ok .short-outputs) (ok .few) (knownBy ms) ws e f (rw (lobby-n l o ok full) n)
 
     few-words : isValue ws ≡ true → length ws ≤ 16
     unfolding isValue
     few-words p = leb-true (length ws) 16 (fst _ _ p)
 
-    pub enter-did : (k : ℕ) (r : RestStep) (v : Value) (m : Message) (y : Lobby) (t : Rest) (n : ℕ) → k ≡ o .lobby .len → EnterAt ms ws k → Stores ws v →
+    pub enter-last : isValue ws ≡ true → every (mayEnter ms) ws ≡ true → (a : Offer) → OfferIf (o .lobby .len < 16) (length ws) 17 a →
+        OfferIs (settled (enter (knownBy ms) (coreOf l o) ws)) (length ws) (EnterAt o ms ws) a
+    enter-last e f a w =
+        offer-last _ (length ws) (EnterAt o ms ws) (o .lobby .len < 16) 17 a w (λ room. record { shape = e; names = f; short = few-words e; room = room })
+        (λ none. enter-full e f (omega (arith, none)))
+
+    pub enter-did : (k : ℕ) (r : RestStep) (v : Value) (m : Message) (y : Lobby) (t : Rest) (n : ℕ) → k ≡ length ws → EnterAt o ms ws k → Stores (take k ws) v →
         m ≡ record { status = Down; channel = 0; value = v } →
         LobbyIs (viewLobby (o .lobby) ++ (viewMessage m ∷ [])) n (fitsLobby (o .lobby) & fitsMessage m) y →
         t ≡ putLobby o y →
         r ≡ record { said = said.In; value = v; rest = t } →
         StepIs (settled (enter (knownBy ms) (coreOf l o) ws)) l o l r
     enter-did k r v m y t n same a st me ys te re =
-        let few : length ws ≤ 16 = few-words (a .shape) in
-        let vw : viewValue v ≡ ws = st .words ∙ take-all 16 ws few in
-        let len : v .len ≤ 16 = omega (arith, st .count) in
-        let room : o .lobby .len < 16 = rw same at (a .room) in
+        let stored : Stores ws v = subst (λ (s : List ℕ). Stores s v) (take-all k ws (omega (arith, same))) st in
+        let few : length ws ≤ 16 = omega (arith, same, a .short) in
+        let vw : viewValue v ≡ ws = stored .words ∙ take-all 16 ws few in
+        let len : v .len ≤ 16 = omega (arith, stored .count) in
         let fits : fitsSide l (putLobby o y) ≡ true =
         side-again l l o (putLobby o y) (ok .arrays) refl (side-rows l o (ok .arrays)) (ys .fits (both _ _ (side-lobby l o (ok .arrays)) (ap fitsMessage me ∙ value-fits v len))) (side-shelf l o (ok .arrays)) in
-        let d = core.enter-done (coreOf l o) (ok .short-outputs) (ok .few) (knownBy ms) ws (a .shape) (a .names) (rw (lobby-n l o ok full) room) in
+        let d = core.enter-done (coreOf l o) (ok .short-outputs) (ok .few) (knownBy ms) ws (a .shape) (a .names) (rw (lobby-n l o ok full) (a .room)) in
         rw re
         (said-is _ (record { label = enters; val = ws; core = core.enterCore (coreOf l o) ws }) l l o (putLobby o y) (record { said = said.In; value = v; rest = t }) d refl vw len te
         (rw (ys .view, me, vw)) refl fits)
@@ -154,10 +161,17 @@ module _ (l : List ℕ) (o : Rest) (m : ℕ) (h : List ℕ) (n i : ℕ) (ok : Sa
     pub take-again : getD (o .taken) (takenAt m i) false ≡ true → settled (takes m (viewShelf h n) (coreOf l o) i) ≡ refuse 13
     take-again t = source.take-13 (coreOf l o) (ok .short-outputs) (ok .few) m (viewShelf h n) i _ held t
 
-    pub take-full : getD (o .taken) (takenAt m i) false ≡ false → 16 ≤ o .lobby .len → settled (takes m (viewShelf h n) (coreOf l o) i) ≡ refuse 17
+    take-full : getD (o .taken) (takenAt m i) false ≡ false → 16 ≤ o .lobby .len → settled (takes m (viewShelf h n) (coreOf l o) i) ≡ refuse 17
     take-full t q = source.take-17 (coreOf l o) (ok .short-outputs) (ok .few) m (viewShelf h n) i _ held t (rw (lobby-n l o ok full) q)
 
-pub take-did : (l : List ℕ) (o : Rest) (m : ℕ) (h : List ℕ) (n i k : ℕ) → k ≡ i → (ok : Sane l o) (full : Full o) (s : Source m h n) (r : RestStep) (v : Value) (g : Message) (y : Lobby) (t u : Rest) (c j : ℕ) (b : List Bool) → TakeAt o m n k →
+    pub take-last : getD (o .taken) (takenAt m i) false ≡ false → (a : Offer) → OfferIf (o .lobby .len < 16) i 17 a →
+        OfferIs (settled (takes m (viewShelf h n) (coreOf l o) i)) i (TakeAt o m n) a
+    take-last t a w =
+        offer-last _ i (TakeAt o m n) (o .lobby .len < 16) 17 a w (λ room. record { held = p; fresh = t; room = room })
+        (λ none. take-full t (omega (arith, none)))
+
+pub take-did : (l : List ℕ) (o : Rest) (m : ℕ) (h : List ℕ) (n i k : ℕ) → k ≡ i → (ok : Sane l o) (full : Full o) (s : Source m h n)
+    (r : RestStep) (v : Value) (g : Message) (y : Lobby) (t u : Rest) (c j : ℕ) (b : List Bool) → TakeAt o m n k →
     ValueIs (viewPlace (getD (shelfOf h) k [])) v →
     g ≡ record { status = Down; channel = 2; value = v } →
     LobbyIs (viewLobby (o .lobby) ++ (viewMessage g ∷ [])) c (fitsLobby (o .lobby) & fitsMessage g) y →

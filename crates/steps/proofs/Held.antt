@@ -238,6 +238,11 @@ module _ (P : Type 0) (i x : ℕ) (a : Offer) (w : OfferIf P i x a) where
       let z : (n ≡ x) × (P → ⊥) = subst (λ (y : Offer). OfferIf P i x y) e w in
       (q ∙ ap numberOf e ∙ z .0, z .1)
 
+-- a check whose last test is Q
+pub offer-last : (x : Res Moved) (i : ℕ) (P : ℕ → Type 0) (Q : Type 0) (n : ℕ) (a : Offer) → OfferIf Q i n a → (Q → P i) → ((Q → ⊥) → x ≡ refuse n) → OfferIs x i P a
+offer-last x i P Q n (At k) (same, q) may full = (same, subst P (sym same) (may q))
+offer-last x i P Q n (Refused k) (same, q) may full = full q ∙ ap refuse (sym same)
+
 pub offer-refused : (x : Res Moved) (i : ℕ) (P : ℕ → Type 0) (a : Offer) → OfferIs x i P a → (n k : ℕ) (l : List ℕ) (o : Rest) (r : RestStep) → a ≡ Refused n → k ≡ numberOf a → Says (said.Refused k) o r → StepIs x l o l r
 offer-refused x i P a w n k l o r e q p =
     let z : x ≡ refuse n = subst (λ (y : Offer). OfferIs x i P y) e w in

@@ -6,4 +6,3 @@ pub mod LobbySteps
 pub mod ParticleSteps
 pub mod EnterSteps
 pub mod Settings
-pub mod Placing

@@ -4,13 +4,13 @@ use mathlib.Core.Bool.{true, false}
 use mathlib.Core.List.{List, [], _∷_, _++_, map}
 use Prim.Native.Nat.{ℕ, _+_, _-_, _*_, _<_, _≤_}
 use native.Mathlib.Omega.{arith}
-use lib.Dec.{leb, eqb}
+use lib.Dec.{leb}
 use lib.ListN.{length, take, getD}
 use Rattle.model.specs.Basics.{_&_, Res, refuse, done, every, remove}
 use Rattle.model.specs.Side.{output, arrived}
 use Rattle.model.specs.Load.{Setting}
 use Rattle.model.specs.Wrapper.{shelves}
-use Rattle.model.specs.Step.{Moved, isToParent, isToChild, up, upFrom, descend, settled}
+use Rattle.model.specs.Step.{Moved, isToParent, isToChild, up, descend, settled}
 use Rattle.model.proofs.Basics.Tests.{both}
 use Rattle.values.specs.declared.Value.{Value}
 use Rattle.values.specs.Env.{viewValue}
@@ -37,7 +37,7 @@ use Rattle.steps.specs.declared.RestStep.{RestStep}
 use Rattle.steps.specs.StepIs.{StepIs, Sane}
 use Rattle.steps.specs.declared.Offer.{Offer}
 use Rattle.steps.specs.declared.Offer.the-variants.{At}
-use Rattle.steps.specs.Asked.{Says, OfferIs, withShelf, channelIn, valueIn, UpAt, DescendAt}
+use Rattle.steps.specs.Asked.{Says, OfferIs, withShelf, channelIn, valueIn, goesToShelf, upBy, UpAt, DescendAt}
 use Rattle.steps.proofs.Held.{Full, side-rows, side-lobby, side-shelf, side-again, boxes-kept, shelf-kept, shelf-fits-kept, same-core, rows-cap, rows-n}
 use Rattle.steps.proofs.Held.{boxes-n, shelf-n, lobby-n, box-at, row-in, fits-at, input-at, output-at, value-length, refused-is, quiet-is, offer-at}
 
@@ -93,7 +93,7 @@ module _ (l : List ℕ) (o : Rest) (i : ℕ) (ok : Sane l o) (h : i < o .particl
   pub box-did : (c : Setting) (b parent name : ℕ) (m : List ℕ) → 0 < b → b < o .boxes → parent ≡ viewBox (getD (boxesOf l) b []) .parent → name ≡ viewBox (getD (boxesOf l) b []) .name →
       m ≡ movedTo l (144 * i) parent (FromChild name) →
       Says said.Silent o r →
-      StepIs (settled (upFrom c (coreOf l o) i b (channelIn l i) (valueIn l i))) l o m r
+      StepIs (upBy c l o i b (channelIn l i)) l o m r
   box-did c b parent name m z k pe ne me says =
       let d = core.box-done (coreOf l o) (ok .short-outputs) (ok .few) c i b (channelIn l i) (valueIn l i) _ z (box-at l o ok b k) (value-length l o ok i h e) in
       moved-is _ _ (FromChild (viewBox (getD (boxesOf l) b []) .name)) m d
@@ -101,7 +101,7 @@ module _ (l : List ℕ) (o : Rest) (i : ℕ) (ok : Sane l o) (h : i < o .particl
 
   -- A ROW GONE: the particle's value v has been read
   module _ (c : Setting) (v : Value) (vi : ValueIs (valueIn l i) v) (m : List ℕ) (n : ℕ) where
-    pub lobby-did : (ch : ℕ) (g : Message) (y : Lobby) (k : ℕ) (s t : Rest) → shelves (c .wrapper) (c .side) & eqb (channelIn l i) 2 ≡ false → Full o → o .lobby .len < 16 →
+    pub lobby-did : (ch : ℕ) (g : Message) (y : Lobby) (k : ℕ) (s t : Rest) → goesToShelf c (channelIn l i) ≡ false → Full o → o .lobby .len < 16 →
         ch ≡ channelIn l i →
         g ≡ record { status = Arrived; channel = ch; value = v } →
         (n ≡ o .particles - 1) × (m ≡ rowGone l i (o .particles)) →
@@ -109,7 +109,7 @@ module _ (l : List ℕ) (o : Rest) (i : ℕ) (ok : Sane l o) (h : i < o .particl
         LobbyIs (viewLobby (o .lobby) ++ (viewMessage g ∷ [])) k (fitsLobby (o .lobby) & fitsMessage g) y →
         t ≡ putLobby s y →
         Says said.Silent t r →
-        StepIs (settled (upFrom c (coreOf l o) i 0 (channelIn l i) (valueIn l i))) l o m r
+        StepIs (upBy c l o i 0 (channelIn l i)) l o m r
     lobby-did ch g y k s t off full room che ge gone se ys te says =
         let w : List ℕ = rowGone l i (o .particles) in
         let cap = rows-cap l o ok in
@@ -122,7 +122,7 @@ module _ (l : List ℕ) (o : Rest) (i : ℕ) (ok : Sane l o) (h : i < o .particl
         let sent = ap (λ (x : Message). viewLobby (o .lobby) ++ (viewMessage x ∷ [])) (ge ∙ ap (λ (x : ℕ). record { status = Arrived; channel = x; value = v }) che) ∙
         ap (λ (x : List ℕ). viewLobby (o .lobby) ++ (record { status = arrived; chan = channelIn l i; val = x } ∷ [])) (vi .view) in
         let is = same-core (o .minted) (o .taken) (gone-view l i (o .particles) (ok .long) h cap) (boxes-kept l w b (o .boxes)) (ys .view ∙ sent) (shelf-kept l w b (o .shelved)) in
-        subst (λ (z : List ℕ). StepIs (settled (upFrom c (coreOf l o) i 0 (channelIn l i) (valueIn l i))) l o z r) (sym (gone .1))
+        subst (λ (z : List ℕ). StepIs (upBy c l o i 0 (channelIn l i)) l o z r) (sym (gone .1))
         (quiet-is _ _ l w o t u r d says (te ∙ ap (λ (x : Rest). putLobby x y) (se ∙ ap (putParticles o) (gone .0))) is (gone-length l i (o .particles)) fits)
 
     pub shelf-did : (p : ℕ) (w : List ℕ) (s t : Rest) → shelves (c .wrapper) (c .side) ≡ true → p ≡ o .shelved → o .shelved < 32 →
@@ -131,7 +131,7 @@ module _ (l : List ℕ) (o : Rest) (i : ℕ) (ok : Sane l o) (h : i < o .particl
         s ≡ putParticles o n →
         t ≡ putShelved s (p + 1) →
         Says said.Silent t r →
-        StepIs (settled (upFrom c (coreOf l o) i 0 2 (valueIn l i))) l o m r
+        StepIs (upBy c l o i 0 2) l o m r
     shelf-did p w s t on pe room we gone se te says =
         let x : List ℕ = valueIn l i in
         let a : List ℕ = shelfPut l (o .shelved) x in
@@ -150,21 +150,26 @@ module _ (l : List ℕ) (o : Rest) (i : ℕ) (ok : Sane l o) (h : i < o .particl
         let bs = boxes-kept a z b (o .boxes) ∙ ap (λ (y : List (List ℕ)). map viewBox (take (o .boxes) y)) (shelf-boxes l (o .shelved) x) in
         let hs = shelf-kept a z b (o .shelved + 1) ∙ shelf-view l (o .shelved) x (ok .long) room few in
         let words : m ≡ z = gone .1 ∙ ap (λ (y : List ℕ). rowGone y i (o .particles)) (we ∙ ap (λ (y : ℕ). shelfPut l y (viewValue v)) pe ∙ ap (shelfPut l (o .shelved)) (vi .view)) in
-        subst (λ (y : List ℕ). StepIs (settled (upFrom c (coreOf l o) i 0 2 x)) l o y r) (sym words)
+        subst (λ (y : List ℕ). StepIs (upBy c l o i 0 2) l o y r) (sym words)
         (quiet-is _ _ l z o t u r d says (te ∙ ap (λ (y : ℕ). putShelved s (y + 1)) pe ∙ ap (λ (y : Rest). putShelved y (o .shelved + 1)) (se ∙ ap (putParticles o) (gone .0))) (same-core (o .minted) (o .taken) ps bs refl hs)
         (gone-length a i (o .particles) ∙ shelf-length l (o .shelved) x) fits)
 
+-- to the lobby: position k is the i that was asked for
+pub lobby-same : (l : List ℕ) (o : Rest) (c : Setting) (m : List ℕ) (r : RestStep) (i k : ℕ) → k ≡ i → (goesToShelf c (channelIn l k) ≡ false → StepIs (upBy c l o k 0 (channelIn l k)) l o m r) →
+    goesToShelf c (channelIn l i) ≡ false → StepIs (upBy c l o i 0 (channelIn l i)) l o m r
+lobby-same l o c m r i k same = subst (λ (y : ℕ). goesToShelf c (channelIn l y) ≡ false → StepIs (upBy c l o y 0 (channelIn l y)) l o m r) same
+
 -- no room
-module _ (l : List ℕ) (o : Rest) (i : ℕ) (ok : Sane l o) (c : Setting) (r : RestStep) (v : List ℕ) (k : ℕ) (is : k ≡ 17) (says : Says (said.Refused k) o r) where
-  pub shelf-full : shelves (c .wrapper) (c .side) ≡ true → (o .shelved < 32 → ⊥) → StepIs (settled (upFrom c (coreOf l o) i 0 2 v)) l o l r
+module _ (l : List ℕ) (o : Rest) (i : ℕ) (ok : Sane l o) (c : Setting) (r : RestStep) (k : ℕ) (is : k ≡ 17) (says : Says (said.Refused k) o r) where
+  pub shelf-full : shelves (c .wrapper) (c .side) ≡ true → (o .shelved < 32 → ⊥) → StepIs (upBy c l o i 0 2) l o l r
   shelf-full on h =
       let full : 32 ≤ o .shelved = omega (arith, h) in
-      refused-is _ l o k r (core.shelf-17 (coreOf l o) (ok .short-outputs) (ok .few) c i v on (rw (shelf-n l o ok) full) ∙ ap refuse (sym is)) says
+      refused-is _ l o k r (core.shelf-17 (coreOf l o) (ok .short-outputs) (ok .few) c i (valueIn l i) on (rw (shelf-n l o ok) full) ∙ ap refuse (sym is)) says
 
-  pub lobby-full : (ch : ℕ) → shelves (c .wrapper) (c .side) & eqb ch 2 ≡ false → Full o → (o .lobby .len < 16 → ⊥) → StepIs (settled (upFrom c (coreOf l o) i 0 ch v)) l o l r
+  pub lobby-full : (ch : ℕ) → goesToShelf c ch ≡ false → Full o → (o .lobby .len < 16 → ⊥) → StepIs (upBy c l o i 0 ch) l o l r
   lobby-full ch off held h =
       let full : 16 ≤ o .lobby .len = omega (arith, h) in
-      refused-is _ l o k r (core.lobby-17 (coreOf l o) (ok .short-outputs) (ok .few) c i ch v off (rw (lobby-n l o ok held) full) ∙ ap refuse (sym is)) says
+      refused-is _ l o k r (core.lobby-17 (coreOf l o) (ok .short-outputs) (ok .few) c i ch (valueIn l i) off (rw (lobby-n l o ok held) full) ∙ ap refuse (sym is)) says
 
 -- what the check of up found, whatever the setting
 pub up-found : (l : List ℕ) (o : Rest) (i : ℕ) (a : Offer) → ((c : Setting) → OfferIs (settled (up c (coreOf l o) i)) i (UpAt l o) a) → (k : ℕ) → a ≡ At k → (k ≡ i) × UpAt l o k
@@ -172,17 +177,17 @@ up-found l o i a w k e = offer-at (settled (up (withShelf false) (coreOf l o) i)
 
 -- up, by the way that the output goes: b is its box
 module _ (l : List ℕ) (o : Rest) (i k : ℕ) (same : k ≡ i) (ok : Sane l o) (c : Setting) (r : RestStep) (m : List ℕ) (a : UpAt l o k) (b : ℕ) (be : b ≡ getD (rowAt l k) 1 0) where
-  pub up-box : StepIs (settled (upFrom c (coreOf l o) k b (channelIn l k) (valueIn l k))) l o m r → StepIs (settled (up c (coreOf l o) i)) l o m r
+  pub up-box : StepIs (upBy c l o k b (channelIn l k)) l o m r → StepIs (settled (up c (coreOf l o) i)) l o m r
   up-box x =
       subst (λ (y : ℕ). StepIs (settled (up c (coreOf l o) y)) l o m r) same
       (rw (core.up-from (coreOf l o) (ok .short-outputs) (ok .few) c k _ _ _ _ (output-at l o ok k (a .held) (a .is)) (a .tag))
-      (subst (λ (y : ℕ). StepIs (settled (upFrom c (coreOf l o) k y (channelIn l k) (valueIn l k))) l o m r) be x))
+      (subst (λ (y : ℕ). StepIs (upBy c l o k y (channelIn l k)) l o m r) be x))
 
-  pub up-lobby : b ≤ 0 → StepIs (settled (upFrom c (coreOf l o) k 0 (channelIn l k) (valueIn l k))) l o m r → StepIs (settled (up c (coreOf l o) i)) l o m r
-  up-lobby z x = let e : 0 ≡ b = omega arith in up-box (subst (λ (y : ℕ). StepIs (settled (upFrom c (coreOf l o) k y (channelIn l k) (valueIn l k))) l o m r) e x)
+  pub up-lobby : b ≤ 0 → StepIs (upBy c l o k 0 (channelIn l k)) l o m r → StepIs (settled (up c (coreOf l o) i)) l o m r
+  up-lobby z x = let e : 0 ≡ b = omega arith in up-box (subst (λ (y : ℕ). StepIs (upBy c l o k y (channelIn l k)) l o m r) e x)
 
-  pub up-shelf : b ≤ 0 → channelIn l k ≡ 2 → StepIs (settled (upFrom c (coreOf l o) k 0 2 (valueIn l k))) l o m r → StepIs (settled (up c (coreOf l o) i)) l o m r
-  up-shelf z e x = up-lobby z (subst (λ (y : ℕ). StepIs (settled (upFrom c (coreOf l o) k 0 y (valueIn l k))) l o m r) (sym e) x)
+  pub up-shelf : b ≤ 0 → channelIn l k ≡ 2 → StepIs (upBy c l o k 0 2) l o m r → StepIs (settled (up c (coreOf l o) i)) l o m r
+  up-shelf z e x = up-lobby z (subst (λ (y : ℕ). StepIs (upBy c l o k 0 y) l o m r) (sym e) x)
 
 -- descend
 pub descend-did : (l : List ℕ) (o : Rest) (i k j : ℕ) → k ≡ i → (ok : Sane l o) (r : RestStep) (m : List ℕ) → DescendAt l o j k → m ≡ movedTo l (144 * k) j FromParent → Says said.Silent o r →

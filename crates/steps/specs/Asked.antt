@@ -3,18 +3,20 @@ use mathlib.Core.Path.{_≡_}
 use mathlib.Core.Bool.{Bool, true, false, not, cond}
 use mathlib.Core.List.{List, []}
 use Prim.Native.Nat.{ℕ, _<_, _≤_}
+use lib.Dec.{eqb}
 use lib.ListN.{length, getD}
-use Rattle.model.specs.Basics.{_or_, Res, refuse, every, oneOf}
+use Rattle.model.specs.Basics.{_&_, _or_, Res, refuse, every, oneOf}
 use Rattle.model.specs.Values.{isValue, isMinted}
-use Rattle.model.specs.Wrapper.{allSides, filter, pipeline}
+use Rattle.model.specs.Wrapper.{allSides, shelves, filter, pipeline}
 use Rattle.model.specs.Load.{Setting}
 use Rattle.model.specs.Side.{takenAt}
-use Rattle.model.specs.Step.{Moved, isDown, isArrived, isLeaving, isToParent, isToChild, marked}
+use Rattle.model.specs.Step.{Moved, isDown, isArrived, isLeaving, isToParent, isToChild, upFrom, marked, settled}
 use Rattle.values.specs.Env.{Stores}
 use Rattle.sides.specs.declared.Message.{Message}
 use Rattle.sides.specs.Views.{viewStatus}
 use Rattle.sides.specs.declared.Rest.{Rest}
 use Rattle.sides.specs.Layout.{rowAt, placesOf, tagIn, viewPlace, boxesOf, viewBox, fitsShelf}
+use Rattle.sides.specs.Sides.{coreOf}
 use Rattle.steps.specs.declared.Said.{Said}
 use Rattle.steps.specs.declared.Offer.{Offer}
 use Rattle.steps.specs.declared.Offer.the-variants.{At, Refused}
@@ -31,12 +33,12 @@ pub record Says (s : Said) (o : Rest) (r : RestStep) : Type 0 where
   pub value : Stores [] (r .value)
   pub rest : r .rest ≡ o
 
--- the position asked for, with the facts P of it; or the number with which the model refuses
+-- the position or value length i, with the facts P of it; or the number with which the model refuses
 abbrev pub OfferIs : Res Moved → ℕ → (ℕ → Type 0) → Offer → Type 0
 OfferIs m i P (At k) = (k ≡ i) × P k
 OfferIs m i P (Refused n) = m ≡ refuse n
 
--- the number i where P holds, or the refusal x where it does not
+-- the position or value length i where P holds, or the refusal x where it does not
 abbrev pub OfferIf : Type 0 → (i x : ℕ) → Offer → Type 0
 OfferIf P i x (At k) = (k ≡ i) × P
 OfferIf P i x (Refused n) = (n ≡ x) × (P → ⊥)
@@ -65,6 +67,14 @@ channelIn l i = getD (rowAt l i) 2 0
 abbrev pub valueIn : List ℕ → ℕ → List ℕ
 valueIn l i = viewPlace (getD (placesOf (rowAt l i)) 0 [])
 
+-- what comes up on the channel ch goes to the shelf
+abbrev pub goesToShelf : Setting → ℕ → Bool
+goesToShelf c ch = shelves (c .wrapper) (c .side) & eqb ch 2
+
+-- what the model makes of output i of box b as it goes up on the channel ch
+abbrev pub upBy : Setting → List ℕ → Rest → (i b ch : ℕ) → Res Moved
+upBy c l o i b ch = settled (upFrom c (coreOf l o) i b ch (valueIn l i))
+
 -- a setting whose side has a shelf, or has none: all that up reads of its setting
 abbrev pub withShelf : Bool → Setting
 withShelf b = record { wrapper = cond b pipeline filter; side = 1; table = record { nodes = []; pool = [] } }
@@ -92,11 +102,12 @@ knownBy ms w = oneOf (λ l. marked l w) ms
 abbrev pub mayEnter : List (List Bool) → ℕ → Bool
 mayEnter ms w = not (isMinted w) or knownBy ms w
 
--- the words ws are a value that may enter, and the lobby has room for a place k
-pub record EnterAt (ms : List (List Bool)) (ws : List ℕ) (k : ℕ) : Type 0 where
+-- the k words ws are a value that may enter, and there is room for a message
+pub record EnterAt (o : Rest) (ms : List (List Bool)) (ws : List ℕ) (k : ℕ) : Type 0 where
   pub shape : isValue ws ≡ true
   pub names : every (mayEnter ms) ws ≡ true
-  pub room : k < 16
+  pub short : k ≤ 16
+  pub room : o .lobby .len < 16
 
 -- the words l of a source have n values on their shelf
 pub record Source (source : ℕ) (l : List ℕ) (n : ℕ) : Type 0 where

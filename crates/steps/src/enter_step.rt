@@ -5,17 +5,15 @@ ghost use Rattle.model.specs.Basics.{every};
 ghost use Rattle.model.specs.Wrapper.{allSides};
 ghost use Rattle.model.specs.Step.{enter, settled};
 ghost use Rattle.sides.specs.Sides.{coreOf};
-ghost use Rattle.steps.specs.Asked.{OfferIs};
-ghost use Rattle.steps.specs.Asked.{EnterAt, knownBy, mayEnter};
+ghost use Rattle.steps.specs.Asked.{OfferIs, EnterAt, knownBy, mayEnter};
 ghost use Rattle.steps.specs.StepIs.{Sane, StepIs};
 use crate::Offer;
 use crate::RestStep;
 use crate::Said;
 use crate::left_marks::may_enter;
-use crate::room::placed;
+use crate::room::lobby_offer;
 use sides::Message;
 use sides::Rest;
-use sides::Side;
 use sides::Sides;
 use sides::Status;
 use values::Value;
@@ -37,7 +35,7 @@ fn all_may_enter(marks: &[[bool; Sides::MARKS]; Sides::COUNT], words: &[u32]) ->
     true
 }
 
-// Whether the words are a value that may enter, with room for a message more. The position is the lobby place that it takes.
+// Whether the words are a value that may enter, with room for a message more. The answer is the value length.
 fn enter_offer(
     rows: &[u32],
     o: Rest,
@@ -45,7 +43,7 @@ fn enter_offer(
     words: &[u32],
 ) -> Offer
     requires { ⌜ (Sane (now rows) o) × (length (now marks) ≡ length allSides) ⌝ }
-    ensures { λ r. ⌜ OfferIs (settled (enter (knownBy (now (marks .entry))) (coreOf (now (rows .entry)) o) (now (words .entry)))) (o .lobby .len) (EnterAt (now (marks .entry)) (now (words .entry))) r ⌝ }
+    ensures { λ r. ⌜ OfferIs (settled (enter (knownBy (now (marks .entry))) (coreOf (now (rows .entry)) o) (now (words .entry)))) (length (now (words .entry))) (EnterAt o (now (marks .entry)) (now (words .entry))) r ⌝ }
 {
     if !is_value(words) {
         return Offer::Refused(11);
@@ -54,11 +52,7 @@ fn enter_offer(
         return Offer::Refused(12);
     }
     let l = o.lobby;
-    let n = l.len;
-    if !Side::lobby_within(n + 1) {
-        return Offer::Refused(17);
-    }
-    Offer::At(n)
+    lobby_offer(l.len, words.len())
 }
 
 // Enter: a down message on `in` is added to the lobby. No word changes.
@@ -72,13 +66,13 @@ pub fn enter(
     ensures { λ r. ⌜ StepIs (settled (enter (knownBy (now (marks .entry))) (coreOf (now (rows .entry)) o) (now (words .entry)))) (now (rows .entry)) o (now (rows .entry)) r ⌝ }
 {
     let a = enter_offer(rows, o, marks, words);
-    let Offer::At(k) = a else {
+    let Offer::At(n) = a else {
         return RestStep::plain(Said::Refused(a.number()), o);
     };
     let l = o.lobby;
-    let value = Value::of(words);
+    let value = Value::of(&words[..n]);
     let m = Message::new(Status::Down, 0, value);
-    let rest = o.with_lobby(placed(l, k, m));
+    let rest = o.with_lobby(l.with(m));
     RestStep {
         said: Said::In,
         value,

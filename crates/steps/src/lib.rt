@@ -35,7 +35,7 @@ pub struct RestStep {
     pub rest: Rest,
 }
 
-// What a check of a step answers: the position that it may act on, or the number of a refusal.
+// What a check of a step answers: the position or the value length that the step goes on with, or the number of a refusal.
 pub enum Offer {
     At(usize),
     Refused(u32),

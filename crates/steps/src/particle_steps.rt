@@ -2,23 +2,19 @@
 ghost use mathlib.Core.Path.{_≡_};
 ghost use mathlib.Core.Bool.{true, false};
 ghost use Prim.Native.Nat.{_<_};
-ghost use lib.Dec.{eqb};
 ghost use lib.ListN.{getD};
-ghost use Rattle.model.specs.Basics.{_&_};
 ghost use Rattle.model.specs.Load.{Setting};
 ghost use Rattle.model.specs.Wrapper.{shelves};
-ghost use Rattle.model.specs.Step.{up, upFrom, descend, settled};
+ghost use Rattle.model.specs.Step.{up, descend, settled};
 ghost use Rattle.sides.specs.Layout.{rowAt};
 ghost use Rattle.sides.specs.Sides.{coreOf};
-ghost use Rattle.steps.specs.Asked.{OfferIs};
-ghost use Rattle.steps.specs.Asked.{channelIn, valueIn, withShelf, UpAt, DescendAt};
+ghost use Rattle.steps.specs.Asked.{OfferIs, channelIn, withShelf, goesToShelf, upBy, UpAt, DescendAt};
 ghost use Rattle.steps.specs.StepIs.{Sane, StepIs};
 use crate::Offer;
 use crate::RestStep;
 use crate::Said;
-use crate::room::lobby_place;
-use crate::room::placed;
-use crate::room::shelf_place;
+use crate::room::lobby_offer;
+use crate::room::shelf_offer;
 use sides::Message;
 use sides::Rest;
 use sides::Row;
@@ -56,9 +52,9 @@ fn up_offer(rows: &[u32], o: Rest, i: usize) -> Offer
 // Output i goes out of box 0, where it is on `mid`, to the shelf.
 fn to_shelf(rows: &mut [u32], o: Rest, i: usize) -> RestStep
     requires { ⌜ (Sane (now rows) o) × (i < o .particles) × (getD (rowAt (now rows) i) 0 0 ≡ 1) ⌝ }
-    ensures { λ r. ⌜ ((c : Setting) → shelves (c .wrapper) (c .side) ≡ true → StepIs (settled (upFrom c (coreOf (now (rows .entry)) o) i 0 2 (valueIn (now (rows .entry)) i))) (now (rows .entry)) o (now (rows .exit)) r) ⌝ }
+    ensures { λ r. ⌜ ((c : Setting) → shelves (c .wrapper) (c .side) ≡ true → StepIs (upBy c (now (rows .entry)) o i 0 2) (now (rows .entry)) o (now (rows .exit)) r) ⌝ }
 {
-    let a = shelf_place(o.shelved);
+    let a = shelf_offer(o.shelved);
     let Offer::At(h) = a else {
         return RestStep::plain(Said::Refused(a.number()), o);
     };
@@ -70,26 +66,23 @@ fn to_shelf(rows: &mut [u32], o: Rest, i: usize) -> RestStep
 // Output i goes out of box 0 to the lobby.
 fn to_lobby(rows: &mut [u32], o: Rest, i: usize) -> RestStep
     requires { ⌜ (Sane (now rows) o) × (i < o .particles) × (getD (rowAt (now rows) i) 0 0 ≡ 1) ⌝ }
-    ensures { λ r. ⌜ ((c : Setting) → shelves (c .wrapper) (c .side) & eqb (channelIn (now (rows .entry)) i) 2 ≡ false → StepIs (settled (upFrom c (coreOf (now (rows .entry)) o) i 0 (channelIn (now (rows .entry)) i) (valueIn (now (rows .entry)) i))) (now (rows .entry)) o (now (rows .exit)) r) ⌝ }
+    ensures { λ r. ⌜ ((c : Setting) → goesToShelf c (channelIn (now (rows .entry)) i) ≡ false → StepIs (upBy c (now (rows .entry)) o i 0 (channelIn (now (rows .entry)) i)) (now (rows .entry)) o (now (rows .exit)) r) ⌝ }
 {
     let l = o.lobby;
-    let a = lobby_place(l.len);
+    let a = lobby_offer(l.len, i);
     let Offer::At(k) = a else {
         return RestStep::plain(Said::Refused(a.number()), o);
     };
-    let ch = word_at(rows, i, Row::CHANNEL);
-    let m = Message::new(Status::Arrived, ch, value_at(rows, i, 0));
-    let n = remove_row(rows, i, o.particles);
-    RestStep::plain(
-        Said::Silent,
-        o.with_particles(n).with_lobby(placed(l, k, m)),
-    )
+    let ch = word_at(rows, k, Row::CHANNEL);
+    let m = Message::new(Status::Arrived, ch, value_at(rows, k, 0));
+    let n = remove_row(rows, k, o.particles);
+    RestStep::plain(Said::Silent, o.with_particles(n).with_lobby(l.with(m)))
 }
 
 // Output i goes out of box b, another than box 0, to that box's parent.
 fn to_box(rows: &mut [u32], o: Rest, i: usize, b: usize) -> RestStep
     requires { ⌜ (Sane (now rows) o) × (i < o .particles) × (getD (rowAt (now rows) i) 0 0 ≡ 1) × (0 < b) × (b < o .boxes) ⌝ }
-    ensures { λ r. ⌜ ((c : Setting) → StepIs (settled (upFrom c (coreOf (now (rows .entry)) o) i b (channelIn (now (rows .entry)) i) (valueIn (now (rows .entry)) i))) (now (rows .entry)) o (now (rows .exit)) r) ⌝ }
+    ensures { λ r. ⌜ ((c : Setting) → StepIs (upBy c (now (rows .entry)) o i b (channelIn (now (rows .entry)) i)) (now (rows .entry)) o (now (rows .exit)) r) ⌝ }
 {
     let n = box_name(rows, b);
     move_output(rows, i, box_parent(rows, b), Tag::FromChild(n));

@@ -6,12 +6,12 @@ ghost use Rattle.model.specs.Side.{takenAt};
 ghost use Rattle.model.specs.Step.{takes, settled};
 ghost use Rattle.sides.specs.Layout.{viewShelf};
 ghost use Rattle.sides.specs.Sides.{coreOf};
-ghost use Rattle.steps.specs.Asked.{OfferIs};
-ghost use Rattle.steps.specs.Asked.{TakeAt, Source};
+ghost use Rattle.steps.specs.Asked.{OfferIs, TakeAt, Source};
 ghost use Rattle.steps.specs.StepIs.{Sane, StepIs};
 use crate::Offer;
 use crate::RestStep;
 use crate::Said;
+use crate::room::lobby_offer;
 use sides::Message;
 use sides::Rest;
 use sides::Side;
@@ -46,10 +46,7 @@ fn take_offer(
         return Offer::Refused(13);
     }
     let l = o.lobby;
-    if !Side::lobby_within(l.len + 1) {
-        return Offer::Refused(17);
-    }
-    Offer::At(i)
+    lobby_offer(l.len, i)
 }
 
 // Take: shelf i of the source, whose words are lent too, is marked and added to the lobby as down on `mid`. No word changes.

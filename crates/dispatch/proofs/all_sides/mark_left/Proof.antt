@@ -6,10 +6,19 @@ use Rattle.dispatch.proofs.all_sides.mark_left.Statement.{statement}
 use Rattle.dispatch.proofs.all_sides.mark_left.Tie as tie
 
 returns : tie.Need-returns
-returns c = let x = c .before .before .before .before .before in marked-out (x .args .said) (viewValue (x .args .v)) (x .args .marks .now) _ _ _ (sym (c .before .before .before .is-out .ensures) ∙ c .before .before .if1 .taken) (c .before .before .before .before .place-of .ensures) (c .mark-all .ensures)
+returns c =
+    let at-if1 = c .before .before in
+    let at-out = at-if1 .before in
+    let at-place = at-out .before in
+    let a = at-place .before .args in
+    let out = sym (at-out .is-out .ensures) ∙ at-if1 .if1 .taken in
+    marked-out (a .said) (viewValue (a .v)) (a .marks .now) _ _ _ out (at-place .place-of .ensures) (c .mark-all .ensures)
 
 returns-2 : tie.Need-returns-2
-returns-2 c = let x = c .before .before .before in marked-not (x .args .said) (viewValue (x .args .v)) (x .args .marks .now) _ (sym (c .before .is-out .ensures) ∙ c .if1 .left)
+returns-2 c =
+    let at-out = c .before in
+    let a = at-out .before .before .args in
+    marked-not (a .said) (viewValue (a .v)) (a .marks .now) _ (sym (at-out .is-out .ensures) ∙ c .if1 .left)
 
 pub mark-left-spec : {M : Type 1} → statement M
 mark-left-spec =

@@ -1,9 +1,8 @@
 use Rattle.model.specs.Step.{goDown, up, pass, leave, settled}
 use Rattle.sides.specs.Sides.{coreOf}
 use Rattle.steps.specs.Asked.{withShelf}
-use Rattle.steps.proofs.Held.{refused-is}
 use Rattle.dispatch.specs.Stepping.{onePlace}
-use Rattle.dispatch.proofs.ByKind.{step-by, one-down, one-up, one-pass, one-leave, one-none}
+use Rattle.dispatch.proofs.ByKind.{step-by, one-down, one-up, one-pass, one-leave}
 use borrow.Author.Needs.{needs}
 use Rattle.dispatch.proofs.own_side.one_place.Statement.{statement}
 use Rattle.dispatch.proofs.own_side.one_place.Tie as tie
@@ -43,25 +42,18 @@ returns-3 c =
 
 returns-4 : tie.Need-returns-4
 returns-4 c =
-    let x = c .before .before .before .before .before .before .before in
+    let at-if3 = c .before .before in
+    let at-if2 = at-if3 .before in
+    let at-if1 = at-if2 .before in
+    let x = at-if1 .before .before in
     let l = x .args .rows .now in
     let o = x .args .o in
     let i = x .args .i in
     let k = x .args .kind in
     let s = coreOf l o in
     let b = withShelf (x .args .shelving) in
-    step-by (settled (onePlace b s k i)) (settled (leave s i)) l o _ _ (one-leave b s k i (c .before .before .if4 .taken)) (c .leave .ensures)
-
-returns-5 : tie.Need-returns-5
-returns-5 c =
-    let x = c .before .before .before .before .before .before in
-    let l = x .args .rows .now in
-    let o = x .args .o in
-    let i = x .args .i in
-    let k = x .args .kind in
-    let s = coreOf l o in
-    let b = withShelf (x .args .shelving) in
-    refused-is _ l o 10 _ (one-none b s k i (c .before .before .before .before .if1 .left) (c .before .before .before .if2 .left) (c .before .before .if3 .left) (c .before .if4 .left)) (c .plain .ensures)
+    let seven = one-leave b s k i (x .pre .1) (at-if1 .if1 .left) (at-if2 .if2 .left) (at-if3 .if3 .left) in
+    step-by (settled (onePlace b s k i)) (settled (leave s i)) l o _ _ seven (c .leave .ensures)
 
 pub one-place-spec : {M : Type 1} → statement M
 one-place-spec =
@@ -78,6 +70,4 @@ one-place-spec =
     returns-3
     (λ c κs. search needs)
     (λ c. search needs)
-    returns-4
-    (λ c κs. search needs)
-    returns-5)
+    returns-4)

@@ -3,8 +3,9 @@ use lib.ListN.{length}
 use Rattle.model.specs.Step.{local, settled}
 use Rattle.sides.specs.Sides.{coreOf}
 use Rattle.steps.specs.Asked.{knownBy}
+use Rattle.steps.proofs.Held.{if-at, if-refused}
 use Rattle.dispatch.specs.Stepping.{settingOf, asked}
-use Rattle.dispatch.proofs.ByKind.{own-sane, step-by, ten-is, if-at, if-refused, kind-is, own-two, own-words}
+use Rattle.dispatch.proofs.ByKind.{own-sane, step-by, ten-is, kind-is, own-two, own-words}
 use borrow.Author.Needs.{needs}
 use Rattle.dispatch.proofs.own_side.own_step.Statement.{statement}
 use Rattle.dispatch.proofs.own_side.own_step.Tie as tie

@@ -12,7 +12,7 @@ returns c =
     let at-defined-at = c .before in
     let start = at-defined-at .before .before .before .before in
     let a = start .args in
-    body-15 (a .n) (term (table (a .nodes .now) (a .pool .now)) (a .n)) (envOf (a .e .now) (a .d)) (at-defined-at .defined-at .ensures) (not-true _ (c .if1 .taken))
+    body-15 (a .d) (term (table (a .nodes .now) (a .pool .now)) (a .n)) (envOf (a .e .now) (a .d)) (at-defined-at .defined-at .ensures) (not-true _ (c .if1 .taken))
 
 returns-2 : tie.Need-returns-2
 returns-2 c =
@@ -22,7 +22,7 @@ returns-2 c =
     let start = at-defined-at .before .before .before .before in
     let a = start .args in
     let yes = not-false _ (at-if1 .if1 .left) in
-    body-16 (a .n) (term (table (a .nodes .now) (a .pool .now)) (a .n)) (envOf (a .e .now) (a .d)) (at-defined-at .defined-at .ensures) yes (at-too-long .too-long .ensures) (c .if2 .taken)
+    body-16 (a .d) (term (table (a .nodes .now) (a .pool .now)) (a .n)) (envOf (a .e .now) (a .d)) (at-defined-at .defined-at .ensures) yes (at-too-long .too-long .ensures) (c .if2 .taken)
 
 returns-3 : tie.Need-returns-3
 returns-3 c =
@@ -32,7 +32,7 @@ returns-3 c =
     let start = at-defined-at .before .before .before .before in
     let a = start .args in
     let yes = not-false _ (at-if1 .if1 .left) in
-    body-at (a .n) (term (table (a .nodes .now) (a .pool .now)) (a .n)) (envOf (a .e .now) (a .d)) (at-defined-at .defined-at .ensures) yes (at-too-long .too-long .ensures) (c .if2 .left)
+    body-at (a .d) (term (table (a .nodes .now) (a .pool .now)) (a .n)) (envOf (a .e .now) (a .d)) (at-defined-at .defined-at .ensures) yes (at-too-long .too-long .ensures) (c .if2 .left)
 
 pub body-offer-spec : {M : Type 1} → statement M
 body-offer-spec =

@@ -1,10 +1,13 @@
-use mathlib.Core.Path.{refl}
+use mathlib.Core.Path.{_≡_, refl, sym}
+use lib.ListN.{length}
+use lib.Seq.{length-take-le}
 use Rattle.model.specs.Step.{enter, settled}
 use Rattle.values.proofs.Lists.{unmap}
 use Rattle.sides.specs.Sides.{coreOf}
 use Rattle.steps.specs.Asked.{EnterAt, knownBy}
 use Rattle.steps.proofs.Held.{Full, offer-at, offer-refused}
 use Rattle.steps.proofs.EnterSteps.{enter-did}
+use native.Mathlib.Omega.{arith}
 use borrow.Author.Needs.{needs}
 use Rattle.steps.proofs.enter_step.enter.Statement.{statement}
 use Rattle.steps.proofs.enter_step.enter.Tie as tie
@@ -12,49 +15,51 @@ use Rattle.steps.proofs.enter_step.enter.Tie as tie
 full : (x : tie.Start) → Full (x .args .o)
 full x = record { msgs = search unmap }
 
+-- the start, by what the check answered
+abbrev start : tie.After-a → tie.Start
+start p = p .before .before .before .before .before
+
+-- the value length n, which the check answered, is that of all words
+found : (p : tie.After-a) → (p .a .given .0 .0 ≡ length (start p .args .words .now)) × EnterAt (start p .args .o) (start p .args .marks .now) (start p .args .words .now) (p .a .given .0 .0)
+found p =
+    let a = start p .args in
+    let ms = a .marks .now in
+    let ws = a .words .now in
+    let w = p .before .before .enter-offer in
+    offer-at (settled (enter (knownBy ms) (coreOf (a .rows .now) (a .o)) ws)) (length ws) (EnterAt (a .o) ms ws) (w .result) (w .ensures) _ (p .a .given .1)
+
 returns : tie.Need-returns
 returns c =
     let at-number = c .before in
     let at-told = at-number .before in
     let at-offer = at-told .before .before in
-    let x = at-offer .before .before .before in
-    let l = x .args .rows .now in
-    let o = x .args .o in
-    let ms = x .args .marks .now in
-    let ws = x .args .words .now in
+    let a = at-offer .before .before .before .args in
+    let l = a .rows .now in
+    let o = a .o in
+    let ms = a .marks .now in
+    let ws = a .words .now in
     let w = at-offer .enter-offer in
-    offer-refused (settled (enter (knownBy ms) (coreOf l o) ws)) (o .lobby .len) (EnterAt ms ws) (w .result) (w .ensures) _ (at-number .number .result) l o _
+    offer-refused (settled (enter (knownBy ms) (coreOf l o) ws)) (length ws) (EnterAt o ms ws) (w .result) (w .ensures) _ (at-number .number .result) l o _
     (at-told .enum-told .given .1) (at-number .number .ensures) (c .plain .ensures)
 
-placed-requires : tie.Need-placed-requires
-placed-requires c κs =
-    let at-a = c .before .before .before .before in
-    let at-offer = at-a .before .before in
-    let x = at-offer .before .before .before in
-    let l = x .args .rows .now in
-    let o = x .args .o in
-    let ms = x .args .marks .now in
-    let ws = x .args .words .now in
-    let w = at-offer .enter-offer in
-    let p = offer-at (settled (enter (knownBy ms) (coreOf l o) ws)) (o .lobby .len) (EnterAt ms ws) (w .result) (w .ensures) _ (at-a .a .given .1) in
-    (p .0, p .1 .room)
+slice-aggregate-of : tie.Need-slice-aggregate-of
+slice-aggregate-of c =
+    let p = c .before .before .before in
+    sym (length-take-le _ (start p .args .words .now) (omega (arith, found p .0)))
+
+with-requires : tie.Need-with-requires
+with-requires c κs = found (c .before .before .before .before .before) .1 .room
 
 returns-2 : tie.Need-returns-2
 returns-2 c =
-    let at-placed = c .before in
-    let at-new = at-placed .before in
+    let at-with = c .before in
+    let at-new = at-with .before in
     let at-of = at-new .before in
-    let at-a = at-of .before .before .before in
-    let at-offer = at-a .before .before in
-    let x = at-offer .before .before .before in
-    let l = x .args .rows .now in
-    let o = x .args .o in
-    let ms = x .args .marks .now in
-    let ws = x .args .words .now in
-    let w = at-offer .enter-offer in
-    let p = offer-at (settled (enter (knownBy ms) (coreOf l o) ws)) (o .lobby .len) (EnterAt ms ws) (w .result) (w .ensures) _ (at-a .a .given .1) in
-    enter-did l o ms ws (x .pre .0) (full x) _ _ (at-of .of .result) (at-new .new .result) (at-placed .placed .result) (c .with-lobby .result) _ (p .0) (p .1)
-    (at-of .of .ensures) (at-new .new .ensures) (at-placed .placed .ensures) (c .with-lobby .ensures) refl
+    let p = at-of .before .before .before .before in
+    let x = start p in
+    let a = x .args in
+    enter-did (a .rows .now) (a .o) (a .marks .now) (a .words .now) (x .pre .0) (full x) _ _ (at-of .of .result) (at-new .new .result) (at-with .with .result) (c .with-lobby .result) _
+    (found p .0) (found p .1) (at-of .of .ensures) (at-new .new .ensures) (at-with .with .ensures) (c .with-lobby .ensures) refl
 
 pub enter-spec : {M : Type 1} → statement M
 enter-spec =
@@ -66,8 +71,9 @@ enter-spec =
     (λ c κs. search needs)
     (λ c κs. search needs)
     returns
+    slice-aggregate-of
     (λ c κs. search needs)
     (λ c κs. search needs)
-    placed-requires
+    with-requires
     (λ c κs. search needs)
     returns-2)

@@ -20,12 +20,19 @@ loop-holds : tie.Need-loop-holds Inv-loop μ-loop
 loop-holds c = (search needs, refl)
 
 returns : tie.Need-returns Inv-loop μ-loop
-returns c = let x = c .before .before .before .before .before .before in one-hit (λ (l : List Bool). getD l (x .args .m) false) (x .args .marks .now) (c .before .before .before .before .before .loop .k) [] (omega (arith, x .pre .0)) (sym (c .before .is-set .ensures) ∙ c .if1 .taken)
+returns c =
+    let at-loop = c .before .before .before .before .before in
+    let x = at-loop .before in
+    let set-at : List Bool → Bool = λ l. getD l (x .args .m) false in
+    one-hit set-at (x .args .marks .now) (at-loop .loop .k) [] (omega (arith, x .pre .0)) (sym (c .before .is-set .ensures) ∙ c .if1 .taken)
 
 loop-again : tie.Need-loop-again Inv-loop μ-loop
 loop-again c =
-    let x = c .before .before .before .before .before .before in
-    (search needs, one-more (λ (l : List Bool). getD l (x .args .m) false) (x .args .marks .now) (c .before .before .before .before .before .loop .k) [] (omega (arith, x .pre .0)) (sym (c .before .is-set .ensures) ∙ c .if1 .left) (c .before .before .before .before .before .loop .inv .1))
+    let at-loop = c .before .before .before .before .before in
+    let x = at-loop .before in
+    let set-at : List Bool → Bool = λ l. getD l (x .args .m) false in
+    let more = one-more set-at (x .args .marks .now) (at-loop .loop .k) [] (omega (arith, x .pre .0)) (sym (c .before .is-set .ensures) ∙ c .if1 .left) (at-loop .loop .inv .1) in
+    (search needs, more)
 
 returns-2 : tie.Need-returns-2 Inv-loop μ-loop
 returns-2 c = let x = c .before .before in one-none (λ (l : List Bool). getD l (x .args .m) false) (x .args .marks .now) (c .before .loop .k) (omega (arith, x .pre .0)) (c .before .loop .inv .1)

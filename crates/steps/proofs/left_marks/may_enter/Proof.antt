@@ -6,13 +6,27 @@ use Rattle.steps.proofs.left_marks.may_enter.Statement.{statement}
 use Rattle.steps.proofs.left_marks.may_enter.Tie as tie
 
 is-set-in-any-requires : tie.Need-is-set-in-any-requires
-is-set-in-any-requires c κs = let x = c .before .before .before in (x .pre, omega (arith, c .mark-of .ensures, mark-in (x .args .w) (sym (c .before .before .is-minted .ensures) ∙ c .before .if1 .taken)))
+is-set-in-any-requires c κs =
+    let at-if1 = c .before in
+    let at-minted = at-if1 .before in
+    let x = at-minted .before in
+    let minted = sym (at-minted .is-minted .ensures) ∙ at-if1 .if1 .taken in
+    (x .pre, omega (arith, c .mark-of .ensures, mark-in (x .args .w) minted))
 
 returns : tie.Need-returns
-returns c = let x = c .before .before .before .before in may-minted (x .args .marks .now) (x .args .w) _ _ (sym (c .before .before .before .is-minted .ensures) ∙ c .before .before .if1 .taken) (c .before .mark-of .ensures) (c .is-set-in-any .ensures)
+returns c =
+    let at-mark = c .before in
+    let at-if1 = at-mark .before in
+    let at-minted = at-if1 .before in
+    let x = at-minted .before in
+    let minted = sym (at-minted .is-minted .ensures) ∙ at-if1 .if1 .taken in
+    may-minted (x .args .marks .now) (x .args .w) _ _ minted (at-mark .mark-of .ensures) (c .is-set-in-any .ensures)
 
 returns-2 : tie.Need-returns-2
-returns-2 c = let x = c .before .before in may-other (x .args .marks .now) (x .args .w) (sym (c .before .is-minted .ensures) ∙ c .if1 .left)
+returns-2 c =
+    let at-minted = c .before in
+    let x = at-minted .before in
+    may-other (x .args .marks .now) (x .args .w) (sym (at-minted .is-minted .ensures) ∙ c .if1 .left)
 
 pub may-enter-spec : {M : Type 1} → statement M
 may-enter-spec =

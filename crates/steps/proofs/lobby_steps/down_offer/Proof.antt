@@ -54,19 +54,24 @@ add-particles-within c =
 
 returns-3 : tie.Need-returns-3
 returns-3 c =
-    let x = c .before .before .before .before .before .before .before .before .before in
-    let l = x .args .rows .now in
-    let o = x .args .o in
-    let i = x .args .i in
-    down-full l o i (x .pre) (full x) _ (c .before .before .before .before .before .before .if1 .left) (sym (c .before .before .before .before .is-down .ensures) ∙ not-false _ (c .before .before .before .if2 .left)) (none-more _ 32 _ (c .before .particles-within .ensures) (c .if3 .taken))
+    let at-within = c .before in
+    let at-if2 = at-within .before .before in
+    let at-down = at-if2 .before in
+    let at-if1 = at-down .before .before in
+    let x = at-if1 .before .before .before in
+    let is-down = sym (at-down .is-down .ensures) ∙ not-false _ (at-if2 .if2 .left) in
+    down-full (x .args .rows .now) (x .args .o) (x .args .i) (x .pre) (full x) _ (at-if1 .if1 .left) is-down (none-more _ 32 _ (at-within .particles-within .ensures) (c .if3 .taken))
 
 returns-4 : tie.Need-returns-4
 returns-4 c =
-    let x = c .before .before .before .before .before .before .before .before .before in
-    let l = x .args .rows .now in
-    let o = x .args .o in
-    let i = x .args .i in
-    (refl, down-may l o i (x .pre) (full x) _ (c .before .before .before .before .before .before .if1 .left) (sym (c .before .before .before .before .is-down .ensures) ∙ not-false _ (c .before .before .before .if2 .left)) (one-more _ 32 _ (c .before .particles-within .ensures) (c .if3 .left)))
+    let at-within = c .before in
+    let at-if2 = at-within .before .before in
+    let at-down = at-if2 .before in
+    let at-if1 = at-down .before .before in
+    let x = at-if1 .before .before .before in
+    let is-down = sym (at-down .is-down .ensures) ∙ not-false _ (at-if2 .if2 .left) in
+    let room = one-more _ 32 _ (at-within .particles-within .ensures) (c .if3 .left) in
+    (refl, down-may (x .args .rows .now) (x .args .o) (x .args .i) (x .pre) (full x) _ (at-if1 .if1 .left) is-down room)
 
 pub down-offer-spec : {M : Type 1} → statement M
 down-offer-spec =

@@ -1,9 +1,10 @@
+use mathlib.Core.Path.{_≡_}
+use Prim.Native.Nat.{_<_, _≤_}
 use Rattle.model.specs.Step.{pass, settled}
 use Rattle.values.proofs.Lists.{unmap}
 use Rattle.sides.specs.Sides.{coreOf}
-use Rattle.steps.proofs.Held.{offer-at}
 use Rattle.steps.specs.Asked.{PassAt}
-use Rattle.steps.proofs.Held.{Full, lobby-cap, offer-refused}
+use Rattle.steps.proofs.Held.{Full, lobby-cap, offer-at, offer-refused}
 use Rattle.steps.proofs.LobbySteps.{pass-did}
 use native.Mathlib.Omega.{arith}
 use borrow.Author.Needs.{needs}
@@ -13,49 +14,51 @@ use Rattle.steps.proofs.lobby_steps.pass.Tie as tie
 full : (x : tie.Start) → Full (x .args .o)
 full x = record { msgs = search unmap }
 
+-- the start, by what the check answered
+abbrev start : tie.After-a → tie.Start
+start p = p .before .before .before .before
+
+-- lobby k, which the check answered, is the i that was asked for
+found : (p : tie.After-a) → (p .a .given .0 .0 ≡ start p .args .i) × PassAt (start p .args .o) (p .a .given .0 .0)
+found p =
+    let a = start p .args in
+    let w = p .before .before .pass-offer in
+    offer-at (settled (pass (coreOf (a .rows .now) (a .o)) (a .i))) (a .i) (PassAt (a .o)) (w .result) (w .ensures) _ (p .a .given .1)
+
+in-lobby : (p : tie.After-a) → (p .a .given .0 .0 < start p .args .o .lobby .len) × (start p .args .o .lobby .len ≤ 16)
+in-lobby p = (found p .1 .held, lobby-cap (start p .args .rows .now) (start p .args .o) (start p .pre))
+
 returns : tie.Need-returns
 returns c =
-    let x = c .before .before .before .before .before .before in
+    let at-number = c .before in
+    let at-told = at-number .before in
+    let at-offer = at-told .before .before in
+    let x = at-offer .before .before in
     let l = x .args .rows .now in
     let o = x .args .o in
     let i = x .args .i in
-    offer-refused (settled (pass (coreOf l o) i)) i (PassAt o) (c .before .before .before .before .pass-offer .result) (c .before .before .before .before .pass-offer .ensures) _ (c .before .number .result) l o _ (c .before .before .enum-told .given .1) (c .before .number .ensures) (c .plain .ensures)
+    let w = at-offer .pass-offer in
+    offer-refused (settled (pass (coreOf l o) i)) i (PassAt o) (w .result) (w .ensures) _ (at-number .number .result) l o _
+    (at-told .enum-told .given .1) (at-number .number .ensures) (c .plain .ensures)
 
 mul-m : tie.Need-mul-m
-mul-m c =
-    let x = c .before .before .before .before .before .before in
-    let l = x .args .rows .now in
-    let o = x .args .o in
-    let i = x .args .i in
-    let w = offer-at (settled (pass (coreOf l o) i)) i (PassAt o) (c .before .before .before .before .pass-offer .result) (c .before .before .before .before .pass-offer .ensures) _ (c .before .before .a .given .1) in
-    omega (arith, w .1 .held, lobby-cap l o (x .pre))
+mul-m c = let h = in-lobby (c .before .before) in omega (arith, h .0, h .1)
 
 element-copy-out-m : tie.Need-element-copy-out-m
-element-copy-out-m c =
-    let x = c .before .before .before .before .before .before in
-    let l = x .args .rows .now in
-    let o = x .args .o in
-    let i = x .args .i in
-    let w = offer-at (settled (pass (coreOf l o) i)) i (PassAt o) (c .before .before .before .before .pass-offer .result) (c .before .before .before .before .pass-offer .ensures) _ (c .before .before .a .given .1) in
-    omega (arith, w .1 .held, lobby-cap l o (x .pre))
+element-copy-out-m c = let h = in-lobby (c .before .before) in omega (arith, h .0, h .1)
 
 replaced-requires : tie.Need-replaced-requires
-replaced-requires c κs =
-    let x = c .before .before .before .before .before .before .before .before .before in
-    let l = x .args .rows .now in
-    let o = x .args .o in
-    let i = x .args .i in
-    let w = offer-at (settled (pass (coreOf l o) i)) i (PassAt o) (c .before .before .before .before .before .before .before .pass-offer .result) (c .before .before .before .before .before .before .before .pass-offer .ensures) _ (c .before .before .before .before .before .a .given .1) in
-    (w .1 .held, lobby-cap l o (x .pre))
+replaced-requires c κs = in-lobby (c .before .before .before .before .before)
 
 returns-2 : tie.Need-returns-2
 returns-2 c =
-    let x = c .before .before .before .before .before .before .before .before .before .before .before .before in
-    let l = x .args .rows .now in
-    let o = x .args .o in
-    let i = x .args .i in
-    let w = offer-at (settled (pass (coreOf l o) i)) i (PassAt o) (c .before .before .before .before .before .before .before .before .before .before .pass-offer .result) (c .before .before .before .before .before .before .before .before .before .before .pass-offer .ensures) _ (c .before .before .before .before .before .before .before .before .a .given .1) in
-    pass-did l o i _ (w .0) (x .pre) (full x) _ _ (c .before .before .before .new .result) (c .before .before .replaced .result) (c .before .with-lobby .result) _ (w .1) (c .before .before .before .new .ensures) (c .before .before .replaced .ensures) (c .before .with-lobby .ensures) (c .plain2 .ensures)
+    let at-with-lobby = c .before in
+    let at-replaced = at-with-lobby .before in
+    let at-new = at-replaced .before in
+    let p = at-new .before .before .before .before .before in
+    let x = start p in
+    pass-did (x .args .rows .now) (x .args .o) (x .args .i) _ (found p .0) (x .pre) (full x) _ _ (at-new .new .result) (at-replaced .replaced .result) (at-with-lobby .with-lobby .result) _
+    (found p .1) (at-new .new .ensures) (at-replaced .replaced .ensures) (at-with-lobby .with-lobby .ensures) (c .plain2 .ensures)
 
 pub pass-spec : {M : Type 1} → statement M
 pass-spec =

@@ -72,12 +72,19 @@ word-at-requires-2 c κs =
 
 returns-5 : tie.Need-returns-5
 returns-5 c =
-    let x = c .before .before .before .before .before .before .before .before .before .before .before .before in
-    let l = x .args .rows .now in
-    let o = x .args .o in
-    let i = x .args .i in
-    let j = x .args .j in
-    descend-parent l o i (x .pre) (c .before .before .before .before .before .before .before .before .before .if1 .left) j (c .before .before .before .before .before .before .before .if2 .left) (sym (c .before .before .before .before .before .before .word-at .ensures) ∙ c .before .before .before .before .before .if3 .left) (λ e. c .if5 .taken (c .before .before .before .box-parent .ensures .0 ∙ e ∙ sym (c .before .wide .ensures ∙ c .before .before .word-at2 .ensures)))
+    let at-wide = c .before in
+    let at-box = at-wide .before in
+    let at-parent = at-box .before in
+    let at-if4 = at-parent .before in
+    let at-if3 = at-if4 .before in
+    let at-word = at-if3 .before in
+    let at-if2 = at-word .before in
+    let at-if1 = at-if2 .before .before in
+    let x = at-if1 .before .before .before in
+    let is = sym (at-word .word-at .ensures) ∙ at-if3 .if3 .left in
+    let box = at-wide .wide .ensures ∙ at-box .word-at2 .ensures in
+    descend-parent (x .args .rows .now) (x .args .o) (x .args .i) (x .pre) (at-if1 .if1 .left) (x .args .j) (at-if2 .if2 .left) is
+    (λ e. c .if5 .taken (at-parent .box-parent .ensures .0 ∙ e ∙ sym box))
 
 tag-at-requires : tie.Need-tag-at-requires
 tag-at-requires c κs =
@@ -97,23 +104,41 @@ box-name-requires c κs =
 
 returns-6 : tie.Need-returns-6
 returns-6 c =
-    let x = c .before .before .before .before .before .before .before .before .before .before .before .before .before .before .before .before in
-    let l = x .args .rows .now in
-    let o = x .args .o in
-    let i = x .args .i in
-    let j = x .args .j in
-    descend-name l o i (x .pre) (c .before .before .before .before .before .before .before .before .before .before .before .before .before .if1 .left) j (c .before .before .before .before .before .before .before .before .before .before .before .if2 .left) (sym (c .before .before .before .before .before .before .before .before .before .before .word-at .ensures) ∙ c .before .before .before .before .before .before .before .before .before .if3 .left) ((sym (ap₂ (λ (g : Tag) (n : ℕ). isToChild g n) (c .before .before .before .tag-at .ensures) (c .before .before .box-name .ensures))) ∙ sym (c .before .is-to-child .ensures) ∙ not-true _ (c .if6 .taken))
+    let at-to-child = c .before in
+    let at-name = at-to-child .before in
+    let at-tag = at-name .before in
+    let at-if5 = at-tag .before in
+    let at-parent = at-if5 .before .before .before in
+    let at-if4 = at-parent .before in
+    let at-if3 = at-if4 .before in
+    let at-word = at-if3 .before in
+    let at-if2 = at-word .before in
+    let at-if1 = at-if2 .before .before in
+    let x = at-if1 .before .before .before in
+    let is = sym (at-word .word-at .ensures) ∙ at-if3 .if3 .left in
+    let tag = sym (ap₂ (λ (g : Tag) (n : ℕ). isToChild g n) (at-tag .tag-at .ensures) (at-name .box-name .ensures)) in
+    descend-name (x .args .rows .now) (x .args .o) (x .args .i) (x .pre) (at-if1 .if1 .left) (x .args .j) (at-if2 .if2 .left) is
+    (tag ∙ sym (at-to-child .is-to-child .ensures) ∙ not-true _ (c .if6 .taken))
 
 returns-7 : tie.Need-returns-7
 returns-7 c =
-    let x = c .before .before .before .before .before .before .before .before .before .before .before .before .before .before .before .before in
-    let l = x .args .rows .now in
-    let o = x .args .o in
-    let i = x .args .i in
-    let j = x .args .j in
-    let parent = sym (c .before .before .before .before .before .before .before .box-parent .ensures .0) ∙ c .before .before .before .before .if5 .left ∙ c .before .before .before .before .before .wide .ensures ∙ c .before .before .before .before .before .before .word-at2 .ensures in
-    let tag = (sym (ap₂ (λ (g : Tag) (n : ℕ). isToChild g n) (c .before .before .before .tag-at .ensures) (c .before .before .box-name .ensures))) ∙ sym (c .before .is-to-child .ensures) ∙ not-false _ (c .if6 .left) in
-    (refl, record { held = c .before .before .before .before .before .before .before .before .before .before .before .before .before .if1 .left; box = c .before .before .before .before .before .before .before .before .before .before .before .if2 .left; inner = c .before .before .before .before .before .before .before .before .if4 .left; is = (sym (c .before .before .before .before .before .before .before .before .before .before .word-at .ensures) ∙ c .before .before .before .before .before .before .before .before .before .if3 .left); parent = parent; tag = tag })
+    let at-to-child = c .before in
+    let at-name = at-to-child .before in
+    let at-tag = at-name .before in
+    let at-if5 = at-tag .before in
+    let at-wide = at-if5 .before in
+    let at-box = at-wide .before in
+    let at-parent = at-box .before in
+    let at-if4 = at-parent .before in
+    let at-if3 = at-if4 .before in
+    let at-word = at-if3 .before in
+    let at-if2 = at-word .before in
+    let at-if1 = at-if2 .before .before in
+    let is = sym (at-word .word-at .ensures) ∙ at-if3 .if3 .left in
+    let parent = sym (at-parent .box-parent .ensures .0) ∙ at-if5 .if5 .left ∙ at-wide .wide .ensures ∙ at-box .word-at2 .ensures in
+    let tag = sym (ap₂ (λ (g : Tag) (n : ℕ). isToChild g n) (at-tag .tag-at .ensures) (at-name .box-name .ensures)) in
+    let child = tag ∙ sym (at-to-child .is-to-child .ensures) ∙ not-false _ (c .if6 .left) in
+    (refl, record { held = at-if1 .if1 .left; box = at-if2 .if2 .left; inner = at-if4 .if4 .left; is = is; parent = parent; tag = child })
 
 pub descend-offer-spec : {M : Type 1} → statement M
 descend-offer-spec =

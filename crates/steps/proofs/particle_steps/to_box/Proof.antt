@@ -32,11 +32,15 @@ move-output-requires c κs =
 returns : tie.Need-returns
 returns c =
     λ s.
-    let x = c .before .before .before .before .before .before .before .before .before .before in
+    let at-move = c .before .before .before in
+    let at-parent = at-move .before in
+    let at-name = at-parent .before .before .before in
+    let x = at-name .before .before .before in
     let l = x .args .rows .now in
     let o = x .args .o in
     let i = x .args .i in
-    box-did l o i (x .pre .0) (x .pre .1) (x .pre .2) _ s (x .args .b) _ _ _ (x .pre .3) (x .pre .4) (c .before .before .before .before .box-parent .ensures .0) (c .before .before .before .before .before .before .before .box-name .ensures) (c .before .before .before .move-output .ensures) (c .plain .ensures)
+    box-did l o i (x .pre .0) (x .pre .1) (x .pre .2) _ s (x .args .b) _ _ _ (x .pre .3) (x .pre .4)
+    (at-parent .box-parent .ensures .0) (at-name .box-name .ensures) (at-move .move-output .ensures) (c .plain .ensures)
 
 pub to-box-spec : {M : Type 1} → statement M
 to-box-spec =

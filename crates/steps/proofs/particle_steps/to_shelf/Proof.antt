@@ -1,5 +1,4 @@
 use Prim.Native.Nat.{_<_}
-use Rattle.steps.specs.Asked.{valueIn}
 use Rattle.steps.proofs.Held.{rows-cap, shelf-cap, value-in-place, if-at, if-refused}
 use Rattle.steps.proofs.ParticleSteps.{shelf-did, shelf-full}
 use native.Mathlib.Omega.{arith}
@@ -7,8 +6,8 @@ use borrow.Author.Needs.{needs}
 use Rattle.steps.proofs.particle_steps.to_shelf.Statement.{statement}
 use Rattle.steps.proofs.particle_steps.to_shelf.Tie as tie
 
-shelf-place-requires : tie.Need-shelf-place-requires
-shelf-place-requires c κs =
+shelf-offer-requires : tie.Need-shelf-offer-requires
+shelf-offer-requires c κs =
     let x = c .before in
     shelf-cap (x .args .rows .now) (x .args .o) (x .pre .0)
 
@@ -23,9 +22,9 @@ returns c =
     let o = x .args .o in
     let i = x .args .i in
     let n = o .shelved in
-    let w = at-place .shelf-place in
+    let w = at-place .shelf-offer in
     let no = if-refused (n < 32) n 17 (w .result) (w .ensures) _ (at-number .number .result) (at-told .enum-told .given .1) (at-number .number .ensures) in
-    shelf-full l o i (x .pre .0) s _ (valueIn l i) _ (no .0) (c .plain .ensures) e (no .1)
+    shelf-full l o i (x .pre .0) s _ _ (no .0) (c .plain .ensures) e (no .1)
 
 value-at-requires : tie.Need-value-at-requires
 value-at-requires c κs =
@@ -41,7 +40,7 @@ put-shelf-requires c κs =
     let at-place = at-a .before .before in
     let x = at-place .before .before in
     let n = x .args .o .shelved in
-    let w = at-place .shelf-place in
+    let w = at-place .shelf-offer in
     let p = if-at (n < 32) n 17 (w .result) (w .ensures) _ (at-a .a .given .1) in
     (x .pre .0 .long, omega (arith, p .0, p .1), c .value-at .ensures .short)
 
@@ -59,7 +58,7 @@ add-with-shelved c =
     let at-place = at-a .before .before in
     let x = at-place .before .before in
     let n = x .args .o .shelved in
-    let w = at-place .shelf-place in
+    let w = at-place .shelf-offer in
     let p = if-at (n < 32) n 17 (w .result) (w .ensures) _ (at-a .a .given .1) in
     omega (arith, p .0, p .1)
 
@@ -77,7 +76,7 @@ returns-2 c =
     let l = x .args .rows .now in
     let o = x .args .o in
     let n = o .shelved in
-    let w = at-place .shelf-place in
+    let w = at-place .shelf-offer in
     let p = if-at (n < 32) n 17 (w .result) (w .ensures) _ (at-a .a .given .1) in
     shelf-did l o (x .args .i) (x .pre .0) (x .pre .1) (x .pre .2) _ s (at-value .value-at .result) (at-value .value-at .ensures) _ (at-remove .remove-row .result)
     _ _ (at-particles .with-particles .result) (at-shelved .with-shelved .result) e (p .0) (p .1) (at-put .put-shelf .ensures) (at-remove .remove-row .ensures)
@@ -87,7 +86,7 @@ pub to-shelf-spec : {M : Type 1} → statement M
 to-shelf-spec =
     tie.close
     (tie.spec
-    shelf-place-requires
+    shelf-offer-requires
     (λ c. search needs)
     (λ c. search needs)
     (λ c κs. search needs)

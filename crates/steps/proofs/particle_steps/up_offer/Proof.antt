@@ -45,16 +45,27 @@ tag-at-requires c κs =
 returns-3 : tie.Need-returns-3
 returns-3 c =
     λ s.
-    let x = c .before .before .before .before .before .before .before .before in
-    let l = x .args .rows .now in
-    let o = x .args .o in
-    let i = x .args .i in
-    up-not l o i (x .pre) (c .before .before .before .before .before .if1 .left) s (sym (c .before .before .before .before .word-at .ensures) ∙ c .before .before .before .if2 .left) (ap isToParent (sym (c .before .before .tag-at .ensures)) ∙ sym (c .before .is-to-parent .ensures) ∙ not-true _ (c .if3 .taken))
+    let at-to-parent = c .before in
+    let at-tag = at-to-parent .before in
+    let at-if2 = at-tag .before in
+    let at-word = at-if2 .before in
+    let at-if1 = at-word .before in
+    let x = at-if1 .before .before .before in
+    let is = sym (at-word .word-at .ensures) ∙ at-if2 .if2 .left in
+    let tag = ap isToParent (sym (at-tag .tag-at .ensures)) ∙ sym (at-to-parent .is-to-parent .ensures) ∙ not-true _ (c .if3 .taken) in
+    up-not (x .args .rows .now) (x .args .o) (x .args .i) (x .pre) (at-if1 .if1 .left) s is tag
 
 returns-4 : tie.Need-returns-4
 returns-4 c =
     λ s.
-    (refl, record { held = c .before .before .before .before .before .if1 .left; is = (sym (c .before .before .before .before .word-at .ensures) ∙ c .before .before .before .if2 .left); tag = ap isToParent (sym (c .before .before .tag-at .ensures)) ∙ sym (c .before .is-to-parent .ensures) ∙ not-false _ (c .if3 .left) })
+    let at-to-parent = c .before in
+    let at-tag = at-to-parent .before in
+    let at-if2 = at-tag .before in
+    let at-word = at-if2 .before in
+    let at-if1 = at-word .before in
+    let is = sym (at-word .word-at .ensures) ∙ at-if2 .if2 .left in
+    let tag = ap isToParent (sym (at-tag .tag-at .ensures)) ∙ sym (at-to-parent .is-to-parent .ensures) ∙ not-false _ (c .if3 .left) in
+    (refl, record { held = at-if1 .if1 .left; is = is; tag = tag })
 
 pub up-offer-spec : {M : Type 1} → statement M
 up-offer-spec =
