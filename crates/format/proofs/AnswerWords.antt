@@ -1,5 +1,5 @@
 -- Answers of a run, and answers as words.
-use mathlib.Core.Path.{_≡_, refl, sym, ap, ap₂, _∙_}
+use mathlib.Core.Path.{_≡_, refl, ap, _∙_}
 use mathlib.Core.List.{List, [], _∷_, _++_, append-assoc}
 use Prim.Native.Nat.{ℕ, zero, suc, _+_, _-_, _*_, _≤_}
 use native.Mathlib.Omega.{arith}
@@ -7,7 +7,7 @@ use lib.ListN.{length, take, drop, replicate, length-append, length-replicate}
 use lib.Seq.{take-append-seam, drop-at}
 use Rattle.model.specs.Side.{State}
 use Rattle.model.specs.Load.{Composition}
-use Rattle.model.specs.Step.{Label, silent, enters, leaves, Step, Answer, labelled, refusal, step}
+use Rattle.model.specs.Step.{silent, enters, leaves, Step, Answer, labelled, refusal, step}
 use Rattle.model.specs.Answer.{valueBy}
 use Rattle.model.specs.Runs.{answers}
 use Rattle.format.specs.Words.{answerWords, allAnswerWords, answerOf, answersOf}

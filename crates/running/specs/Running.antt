@@ -33,7 +33,8 @@ pub record Put (ws : List ℕ) (n : ℕ) (lent after : List ℕ) : Type 0 where
   pub size : length ws ≡ 20 * n
   pub words : after ≡ onto ws lent
 
--- what a run comes to, by the enum and the lent words after it: the answers there, load's number, side and node, or that there is no run
+-- what a run comes to, by the enum and the lent words after it: the n answers there, load's number, side and node, a list that breaks
+-- off, or too few lent words; how many the answers are is n, so that no two cases give the same
 abbrev pub ranOf : Ran → (after : List ℕ) → FRan
 ranOf (ran.Done n) ws = answered (answersOf n ws)
 ranOf (ran.Refused k i m) ws = unloaded (record { number = k; side = i; node = m })

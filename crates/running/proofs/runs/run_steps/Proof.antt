@@ -120,7 +120,7 @@ loop-again c =
     let g = ⊎-elim
     (λ q.
     let has = has-asked (record { before = h; if1 = q .0 }) in
-    let made = turn-made now _ (x .args .t2) (x .args .t3) t (nodes-long x) (pools-long x) _ _ (q .1 .ensures) has _ _ _ lt room side _ _ _ (q .7 .ensures .step) (q .7 .ensures .marked) in
+    let made = turn-made now _ (x .args .t2) (x .args .t3) t (nodes-long x) (pools-long x) _ _ (q .1 .ensures) has _ _ _ lt room side _ _ _ (q .7 .ensures) in
     turn-as (q .14) (q .15) (q .16) (q .17) (q .18) (made _ _ (q .11 .ensures .0) (q .11 .ensures .1) next))
     (λ q.
     let lacks = sym (h .has-side .ensures) ∙ q .0 .left in

@@ -17,16 +17,16 @@ to-1 : (a : tie.Then1) → PassedTo (tableOf (a .before .before .before .before)
 to-1 a = pass1 (tableOf (a .before .before .before .before)) (sym (a .before .sizes-ok .ensures) ∙ a .if1 .taken)
 
 to-2 : (a : tie.After-enum-told) → PassedTo (tableOf (a .before .before .before .before .before .before .before)) 2
-to-2 a = pass2 (tableOf (a .before .before .before .before .before .before .before)) (to-1 (a .before .before .before)) (sym (a .before .before .lowest-bad-kind .ensures _) ∙ ap lowestOf (a .enum-told .given .1))
+to-2 a = pass2 _ (to-1 (a .before .before .before)) (sym (a .before .before .lowest-bad-kind .ensures _) ∙ ap lowestOf (a .enum-told .given .1))
 
 to-3 : (a : tie.After-enum-told2) → PassedTo (tableOf (a .before .before .before .before .before .before .before .before .before .before)) 3
-to-3 a = pass3 (tableOf (a .before .before .before .before .before .before .before .before .before .before)) (to-2 (a .before .before .before)) (sym (a .before .before .lowest-bad-child .ensures _) ∙ ap lowestOf (a .enum-told2 .given .1))
+to-3 a = pass3 _ (to-2 (a .before .before .before)) (sym (a .before .before .lowest-bad-child .ensures _) ∙ ap lowestOf (a .enum-told2 .given .1))
 
 to-4 : (a : tie.After-enum-told3) → PassedTo (tableOf (a .before .before .before .before .before .before .before .before .before .before .before .before .before)) 4
-to-4 a = pass4 (tableOf (a .before .before .before .before .before .before .before .before .before .before .before .before .before)) (to-3 (a .before .before .before)) (sym (a .before .before .lowest-bad-name .ensures _) ∙ ap lowestOf (a .enum-told3 .given .1))
+to-4 a = pass4 _ (to-3 (a .before .before .before)) (sym (a .before .before .lowest-bad-name .ensures _) ∙ ap lowestOf (a .enum-told3 .given .1))
 
 to-5 : (a : tie.After-enum-told4) → PassedTo (tableOf (a .before .before .before .before .before .before .before .before .before .before .before .before .before .before .before .before)) 5
-to-5 a = pass5 (tableOf (a .before .before .before .before .before .before .before .before .before .before .before .before .before .before .before .before)) (to-4 (a .before .before .before)) (sym (a .before .before .lowest-bad-place .ensures) ∙ ap lowestOf (a .enum-told4 .given .1))
+to-5 a = pass5 _ (to-4 (a .before .before .before)) (sym (a .before .before .lowest-bad-place .ensures) ∙ ap lowestOf (a .enum-told4 .given .1))
 
 lowest-bad-child-requires : tie.Need-lowest-bad-child-requires
 lowest-bad-child-requires c κs = few _ (to-1 (c .before .before .before) .size)
