@@ -6,7 +6,7 @@ use lib.Dec.{ltb}
 use lib.ListN.{length, getD, take, drop}
 use Rattle.model.specs.Basics.{choose}
 use Rattle.model.specs.Load.{Composition, Refused, Loaded, refused, ok, load}
-use Rattle.model.specs.Step.{silent, enters, leaves, Step, Answer}
+use Rattle.model.specs.Step.{silent, enters, leaves, Step, Answer, labelled, refusal}
 use Rattle.model.specs.Answer.{Said, label, number, Given, given}
 use Rattle.model.specs.Runs.{answers}
 
@@ -59,6 +59,27 @@ answerWords a = givenWords (given a)
 abbrev pub allAnswerWords : List Answer → List ℕ
 allAnswerWords [] = []
 allAnswerWords (a ∷ xs) = answerWords a ++ allAnswerWords xs
+
+-- what two words say, by `saidWords`
+abbrev pub saidIn : (word k : ℕ) → Said
+saidIn zero k = label silent
+saidIn (suc zero) k = label enters
+saidIn (suc (suc zero)) k = label leaves
+saidIn (suc (suc (suc w))) k = number k
+
+-- an answer of side n that says so, with the value words v
+abbrev pub answerBy : Said → (n : ℕ) → (v : List ℕ) → Answer
+answerBy (label l) n v = labelled l n v
+answerBy (number k) n v = refusal k n
+
+-- the answer whose words stand at the start of a list
+abbrev pub answerOf : List ℕ → Answer
+answerOf ws = answerBy (saidIn (getD ws 0 0) (getD ws 1 0)) (getD ws 2 0) (take (getD ws 3 0) (drop 4 ws))
+
+-- the n answers at the start of a list, 20 words each
+unfoldable pub answersOf : (n : ℕ) → List ℕ → List Answer
+answersOf zero ws = []
+answersOf (suc n) ws = answerOf ws ∷ answersOf n (drop 20 ws)
 
 -- what a run comes to: its steps break off, the words lent for the answers are too few, load refuses, or the answers
 pub data Ran : Type 0 where

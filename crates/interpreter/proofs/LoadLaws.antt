@@ -11,9 +11,9 @@ use lib.Seq.{take-suc, take-all}
 use Rattle.model.specs.Basics.{every, has}
 use Rattle.model.specs.Table.{Table}
 use Rattle.model.specs.Side.{Core, startSide, noSide}
-use Rattle.model.specs.Side.{Side as MSide}
+use Rattle.model.specs.Side.{Side as MSide, State as MState}
 use Rattle.model.specs.Wrapper.{allSides, hasSide}
-use Rattle.model.specs.Load.{Composition, wrapperOf, start, startOf, Loaded, refused, ok, load}
+use Rattle.model.specs.Load.{Composition, wrapperOf, start, startOf, Loaded, ok, load}
 use Rattle.model.proofs.Basics.Tests.{both}
 use Rattle.sides.proofs.Lists.{view-push, every-push}
 use Rattle.tables.specs.Nodes as slices
@@ -24,10 +24,10 @@ use Rattle.sides.specs.declared.State.{State}
 use Rattle.sides.specs.Sides.{SideIs, fitsSide, viewSide, viewState, fitsArrays, stateOf}
 use Rattle.loading.specs.declared.Outcome.{Outcome}
 use Rattle.loading.specs.declared.Outcome.the-variants.{Ok, Refused}
-use Rattle.loading.specs.Loading.{outcomeOf}
+use Rattle.loading.specs.Loading.{refusalOf, refusalIn}
 use Rattle.loading.specs.Starting.{Startable, StartIs}
-use Rattle.loading.proofs.Faults.{taken, table-at, side-number, map-at}
-use Rattle.interpreter.specs.Loaded.{StateIs, AllStartable, stateLoaded, LoadIs}
+use Rattle.loading.proofs.Faults.{ok-taken, ok-loads, refused-loads, table-at, side-number, map-at}
+use Rattle.interpreter.specs.Loaded.{StateIs, AllStartable, loadedBy, stateLoaded, LoadIs}
 
 -- a side by its core and its marks
 same-side : {a b : Core} {x y : List Bool} → a ≡ b → x ≡ y → _≡_ {A = MSide} (record { core = a; left = x }) (record { core = b; left = y })
@@ -119,14 +119,22 @@ turns-done b k l h g =
 state-some : (r : State) → fitsArrays r ≡ true → stateOf r ≡ some (viewState r)
 state-some r e = rw e
 
-pub load-refused : (l : Loaded) (a : Outcome) (i j k : ℕ) (s : State) → a ≡ outcomeOf l → a ≡ Refused i j k → StateIs (record { sides = map (λ n. noSide) allSides }) s → LoadIs l (record { outcome = a; state = s })
-load-refused (refused x) a i j k s e z h = record { outcome = e; state = state-some s (h .fits) ∙ ap some (h .view) }
-load-refused (ok t) a i j k s e z h = let m : _≡_ {A = ℕ} 0 1 = cc in absurd (omega arith)
+module _ (l : Loaded) (a : Outcome) (s : State) (e : refusalOf a ≡ refusalIn l) where
+  -- by what the outcome is
+  answer-by : (o : Outcome) → a ≡ o → loadedBy (refusalOf a) (viewState s) ≡ loadedBy (refusalOf o) (viewState s)
+  answer-by o z = ap (λ (y : Outcome). loadedBy (refusalOf y) (viewState s)) z
 
-pub load-done : (b : Composition) (a : Outcome) (s : State) → a ≡ outcomeOf (load b) → a ≡ Ok → StateIs (record { sides = map (startOf b) allSides }) s → LoadIs (load b) (record { outcome = a; state = s })
-load-done b a s e z h =
-    let t = taken b (sym e ∙ z) in
-    record { outcome = e; state = state-some s (h .fits) ∙ ap some (h .view ∙ sym (ap stateLoaded (t .loaded))) }
+  pub load-refused : (i j k : ℕ) → a ≡ Refused i j k → StateIs (record { sides = map (λ n. noSide) allSides }) s → LoadIs l (record { outcome = a; state = s })
+  load-refused i j k z h =
+      let q = refused-loads l a i j k e z in
+      record { answer = answer-by (Refused i j k) z ∙ sym q; state = state-some s (h .fits) ∙ ap some (h .view ∙ sym (ap stateLoaded q)) }
 
-pub all-startable : (b : Composition) (a : Outcome) → a ≡ outcomeOf (load b) → a ≡ Ok → AllStartable b
-all-startable b a e z = record { sides = taken b (sym e ∙ z) .sides }
+  load-ok : (t : MState) → a ≡ Ok → l ≡ ok t → StateIs t s → LoadIs l (record { outcome = a; state = s })
+  load-ok t z q h = record { answer = answer-by Ok z ∙ ap ok (h .view) ∙ sym q; state = state-some s (h .fits) ∙ ap some (h .view ∙ sym (ap stateLoaded q)) }
+
+module _ (b : Composition) (a : Outcome) (e : refusalOf a ≡ refusalIn (load b)) (z : a ≡ Ok) where
+  pub load-done : (s : State) → StateIs (record { sides = map (startOf b) allSides }) s → LoadIs (load b) (record { outcome = a; state = s })
+  load-done s h = load-ok (load b) a s e (record { sides = map (startOf b) allSides }) z (ok-taken b (ok-loads (load b) a e z) .loaded) h
+
+  pub all-startable : AllStartable b
+  all-startable = record { sides = ok-taken b (ok-loads (load b) a e z) .sides }

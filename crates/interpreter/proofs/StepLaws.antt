@@ -13,7 +13,7 @@ use lib.Seq.{set-getD, getD-set-same, take-suc, take-suc-set, take-all}
 use Rattle.model.specs.Basics.{_&_, Res, every}
 use Rattle.model.specs.Side.{Side as MSide, State as MState}
 use Rattle.model.specs.Wrapper.{allSides, described, hasSide}
-use Rattle.model.specs.Load.{Composition, wrapperOf, Setting, Loaded, refused, ok, isOk, load}
+use Rattle.model.specs.Load.{Composition, wrapperOf, Setting, isOk, load}
 use Rattle.model.specs.WellFormed.{wfState, ready}
 use Rattle.model.specs.Step.{Step, Moved, settled, local, refusal, Result, step, answerTo, afterStep}
 use Rattle.model.specs.Answer.{given}
@@ -39,8 +39,8 @@ use Rattle.dispatch.proofs.InState as there
 use Rattle.wrappers.proofs.Described.{has-in}
 use Rattle.loading.specs.declared.Outcome.{Outcome}
 use Rattle.loading.specs.declared.Outcome.the-variants.{Ok, Refused}
-use Rattle.loading.specs.Loading.{outcomeOf}
-use Rattle.loading.proofs.Faults.{map-at, taken}
+use Rattle.loading.specs.Loading.{refusalOf, refusalIn}
+use Rattle.loading.proofs.Faults.{map-at, ok-taken, ok-loads, refused-loads}
 use Rattle.loading.proofs.Starting.{has-place}
 use Rattle.wellformed.specs.Clauses.{TablesPass}
 use Rattle.interpreter.specs.declared.Stepped.{Stepped}
@@ -129,26 +129,21 @@ pub long-all : (ls : List (List ℕ)) (k : ℕ) → length allSides ≤ k → Lo
 long-all ls k h g = record { long = λ i a. g .long i (omega arith) }
 
 -- WHETHER A STATE IS READY
-module _ (b : Composition) (s : State) (a : Outcome) (e : a ≡ outcomeOf (load b)) where
+module _ (b : Composition) (s : State) (a : Outcome) (e : refusalOf a ≡ refusalIn (load b)) where
   pub ready-refused : (i j k : ℕ) → a ≡ Refused i j k → false ≡ fitsArrays s & ready b (viewState s)
   unfolding ready
-  ready-refused i j k z = sym (no-right _ _ (no-left _ _ (is-no (load b) (sym e ∙ z))))
-    where
-      is-no : (l : Loaded) → outcomeOf l ≡ Refused i j k → isOk l ≡ false
-      is-no (refused x) q = refl
-      is-no (ok t) q = let m : _≡_ {A = ℕ} 0 1 = cc in absurd (omega arith)
+  ready-refused i j k z = sym (no-right _ _ (no-left _ _ (ap isOk (refused-loads (load b) a i j k e z))))
 
   module _ (z : a ≡ Ok) where
+    loads : isOk (load b) ≡ true
+    loads = ok-loads (load b) a e z
+
     pub tables-pass : TablesPass b
-    tables-pass = λ n h. taken b (sym e ∙ z) .sides n (has-in (b .wrapper) n h) h .passes
+    tables-pass = λ n h. ok-taken b loads .sides n (has-in (b .wrapper) n h) h .passes
 
     pub ready-formed : (r : Bool) → r ≡ fitsArrays s & wfState b (viewState s) → r ≡ fitsArrays s & ready b (viewState s)
     unfolding ready _&_
-    ready-formed r q = q ∙ ap (λ (x : Bool). fitsArrays s & (x & wfState b (viewState s))) (sym (is-ok (load b) (sym e ∙ z)))
-      where
-        is-ok : (l : Loaded) → outcomeOf l ≡ Ok → isOk l ≡ true
-        is-ok (refused x) q = let m : _≡_ {A = ℕ} 0 1 = cc in absurd (omega arith)
-        is-ok (ok t) q = refl
+    ready-formed r q = q ∙ ap (λ (x : Bool). fitsArrays s & (x & wfState b (viewState s))) (sym loads)
 
 -- AN ANSWER AS IT IS GIVEN
 pub given-is : (y : Said) (n : ℕ) (l : List ℕ) (t : State) (r : Stepped) → Answered y n l t r → givenOf r ≡ givenFor y n l
@@ -254,8 +249,11 @@ module _ {A : Type 0} (f : A → List ℕ) (w : ℕ) (ts us : List A) (dt du : A
       view-now =
           ap (λ (l : List MSide). record { sides = l })
           (parts-of (set (s .sides) (n - 1) after) ∙
-          parts (map-set (λ (y : Side). y .words) (s .sides) (n - 1) after ∙ sym (at-state .others)) (map-set (λ (y : Side). y .rest) (s .sides) (n - 1) after) (map-set (λ (y : Side). y .left) (s .sides) (n - 1) after ∙ sym (marks-state .is)))
+          parts (set-at (λ (y : Side). y .words) ∙ sym (at-state .others)) (set-at (λ (y : Side). y .rest)) (set-at (λ (y : Side). y .left) ∙ sym (marks-state .is)))
         where
+          set-at : {B : Type 0} (g : Side → B) → map g (set (s .sides) (n - 1) after) ≡ set (map g (s .sides)) (n - 1) (g after)
+          set-at g = map-set g (s .sides) (n - 1) after
+
           parts : {a b : List (List ℕ)} {u v : List Rest} {i j : List (List Bool)} → a ≡ b → u ≡ v → i ≡ j → sidesIn a u i ≡ sidesIn b v j
           parts y z t = rw (y, z, t)
 

@@ -3,6 +3,7 @@ use mathlib.Core.Path.{_≡_, refl, sym, ap, ap₂, subst, _∙_}
 use mathlib.Core.Logic.{⊎-elim}
 use mathlib.Core.Bool.{Bool, true, false, false≢true}
 use mathlib.Core.List.{List, [], _∷_, map}
+use mathlib.Core.Option.{none, some}
 use Prim.Native.Nat.{ℕ, zero, suc, _+_, _<_, _≤_}
 use native.Mathlib.Numerals.{add-one}
 use native.Mathlib.Omega.{arith}
@@ -14,16 +15,15 @@ use Rattle.model.specs.Values.{noNames}
 use Rattle.model.specs.Table.{Table, count, term}
 use Rattle.model.specs.Checks.{Fault, fault}
 use Rattle.model.specs.Side.{withinLimits, emptyContents}
-use Rattle.model.specs.Wrapper.{Wrapper, allSides, isWrapper, hasSide}
-use Rattle.model.specs.Load.{Composition, wrapperOf, noTable, start, Loaded, refused, ok, sideFault, lackFault, loadSides, startOf, load}
+use Rattle.model.specs.Wrapper.{Wrapper, allSides, isWrapper, described, hasSide}
+use Rattle.model.specs.Load.{Composition, wrapperOf, noTable, start, Loaded, refused, ok, isOk, sideFault, lackFault, loadSides, startOf, load}
 use Rattle.model.specs.Load.{table as tableOf}
-use Rattle.model.proofs.Basics.Tests.{both, or-cases}
+use Rattle.model.proofs.Basics.Tests.{both, or-cases, some-inj}
 use Rattle.model.proofs.Formed.Counts.{Added, unfolds-adds}
 use Rattle.tables.specs.declared.checks.Verdict.{Verdict}
 use Rattle.tables.specs.declared.checks.Verdict.the-variants as verdict
-use Rattle.tables.specs.Checks.{Passes, verdictOf}
+use Rattle.tables.specs.Checks.{Passes, faultOf}
 use Rattle.tables.specs.Nodes as slices
-use Rattle.tables.proofs.CheckLaws.{passed}
 use Rattle.scopes.specs.declared.unfolded.Unfolded.{Unfolded}
 use Rattle.scopes.specs.Unfolded.{UnfoldsTo}
 use Rattle.scopes.proofs.ScopeBound.{no-fault, passes-checked}
@@ -31,7 +31,7 @@ use Rattle.wrappers.specs.Compositions.{tablesOf, composition}
 use Rattle.loading.specs.declared.Outcome.{Outcome}
 use Rattle.loading.specs.declared.Outcome.the-variants.{Ok, Refused}
 use Rattle.loading.specs.Starting.{Startable}
-use Rattle.loading.specs.Loading.{faultOf, atSide, outcomeOf}
+use Rattle.loading.specs.Loading.{faultAt, refusalOf, refusalIn, refusalAt, outcomeOf}
 
 -- A SIDE'S FAULT
 pub root-in : (t : Table) → Passes t → 0 < count t
@@ -50,36 +50,32 @@ start-within i t u h =
     ap₂ _&_ (ap (λ (n : ℕ). leb n 32) p) (ap₂ _&_ (ap (λ (n : ℕ). leb n 16) q) (ap (λ (n : ℕ). leb n 256) r))
 
 -- a fault of checks 1 to 6 stays
-pub side-bad : (i : ℕ) (t : Table) (v : Verdict) (k n : ℕ) → v ≡ verdictOf (fault t) → v ≡ verdict.Refused k n → v ≡ verdictOf (sideFault i t)
+pub side-bad : (i : ℕ) (t : Table) (v : Verdict) (k n : ℕ) → faultOf v ≡ fault t → v ≡ verdict.Refused k n → faultOf v ≡ sideFault i t
 unfolding sideFault
-side-bad i t v k n e z = go (fault t) refl
-  where
-    go : (q : Res Fault) → fault t ≡ q → v ≡ verdictOf (sideFault i t)
-    go (done f) p = rw (p, sideFault) (e ∙ ap verdictOf p)
-    go (refuse x) p = let y : v ≡ verdict.Passed = e ∙ ap verdictOf p in let w : _≡_ {A = ℕ} 0 1 = cc in absurd (omega arith)
-
-pub side-passes : (t : Table) (v : Verdict) → v ≡ verdictOf (fault t) → v ≡ verdict.Passed → Passes t
-side-passes t v e z = passed t (sym z ∙ e)
+side-bad i t v k n e z =
+    let p : fault t ≡ done (record { number = k; node = n }) = sym e ∙ ap faultOf z in
+    let q : sideFault i t ≡ done (record { number = k; node = n }) = rw (p, sideFault) in
+    ap faultOf z ∙ sym q
 
 -- with no such fault, 7 is by the counts
 module _ (i : ℕ) (t : Table) (p : Passes t) where
-  pub side-good : withinLimits (start i t) ≡ true → verdict.Passed ≡ verdictOf (sideFault i t)
+  pub side-good : withinLimits (start i t) ≡ true → faultOf verdict.Passed ≡ sideFault i t
   unfolding sideFault
   side-good w = let z = no-fault t p in rw (z .1, w, sideFault)
 
-  pub side-seven : withinLimits (start i t) ≡ false → verdict.Refused 7 0 ≡ verdictOf (sideFault i t)
+  pub side-seven : withinLimits (start i t) ≡ false → faultOf (verdict.Refused 7 0) ≡ sideFault i t
   unfolding sideFault
   side-seven w = let z = no-fault t p in rw (z .1, w, sideFault)
 
 -- what a side that passes is
-pub side-passed : (i : ℕ) (t : Table) → verdictOf (sideFault i t) ≡ verdict.Passed → Passes t × (withinLimits (start i t) ≡ true)
+pub side-passed : (i : ℕ) (t : Table) → isDone (sideFault i t) ≡ false → Passes t × (withinLimits (start i t) ≡ true)
 unfolding sideFault
 side-passed i t z = go (fault t) refl (withinLimits (start i t)) refl
   where
     go : (q : Res Fault) → fault t ≡ q → (b : Bool) → withinLimits (start i t) ≡ b → Passes t × (withinLimits (start i t) ≡ true)
-    go (done f) p b w = let y : verdict.Passed ≡ verdict.Refused (f .number) (f .node) = sym z ∙ rw (p, sideFault) in let m : _≡_ {A = ℕ} 0 1 = cc in absurd (omega arith)
+    go (done f) p b w = let y : isDone (sideFault i t) ≡ true = rw (p, sideFault) in absurd (false≢true (sym z ∙ y))
     go (refuse x) p true w = (ap isDone p, w)
-    go (refuse x) p false w = let y : verdict.Passed ≡ verdict.Refused 7 0 = sym z ∙ rw (p, w, sideFault) in let m : _≡_ {A = ℕ} 0 1 = cc in absurd (omega arith)
+    go (refuse x) p false w = let y : isDone (sideFault i t) ≡ true = rw (p, w, sideFault) in absurd (false≢true (sym z ∙ y))
 
 -- a side that the wrapper lacks
 module _ (t : Table) where
@@ -87,24 +83,24 @@ module _ (t : Table) where
   unfolding lackFault
   lack-by q e = ap (λ (x : Bool). choose x (refuse 0) (done (record { number = 1; node = 0 }))) e
 
-  pub lack-none : length (t .nodes) ≡ 0 → length (t .pool) ≡ 0 → verdict.Passed ≡ verdictOf (lackFault t)
+  pub lack-none : length (t .nodes) ≡ 0 → length (t .pool) ≡ 0 → faultOf verdict.Passed ≡ lackFault t
   unfolding choose
-  lack-none a b = sym (ap verdictOf (lack-by true (both _ _ (eq-eqb (length (t .nodes)) 0 a) (eq-eqb (length (t .pool)) 0 b))))
+  lack-none a b = sym (lack-by true (both _ _ (eq-eqb (length (t .nodes)) 0 a) (eq-eqb (length (t .pool)) 0 b)))
 
-  pub lack-nodes : (length (t .nodes) ≡ 0 → ⊥) → verdict.Refused 1 0 ≡ verdictOf (lackFault t)
+  pub lack-nodes : (length (t .nodes) ≡ 0 → ⊥) → faultOf (verdict.Refused 1 0) ≡ lackFault t
   unfolding choose _&_
-  lack-nodes a = sym (ap verdictOf (lack-by false (rw (ne-eqb (length (t .nodes)) 0 a))))
+  lack-nodes a = sym (lack-by false (rw (ne-eqb (length (t .nodes)) 0 a)))
 
-  pub lack-pool : length (t .nodes) ≡ 0 → (length (t .pool) ≡ 0 → ⊥) → verdict.Refused 1 0 ≡ verdictOf (lackFault t)
+  pub lack-pool : length (t .nodes) ≡ 0 → (length (t .pool) ≡ 0 → ⊥) → faultOf (verdict.Refused 1 0) ≡ lackFault t
   unfolding choose _&_
-  lack-pool a b = sym (ap verdictOf (lack-by false (rw (eq-eqb (length (t .nodes)) 0 a, ne-eqb (length (t .pool)) 0 b))))
+  lack-pool a b = sym (lack-by false (rw (eq-eqb (length (t .nodes)) 0 a, ne-eqb (length (t .pool)) 0 b)))
 
 module _ (w : Wrapper) (n : ℕ) (t : Table) where
-  pub fault-has : hasSide w n ≡ true → faultOf w n t ≡ sideFault n t
+  pub fault-has : hasSide w n ≡ true → faultAt w n t ≡ sideFault n t
   unfolding choose
   fault-has e = rw e
 
-  pub fault-lacks : hasSide w n ≡ false → faultOf w n t ≡ lackFault t
+  pub fault-lacks : hasSide w n ≡ false → faultAt w n t ≡ lackFault t
   unfolding choose
   fault-lacks e = rw e
 
@@ -113,23 +109,30 @@ abbrev walk : Res Fault → ℕ → Loaded → Loaded
 walk (done f) i k = refused (record { number = f .number; side = i; node = f .node })
 walk (refuse x) i k = k
 
-walk-bad : (q : Res Fault) (i : ℕ) (k : Loaded) (v : Verdict) (a n : ℕ) → v ≡ verdictOf q → v ≡ verdict.Refused a n → outcomeOf (walk q i k) ≡ atSide v i
-walk-bad (done f) i k v a n e z = sym (ap (λ (y : Verdict). atSide y i) e)
-walk-bad (refuse x) i k v a n e z = let m : _≡_ {A = ℕ} 0 1 = cc in absurd (omega arith)
+-- a verdict is that of a fault, or of none
+is-refused : (v : Verdict) (a n : ℕ) → v ≡ verdict.Refused a n → isDone (faultOf v) ≡ true
+is-refused v a n z = ap (λ (y : Verdict). isDone (faultOf y)) z
 
-walk-good : (q : Res Fault) (i : ℕ) (k : Loaded) (v : Verdict) → v ≡ verdictOf q → v ≡ verdict.Passed → walk q i k ≡ k
-walk-good (done f) i k v e z = let m : _≡_ {A = ℕ} 0 1 = cc in absurd (omega arith)
+is-passed : (v : Verdict) → v ≡ verdict.Passed → isDone (faultOf v) ≡ false
+is-passed v z = ap (λ (y : Verdict). isDone (faultOf y)) z
+
+walk-bad : (q : Res Fault) (i : ℕ) (k : Loaded) (v : Verdict) (a n : ℕ) → faultOf v ≡ q → v ≡ verdict.Refused a n → refusalIn (walk q i k) ≡ refusalAt i (faultOf v)
+walk-bad (done f) i k v a n e z = sym (ap (refusalAt i) e)
+walk-bad (refuse x) i k v a n e z = absurd (false≢true (sym (ap isDone e) ∙ is-refused v a n z))
+
+walk-good : (q : Res Fault) (i : ℕ) (k : Loaded) (v : Verdict) → faultOf v ≡ q → v ≡ verdict.Passed → walk q i k ≡ k
+walk-good (done f) i k v e z = absurd (false≢true (sym (is-passed v z) ∙ ap isDone e))
 walk-good (refuse x) i k v e z = refl
 
-walk-ok : (q : Res Fault) (i : ℕ) (k : Loaded) → outcomeOf (walk q i k) ≡ Ok → (verdictOf q ≡ verdict.Passed) × (walk q i k ≡ k)
-walk-ok (done f) i k e = let m : _≡_ {A = ℕ} 0 1 = cc in absurd (omega arith)
+walk-ok : (q : Res Fault) (i : ℕ) (k : Loaded) → isOk (walk q i k) ≡ true → (isDone q ≡ false) × (walk q i k ≡ k)
+walk-ok (done f) i k e = absurd (false≢true e)
 walk-ok (refuse x) i k e = (refl, refl)
 
-load-next : (b : Composition) (n : ℕ) (ns : List ℕ) (k : Loaded) → loadSides b (n ∷ ns) k ≡ walk (faultOf (wrapperOf b) n (tableOf b n)) n (loadSides b ns k)
+load-next : (b : Composition) (n : ℕ) (ns : List ℕ) (k : Loaded) → loadSides b (n ∷ ns) k ≡ walk (faultAt (wrapperOf b) n (tableOf b n)) n (loadSides b ns k)
 unfolding loadSides
-load-next b n ns k = go (faultOf (wrapperOf b) n (tableOf b n)) refl
+load-next b n ns k = go (faultAt (wrapperOf b) n (tableOf b n)) refl
   where
-    go : (q : Res Fault) → faultOf (wrapperOf b) n (tableOf b n) ≡ q → loadSides b (n ∷ ns) k ≡ walk (faultOf (wrapperOf b) n (tableOf b n)) n (loadSides b ns k)
+    go : (q : Res Fault) → faultAt (wrapperOf b) n (tableOf b n) ≡ q → loadSides b (n ∷ ns) k ≡ walk (faultAt (wrapperOf b) n (tableOf b n)) n (loadSides b ns k)
     go (done f) p = rw (p, loadSides)
     go (refuse x) p = rw (p, loadSides)
 
@@ -168,36 +171,55 @@ map-at f (x ∷ l) (suc k) d e h = map-at f l k d e (omega arith)
 abbrev pub started : Composition → Loaded
 started b = ok (record { sides = map (startOf b) allSides })
 
-pub load-unknown : (b : Composition) → isWrapper (b .wrapper) ≡ false → Refused 1 0 0 ≡ outcomeOf (load b)
+load-none : (b : Composition) → isWrapper (b .wrapper) ≡ false → load b ≡ refused (record { number = 1; side = 0; node = 0 })
 unfolding load
-load-unknown b e = rw (e, load)
+load-none b e = rw (e, load)
+
+pub load-unknown : (b : Composition) → isWrapper (b .wrapper) ≡ false → refusalOf (Refused 1 0 0) ≡ refusalIn (load b)
+load-unknown b e = sym (ap refusalIn (load-none b e))
 
 pub load-known : (b : Composition) → isWrapper (b .wrapper) ≡ true → load b ≡ loadSides b allSides (started b)
 unfolding load
 load-known b e = rw (e, load)
 
+-- load comes to what the sides from place k on come to
+abbrev pub FromPlace : Composition → ℕ → Type 0
+FromPlace b k = load b ≡ loadSides b (drop k allSides) (started b)
+
+-- the fault of the side at place k, by the slices that are lent
+pub fault-lent : {A : Type 0} (f : A → List ℕ) (w : ℕ) (ts us : List A) (k n : ℕ) (d e : A) → k < length ts → k < length us → n ≡ k + 1 →
+    faultAt (described w) n (slices.table (f (getD ts k d)) (f (getD us k e))) ≡ faultAt (described w) (k + 1) (slices.table (getD (map f ts) k []) (getD (map f us) k []))
+fault-lent f w ts us k n d e a b same =
+    ap₂ (λ (y z : List ℕ). faultAt (described w) n (slices.table y z)) (map-at f ts k d [] a) (map-at f us k e [] b)
+    ∙ ap (λ (m : ℕ). faultAt (described w) m (slices.table (getD (map f ts) k []) (getD (map f us) k []))) same
+
 -- A TURN: the sides from place k on
 module _ (w : ℕ) (ns ps : List (List ℕ)) (k : ℕ) (a : k < length ns) (c : k < length ps) (h : k < length allSides) (v : Verdict)
-    (e : v ≡ verdictOf (faultOf (wrapperOf (composition w ns ps)) (k + 1) (slices.table (getD ns k []) (getD ps k [])))) where
+    (e : faultOf v ≡ faultAt (wrapperOf (composition w ns ps)) (k + 1) (slices.table (getD ns k []) (getD ps k []))) where
   abbrev b : Composition
   b = composition w ns ps
 
   abbrev f : Res Fault
-  f = faultOf (wrapperOf b) (k + 1) (tableOf b (k + 1))
+  f = faultAt (wrapperOf b) (k + 1) (tableOf b (k + 1))
 
   here : loadSides b (drop k allSides) (started b) ≡ walk f (k + 1) (loadSides b (drop (k + 1) allSides) (started b))
   here =
       ap (λ (l : List ℕ). loadSides b l (started b)) (rest-from allSides k h ∙ ap (λ (n : ℕ). n ∷ drop (k + 1) allSides) (side-number k h)) ∙
       load-next b (k + 1) (drop (k + 1) allSides) (started b)
 
-  is : v ≡ verdictOf f
-  is = e ∙ ap (λ (t : Table). verdictOf (faultOf (wrapperOf b) (k + 1) t)) (sym (table-at w ns ps k a c))
+  is : faultOf v ≡ f
+  is = e ∙ ap (faultAt (wrapperOf b) (k + 1)) (sym (table-at w ns ps k a c))
 
-  pub turn-good : v ≡ verdict.Passed → load b ≡ loadSides b (drop k allSides) (started b) → load b ≡ loadSides b (drop (k + 1) allSides) (started b)
+  pub turn-good : v ≡ verdict.Passed → FromPlace b k → FromPlace b (k + 1)
   turn-good z p = p ∙ here ∙ walk-good f (k + 1) _ v is z
 
-  pub turn-bad : (x y : ℕ) → v ≡ verdict.Refused x y → load b ≡ loadSides b (drop k allSides) (started b) → (n : ℕ) (r : Outcome) → n ≡ k + 1 → r ≡ atSide v n → r ≡ outcomeOf (load b)
-  turn-bad x y z p n r q g = g ∙ ap (atSide v) q ∙ sym (walk-bad f (k + 1) (loadSides b (drop (k + 1) allSides) (started b)) v x y is z) ∙ ap outcomeOf (sym (p ∙ here))
+  pub turn-bad : (x y : ℕ) → v ≡ verdict.Refused x y → FromPlace b k →
+      (n : ℕ) (r : Outcome) → n ≡ k + 1 → refusalOf r ≡ refusalAt n (faultOf v) → refusalOf r ≡ refusalIn (load b)
+  turn-bad x y z p n r q g =
+      g
+      ∙ ap (λ (i : ℕ). refusalAt i (faultOf v)) q
+      ∙ sym (walk-bad f (k + 1) (loadSides b (drop (k + 1) allSides) (started b)) v x y is z)
+      ∙ ap refusalIn (sym (p ∙ here))
 
 drop-all : (l : List ℕ) (k : ℕ) → length l ≤ k → drop k l ≡ []
 drop-all [] zero h = refl
@@ -205,21 +227,22 @@ drop-all [] (suc k) h = refl
 drop-all (x ∷ l) zero h = absurd (omega arith)
 drop-all (x ∷ l) (suc k) h = drop-all l k (omega arith)
 
-pub turns-end : (b : Composition) (k : ℕ) → length allSides ≤ k → load b ≡ loadSides b (drop k allSides) (started b) → Ok ≡ outcomeOf (load b)
+pub turns-end : (b : Composition) (k : ℕ) → length allSides ≤ k → FromPlace b k → refusalOf Ok ≡ refusalIn (load b)
 unfolding loadSides
-turns-end b k h p = sym (ap outcomeOf (p ∙ ap (λ (l : List ℕ). loadSides b l (started b)) (drop-all allSides k h)))
+turns-end b k h p = sym (ap refusalIn (p ∙ ap (λ (l : List ℕ). loadSides b l (started b)) (drop-all allSides k h)))
 
 -- WHERE LOAD REFUSES NOTHING, no side has a fault
-ok-sides : (b : Composition) (ns : List ℕ) (k : Loaded) → outcomeOf (loadSides b ns k) ≡ Ok → (loadSides b ns k ≡ k) × ((n : ℕ) → has n ns ≡ true → verdictOf (faultOf (wrapperOf b) n (tableOf b n)) ≡ verdict.Passed)
+ok-sides : (b : Composition) (ns : List ℕ) (k : Loaded) → isOk (loadSides b ns k) ≡ true →
+    (loadSides b ns k ≡ k) × ((n : ℕ) → has n ns ≡ true → isDone (faultAt (wrapperOf b) n (tableOf b n)) ≡ false)
 unfolding loadSides
 ok-sides b [] k e = (refl, λ n h. absurd (false≢true h))
 ok-sides b (m ∷ ns) k e =
-    let f : Res Fault = faultOf (wrapperOf b) m (tableOf b m) in
+    let f : Res Fault = faultAt (wrapperOf b) m (tableOf b m) in
     let p : loadSides b (m ∷ ns) k ≡ walk f m (loadSides b ns k) = load-next b m ns k in
-    let a = walk-ok f m (loadSides b ns k) (ap outcomeOf (sym p) ∙ e) in
-    let r = ok-sides b ns k (ap outcomeOf (sym (p ∙ a .1)) ∙ e) in (
+    let a = walk-ok f m (loadSides b ns k) (ap isOk (sym p) ∙ e) in
+    let r = ok-sides b ns k (ap isOk (sym (p ∙ a .1)) ∙ e) in (
       p ∙ a .1 ∙ r .0,
-      λ n h. ⊎-elim (λ q. subst (λ (j : ℕ). verdictOf (faultOf (wrapperOf b) j (tableOf b j)) ≡ verdict.Passed) (sym (eqb-true n m q)) (a .0)) (r .1 n) (or-cases (eqb n m) (has n ns) h),
+      λ n h. ⊎-elim (λ q. subst (λ (j : ℕ). isDone (faultAt (wrapperOf b) j (tableOf b j)) ≡ false) (sym (eqb-true n m q)) (a .0)) (r .1 n) (or-cases (eqb n m) (has n ns) h),
     )
 
 -- what load takes: a known wrapper, and every side that it has passes
@@ -228,17 +251,40 @@ pub record Taken (b : Composition) : Type 0 where
   pub loaded : load b ≡ started b
   pub sides : (n : ℕ) → has n allSides ≡ true → hasSide (wrapperOf b) n ≡ true → Startable n (tableOf b n)
 
-pub taken : (b : Composition) → outcomeOf (load b) ≡ Ok → Taken b
-taken b e = by (isWrapper (b .wrapper)) refl
+pub ok-taken : (b : Composition) → isOk (load b) ≡ true → Taken b
+ok-taken b e = by (isWrapper (b .wrapper)) refl
   where
     by : (x : Bool) → isWrapper (b .wrapper) ≡ x → Taken b
     by true w =
-        let r = ok-sides b allSides (started b) (ap outcomeOf (sym (load-known b w)) ∙ e) in
+        let r = ok-sides b allSides (started b) (ap isOk (sym (load-known b w)) ∙ e) in
         record {
           wrapper = w;
           loaded = load-known b w ∙ r .0;
           sides = λ n h i.
-              let p = side-passed n (tableOf b n) (ap verdictOf (sym (fault-has (wrapperOf b) n (tableOf b n) i)) ∙ r .1 n h) in
+              let p = side-passed n (tableOf b n) (ap isDone (sym (fault-has (wrapperOf b) n (tableOf b n) i)) ∙ r .1 n h) in
               record { side = h; passes = p .0; few = p .1 };
         }
-    by false w = let y : Refused 1 0 0 ≡ Ok = load-unknown b w ∙ e in let m : _≡_ {A = ℕ} 0 1 = cc in absurd (omega arith)
+    by false w = absurd (false≢true (sym (ap isOk (load-none b w)) ∙ e))
+
+-- WHAT AN OUTCOME SAYS of a load
+pub ok-loads : (l : Loaded) (a : Outcome) → refusalOf a ≡ refusalIn l → a ≡ Ok → isOk l ≡ true
+ok-loads (refused x) a e z =
+    let y : none ≡ some x = sym (ap refusalOf z) ∙ e in
+    let m : _≡_ {A = ℕ} 0 1 = cc in
+    absurd (omega arith)
+ok-loads (ok s) a e z = refl
+
+pub refused-loads : (l : Loaded) (a : Outcome) (k i m : ℕ) → refusalOf a ≡ refusalIn l → a ≡ Refused k i m → l ≡ refused (record { number = k; side = i; node = m })
+refused-loads (refused x) a k i m e z = ap refused (some-inj (sym e ∙ ap refusalOf z))
+refused-loads (ok s) a k i m e z =
+    let y : refusalOf (Refused k i m) ≡ none = sym (ap refusalOf z) ∙ e in
+    let w : _≡_ {A = ℕ} 0 1 = cc in
+    absurd (omega arith)
+
+-- the same by the outcome of a load
+pub taken : (b : Composition) → outcomeOf (load b) ≡ Ok → Taken b
+taken b e = ok-taken b (by (load b) e)
+  where
+    by : (l : Loaded) → outcomeOf l ≡ Ok → isOk l ≡ true
+    by (refused x) q = let m : _≡_ {A = ℕ} 0 1 = cc in absurd (omega arith)
+    by (ok s) q = refl

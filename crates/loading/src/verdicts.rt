@@ -5,9 +5,9 @@ ghost use Prim.Native.Nat.{ℕ, _+_, _-_, _<_};
 ghost use Rattle.model.specs.Wrapper.{described};
 ghost use Rattle.model.specs.Load.{sideFault, lackFault, load};
 ghost use Rattle.tables.specs.Nodes.{table};
-ghost use Rattle.tables.specs.Checks.{verdictOf};
+ghost use Rattle.tables.specs.Checks.{faultOf};
 ghost use Rattle.wrappers.specs.Compositions.{composition};
-ghost use Rattle.loading.specs.Loading.{faultOf, atSide, outcomeOf};
+ghost use Rattle.loading.specs.Loading.{faultAt, refusalOf, refusalIn, refusalAt};
 use crate::Outcome;
 use scopes::unfolded::unfolded_at;
 use sides::Side;
@@ -19,7 +19,7 @@ use wrappers::is_wrapper;
 
 // The fault of a side that the wrapper has: 1 to 6, then 7 with node 0.
 fn side_verdict(nodes: &[u32], pool: &[u32]) -> Verdict
-    ensures { λ r. ⌜ ((n : ℕ) → r ≡ verdictOf (sideFault n (table (now (nodes .entry)) (now (pool .entry))))) ⌝ }
+    ensures { λ r. ⌜ ((n : ℕ) → faultOf r ≡ sideFault n (table (now (nodes .entry)) (now (pool .entry)))) ⌝ }
 {
     let v = check(nodes, pool);
     let Verdict::Passed = v else {
@@ -34,7 +34,7 @@ fn side_verdict(nodes: &[u32], pool: &[u32]) -> Verdict
 
 // The fault of a side that it lacks: 1 where a slice is not empty.
 fn lack_verdict(nodes: &[u32], pool: &[u32]) -> Verdict
-    ensures { λ r. ⌜ r ≡ verdictOf (lackFault (table (now (nodes .entry)) (now (pool .entry)))) ⌝ }
+    ensures { λ r. ⌜ faultOf r ≡ lackFault (table (now (nodes .entry)) (now (pool .entry))) ⌝ }
 {
     if nodes.len() == 0 {
         if pool.len() == 0 {
@@ -46,7 +46,7 @@ fn lack_verdict(nodes: &[u32], pool: &[u32]) -> Verdict
 
 // The fault of side n.
 fn fault_at(wrapper: u32, n: u32, nodes: &[u32], pool: &[u32]) -> Verdict
-    ensures { λ r. ⌜ r ≡ verdictOf (faultOf (described wrapper) n (table (now (nodes .entry)) (now (pool .entry)))) ⌝ }
+    ensures { λ r. ⌜ faultOf r ≡ faultAt (described wrapper) n (table (now (nodes .entry)) (now (pool .entry))) ⌝ }
 {
     if has_side(wrapper, n) {
         return side_verdict(nodes, pool);
@@ -56,7 +56,7 @@ fn fault_at(wrapper: u32, n: u32, nodes: &[u32], pool: &[u32]) -> Verdict
 
 // A side's fault as load says it.
 fn at_side(v: Verdict, n: u32) -> Outcome
-    ensures { λ r. ⌜ r ≡ atSide v n ⌝ }
+    ensures { λ r. ⌜ refusalOf r ≡ refusalAt n (faultOf v) ⌝ }
 {
     match v {
         Verdict::Passed => Outcome::Ok,
@@ -86,7 +86,7 @@ pub fn load_verdict(
     nodes: [&[u32]; Sides::COUNT],
     pools: [&[u32]; Sides::COUNT],
 ) -> Outcome
-    ensures { λ r. ⌜ r ≡ outcomeOf (load (composition wrapper (map now (nodes .entry)) (map now (pools .entry)))) ⌝ }
+    ensures { λ r. ⌜ refusalOf r ≡ refusalIn (load (composition wrapper (map now (nodes .entry)) (map now (pools .entry)))) ⌝ }
 {
     if !is_wrapper(wrapper) {
         return Outcome::Refused(1, 0, 0);

@@ -15,9 +15,8 @@ use Rattle.model.specs.Basics.{choose}
 use Rattle.format.specs.Lines.{tab, pieces, number, numbers, Line, lineOf}
 use Rattle.reading.specs.declared.fields.Line as code
 use Rattle.bytes.specs.Bytes.{slice, indexOf}
-use Rattle.reading.specs.declared.fields.Number.the-variants.{Word, Bad}
 use Rattle.reading.proofs.PieceLaws.{last, next, first}
-use Rattle.reading.specs.Fields.{answerOf, viewLine, shortLine, short, pushed, lineWith}
+use Rattle.reading.specs.Fields.{viewLine, shortLine, short, pushed, lineWith}
 
 abbrev pub struct : ℕ → List ℕ → ℕ → code.Line
 struct c ws n = record { letter = c; words = ws; len = n }
@@ -166,32 +165,23 @@ a-letter l f fs c e h g = of-pieces l f fs e ∙ rw (eq-eqb (length f) 1 h, ofPi
     go none = refl
     go (some ns) = ap (λ (x : ℕ). some (line x ns)) g
 
--- a field's number by the answer for it
-answer-none : (o : Option ℕ) → answerOf o ≡ Bad → o ≡ none
-answer-none none e = refl
-answer-none (some n) e = let z : _≡_ {A = ℕ} 0 1 = cc in absurd (omega arith)
-
-answer-some : (o : Option ℕ) (n : ℕ) → answerOf o ≡ Word n → o ≡ some n
-answer-some none n e = let z : _≡_ {A = ℕ} 0 1 = cc in absurd (omega arith)
-answer-some (some m) n e = cc
-
 pub start-line : (c : ℕ) (v : Option Line) (o : Option (List ℕ)) → v ≡ lineWith c (some []) → short (lineWith c o) ≡ after v o
 start-line c v o e = before-all c o ∙ ap (λ (x : Option Line). after x o) (sym e)
 
 -- the first of the fields from one place up to another, which ends at q
 module _ (s : List ℕ) (from to q : ℕ) (up : from ≤ to) (fits : to ≤ length s) (found : q ≡ from + indexOf tab (slice from to s)) where
-  pub field-bad : q ≤ to → (v : Option Line) → answerOf (number (slice from q s)) ≡ Bad → after v (numbers (pieces tab (slice from to s))) ≡ none
+  pub field-bad : q ≤ to → (v : Option Line) → number (slice from q s) ≡ none → after v (numbers (pieces tab (slice from to s))) ≡ none
   field-bad h v e =
       let f = first tab s from to q up fits found h in
-      ap (λ (ps : List (List ℕ)). after v (numbers ps)) (f .1) ∙ no-number v _ (f .0) (answer-none _ e)
+      ap (λ (ps : List (List ℕ)). after v (numbers ps)) (f .1) ∙ no-number v _ (f .0) e
 
-  pub field-last : q ≡ to → (v : Option Line) (n : ℕ) → answerOf (number (slice from q s)) ≡ Word n → after v (numbers (pieces tab (slice from to s))) ≡ pushed n v
-  field-last h v n e = ap (λ (ps : List (List ℕ)). after v (numbers ps)) (last tab s from to q up fits found h) ∙ last-number v _ n (answer-some _ n e)
+  pub field-last : q ≡ to → (v : Option Line) (n : ℕ) → number (slice from q s) ≡ some n → after v (numbers (pieces tab (slice from to s))) ≡ pushed n v
+  field-last h v n e = ap (λ (ps : List (List ℕ)). after v (numbers ps)) (last tab s from to q up fits found h) ∙ last-number v _ n e
 
-  pub field-next : q < to → (v u : Option Line) (n : ℕ) → answerOf (number (slice from q s)) ≡ Word n → u ≡ pushed n v → after v (numbers (pieces tab (slice from to s))) ≡ after u (numbers (pieces tab (slice (q + 1) to s)))
+  pub field-next : q < to → (v u : Option Line) (n : ℕ) → number (slice from q s) ≡ some n → u ≡ pushed n v → after v (numbers (pieces tab (slice from to s))) ≡ after u (numbers (pieces tab (slice (q + 1) to s)))
   field-next h v u n e p =
       let rest = pieces tab (slice (q + 1) to s) in
-      ap (λ (ps : List (List ℕ)). after v (numbers ps)) (next tab s from to q up fits found h) ∙ a-number v _ rest n (answer-some _ n e) ∙ ap (λ (x : Option Line). after x (numbers rest)) (sym p)
+      ap (λ (ps : List (List ℕ)). after v (numbers ps)) (next tab s from to q up fits found h) ∙ a-number v _ rest n e ∙ ap (λ (x : Option Line). after x (numbers rest)) (sym p)
 
   size : q ≤ to → length (slice from q s) ≡ q - from
   unfolding slice

@@ -2,25 +2,28 @@
 use mathlib.Core.Path.{_≡_, refl, sym, ap, _∙_}
 use mathlib.Core.Bool.{Bool, true, false}
 use mathlib.Core.List.{List}
+use mathlib.Core.Option.{none, some}
 use Prim.Native.Nat.{ℕ, suc, _-_, _<_, _≤_}
 use native.Mathlib.Omega.{arith}
 use borrow.Author.Tests.{leb-true, eq-eqb, ne-eqb, eqb-true}
 use lib.ListN.{length, getD, take}
+use Rattle.model.specs.Basics.{choose}
 use Rattle.model.specs.Wrapper.{allSides}
-use Rattle.model.proofs.Basics.Tests.{fst, snd, both}
-use Rattle.format.specs.Lines.{between}
+use Rattle.model.proofs.Basics.Tests.{fst, snd, both, some-inj}
+use Rattle.format.specs.Lines.{between, when}
 use Rattle.reading.specs.declared.lines.Named.{Named}
 use Rattle.reading.specs.declared.lines.Named.the-variants.{At, Nothing}
-use Rattle.reading.specs.Fields.{namesSide, namedBy}
+use Rattle.reading.specs.Fields.{namesSide, placeOf}
 use Rattle.reading.proofs.TestLaws.{first-fails, second-fails, inside, below, above}
 use Rattle.reading.proofs.AnswerLaws.{first-of, size-of}
 
 -- the answers of the code
 module _ (high size rank len : ℕ) (ws : List ℕ) (full : length ws ≡ 21) (some-words : 0 < size) (few : size < 21) where
   abbrev Says : Named → Type 0
-  Says r = r ≡ namedBy (namesSide high size rank (take len ws)) (getD (take len ws) 0 0)
+  Says r = placeOf r ≡ when (namesSide high size rank (take len ws)) (getD (take len ws) 0 0 - 1)
 
   nothing : namesSide high size rank (take len ws) ≡ false → Says Nothing
+  unfolding choose
   nothing e = rw e refl
 
   pub by-no-rank : rank ≡ 0 → Says Nothing
@@ -44,12 +47,12 @@ module _ (high size rank len : ℕ) (ws : List ℕ) (full : length ws ≡ 21) (s
   by-side e z = nothing (second-fails _ _ (second-fails _ _ (above 1 (length allSides) (getD (take len ws) 0 0) (omega (arith, first-of len ws (omega arith))))))
 
   pub by-all : (rank ≡ 0 → ⊥) → rank ≤ high → len ≡ size → (getD ws 0 0 ≡ 0 → ⊥) → getD ws 0 0 ≤ length allSides → Says (At (getD ws 0 0 - 1))
-  unfolding namesSide
+  unfolding namesSide choose
   by-all a b e z m =
       let f = first-of len ws (omega arith) in
       let t : namesSide high size rank (take len ws) ≡ true =
       both _ _ (inside 1 high rank (omega arith) b) (both _ _ (eq-eqb (length (take len ws)) size (omega (arith, size-of len ws full))) (inside 1 (length allSides) (getD (take len ws) 0 0) (omega (arith, f)) (omega (arith, f)))) in
-      ap (λ (n : ℕ). At (n - 1)) (sym f) ∙ ap (λ (b : Bool). namedBy b (getD (take len ws) 0 0)) (sym t)
+      ap (λ (n : ℕ). some (n - 1)) (sym f) ∙ ap (λ (b : Bool). when b (getD (take len ws) 0 0 - 1)) (sym t)
 
 -- a line of another size names no side
 pub another-size : (high size rank : ℕ) (ns : List ℕ) → (length ns ≡ size → ⊥) → namesSide high size rank ns ≡ false
@@ -57,10 +60,11 @@ unfolding namesSide
 another-size high size rank ns e = second-fails _ _ (first-fails _ _ (ne-eqb (length ns) size e))
 
 -- what an answer tells: the line names no side, or the side of place s
-pub no-side : (r : Named) (b : Bool) (n : ℕ) → r ≡ namedBy b n → r ≡ Nothing → b ≡ false
+pub no-side : (r : Named) (b : Bool) (n : ℕ) → placeOf r ≡ when b n → r ≡ Nothing → b ≡ false
+unfolding choose
 no-side r false n e q = refl
 no-side r true n e q =
-    let k : At (n - 1) ≡ Nothing = sym e ∙ q in
+    let k : some n ≡ none = sym e ∙ ap placeOf q in
     let z : _≡_ {A = ℕ} 0 1 = cc in
     absurd (omega arith)
 
@@ -80,12 +84,13 @@ module _ (high size rank : ℕ) (ns : List ℕ) (s : ℕ) where
       let top = leb-true (getD ns 0 0) (length allSides) (snd _ _ b) in
       record { ranked = fst _ _ e; sized = eqb-true (length ns) size (fst _ _ a); number = omega arith; place = omega arith }
 
-  pub a-side : (r : Named) → r ≡ namedBy (namesSide high size rank ns) (getD ns 0 0) → r ≡ At s → Names high size rank ns s
+  pub a-side : (r : Named) → placeOf r ≡ when (namesSide high size rank ns) (getD ns 0 0 - 1) → r ≡ At s → Names high size rank ns s
+  unfolding choose
   a-side r e q = by (namesSide high size rank ns) refl
     where
       by : (b : Bool) → namesSide high size rank ns ≡ b → Names high size rank ns s
-      by true t = let k : At s ≡ At (getD ns 0 0 - 1) = sym q ∙ e ∙ ap (λ (b : Bool). namedBy b (getD ns 0 0)) t in tested t cc
+      by true t = tested t (some-inj (sym (ap placeOf q) ∙ e ∙ ap (λ (b : Bool). when b (getD ns 0 0 - 1)) t))
       by false t =
-          let k : At s ≡ Nothing = sym q ∙ e ∙ ap (λ (b : Bool). namedBy b (getD ns 0 0)) t in
+          let k : some s ≡ none = sym (ap placeOf q) ∙ e ∙ ap (λ (b : Bool). when b (getD ns 0 0 - 1)) t in
           let z : _≡_ {A = ℕ} 0 1 = cc in
           absurd (omega arith)

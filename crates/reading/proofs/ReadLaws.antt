@@ -12,7 +12,6 @@ use lib.ListN.{length, getD}
 use lib.Seq.{length-slice}
 use Rattle.model.specs.Basics.{_&_, choose}
 use Rattle.model.specs.Wrapper.{allSides}
-use Rattle.format.specs.Lines as format
 use Rattle.format.specs.Lines.{newline, toFirst, pieces, lineOf, Input, noInput, withLine, fault, whole, readFrom, reading, soFar, readSoFar}
 use Rattle.bytes.specs.Bytes.{slice, indexOf}
 use Rattle.reading.specs.declared.Places.{Places}
@@ -21,7 +20,7 @@ use Rattle.reading.specs.declared.Verdict.the-variants.{Fault, Whole}
 use Rattle.reading.specs.declared.lines.After.{After}
 use Rattle.reading.specs.declared.fields.Line as code
 use Rattle.reading.specs.Fields.{viewLine, short, afterLine}
-use Rattle.reading.specs.Lists.{Lists, placesOf, verdictOf, Holds, AfterIs, ReadIs}
+use Rattle.reading.specs.Lists.{Lists, placesOf, readingOf, Holds, AfterIs, ReadIs}
 use Rattle.reading.proofs.PieceLaws as part
 use Rattle.reading.proofs.LaidLaws.{laid-none}
 use Rattle.reading.proofs.AnswerLaws.{same-lists}
@@ -61,20 +60,17 @@ so-far-last i f = refl
 
 -- what stands behind the last newline
 module _ (n : ℕ) (i : Input) (f : List ℕ) where
-  ends : (r : format.Reading) → readFrom n i (f ∷ []) ≡ r → verdictOf r ≡ verdictOf (readFrom n i (f ∷ []))
-  ends r e = ap verdictOf (sym e)
-
-  pub rest-some : 0 < length f → Fault n ≡ verdictOf (readFrom n i (f ∷ []))
+  pub rest-some : 0 < length f → readingOf (Fault n) i ≡ readFrom n i (f ∷ [])
   unfolding readFrom _&_ choose
-  rest-some e = ends (fault n) (rw (ne-eqb (length f) 0 (λ q. omega arith)))
+  rest-some e = let q : readFrom n i (f ∷ []) ≡ fault n = rw (ne-eqb (length f) 0 (λ q. omega arith)) in sym q
 
-  pub rest-none : length f ≤ 0 → i .rank ≡ 0 → Fault n ≡ verdictOf (readFrom n i (f ∷ []))
+  pub rest-none : length f ≤ 0 → i .rank ≡ 0 → readingOf (Fault n) i ≡ readFrom n i (f ∷ [])
   unfolding readFrom _&_ choose
-  rest-none e z = ends (fault n) (rw (eq-eqb (length f) 0 (omega arith), z))
+  rest-none e z = let q : readFrom n i (f ∷ []) ≡ fault n = rw (eq-eqb (length f) 0 (omega arith), z) in sym q
 
-  pub rest-whole : length f ≤ 0 → (i .rank ≡ 0 → ⊥) → Whole ≡ verdictOf (readFrom n i (f ∷ []))
+  pub rest-whole : length f ≤ 0 → (i .rank ≡ 0 → ⊥) → readingOf Whole i ≡ readFrom n i (f ∷ [])
   unfolding readFrom _&_ choose
-  rest-whole e z = ends (whole i) (rw (eq-eqb (length f) 0 (omega arith), lt-ltb 0 (i .rank) (omega (arith, z))))
+  rest-whole e z = let q : readFrom n i (f ∷ []) ≡ whole i = rw (eq-eqb (length f) 0 (omega arith), lt-ltb 0 (i .rank) (omega (arith, z))) in sym q
 
 -- an answer of a line, taken apart
 gave-none : (i : Input) (o : Option Input) (r : After) (old new : Lists) → r .taken ≡ false → AfterIs i o r old new → (o ≡ none) × (r .places ≡ placesOf i) × Holds i old new
@@ -91,8 +87,8 @@ pub record SoFar (s : List ℕ) (n : ℕ) (rest : List (List ℕ)) (i : Input) :
   pub given : readSoFar s ≡ soFar i rest
 
 -- the answer from what the lines give
-answered : (s : List ℕ) (v : Verdict) (p : Places) (i : Input) (old new : Lists) → v ≡ verdictOf (reading s) → readSoFar s ≡ i → p ≡ placesOf i → Holds i old new → ReadIs s (record { verdict = v; places = p }) old new
-answered s v p i old new e g q h = record { verdict = e; places = q ∙ ap placesOf (sym g); holds = subst (λ (x : Input). Holds x old new) (sym g) h }
+answered : (s : List ℕ) (v : Verdict) (p : Places) (i : Input) (old new : Lists) → readingOf v i ≡ reading s → readSoFar s ≡ i → p ≡ placesOf i → Holds i old new → ReadIs s (record { verdict = v; places = p }) old new
+answered s v p i old new e g q h = record { verdict = ap (readingOf v) g ∙ e; places = q ∙ ap placesOf (sym g); holds = subst (λ (x : Input). Holds x old new) (sym g) h }
 
 -- before the first line, and an input that is too long
 no-counts : (ns : List ℕ) (k : ℕ) → _≡_ {A = ℕ} (getD (map (λ n. 0) ns) k 0) 0
@@ -115,7 +111,7 @@ too-long s p l h q =
     let f : leb (length s) 65536 ≡ false = lt-leb (length s) 65536 h in
     let r : reading s ≡ fault 0 = rw f in
     let g : readSoFar s ≡ noInput = rw f in
-    answered s (Fault 0) p noInput l l (ap verdictOf (sym r)) g q (holds-none l)
+    answered s (Fault 0) p noInput l l (sym r) g q (holds-none l)
 
 pub before-lines : (s : List ℕ) → length s ≤ 65536 → SoFar s 1 (pieces newline (slice 0 (length s) s)) noInput
 unfolding reading readSoFar choose
@@ -138,7 +134,7 @@ module _ (s : List ℕ) (at to q n : ℕ) (i : Input) (up : at ≤ to) (fits : t
         let x = more h in
         let y = gave-none i _ r old l f a in
         let w = line-of c view ∙ y .0 in
-        answered s (Fault n) (r .places) i old l (ap verdictOf (sym (x .3 .verdict ∙ line-none n i _ (x .0) (x .1) w))) (x .3 .given ∙ so-far-none i _ (x .0) (x .1) w) (y .1) (y .2)
+        answered s (Fault n) (r .places) i old l (sym (x .3 .verdict ∙ line-none n i _ (x .0) (x .1) w)) (x .3 .given ∙ so-far-none i _ (x .0) (x .1) w) (y .1) (y .2)
 
     pub line-taken : r .taken ≡ true → (j : Input) × (r .places ≡ placesOf j) × Holds j old l × SoFar s (n + 1) (pieces newline (slice (q + 1) to s)) j
     line-taken f =
@@ -153,37 +149,9 @@ module _ (s : List ℕ) (at to q n : ℕ) (i : Input) (up : at ≤ to) (fits : t
   size e = rw e (length-slice at to s fits)
 
   pub no-newline : q ≡ to → (v : Verdict) (p : Places) (old l : Lists) → p ≡ placesOf i → Holds i old l →
-      ((j : Input) (rest : List ℕ) → p .rank ≡ j .rank → length rest ≡ to - at → v ≡ verdictOf (readFrom n j (rest ∷ []))) → ReadIs s (record { verdict = v; places = p }) old l
+      ((j : Input) (rest : List ℕ) → p .rank ≡ j .rank → length rest ≡ to - at → readingOf v j ≡ readFrom n j (rest ∷ [])) → ReadIs s (record { verdict = v; places = p }) old l
   no-newline e v p old l g h f =
       let last = part.last newline s at to q up fits found e in
       answered s v p i old l
-      (f i (slice at q s) (ap (λ (x : Places). x .rank) g) (size e) ∙ ap verdictOf (sym (so-far .verdict ∙ ap (readFrom n i) last)))
+      (f i (slice at q s) (ap (λ (x : Places). x .rank) g) (size e) ∙ sym (so-far .verdict ∙ ap (readFrom n i) last))
       (so-far .given ∙ ap (soFar i) last ∙ so-far-last i (slice at q s)) g h
-
--- AN INPUT WITHOUT A FAULT
--- all its lines are before the first fault
-last-whole : (n : ℕ) (i j : Input) (t : Bool) → choose t (whole i) (fault n) ≡ whole j → i ≡ j
-unfolding choose
-last-whole n i j true e = cc
-last-whole n i j false e = let z : _≡_ {A = ℕ} 0 1 = cc in absurd (omega arith)
-
-whole-lines : (ls : List (List ℕ)) (n : ℕ) (i j : Input) → readFrom n i ls ≡ whole j → soFar i ls ≡ j
-unfolding readFrom soFar
-whole-lines [] n i j e = let z : _≡_ {A = ℕ} 0 1 = cc in absurd (omega arith)
-whole-lines (l ∷ []) n i j e = last-whole n i j _ e
-whole-lines (l ∷ m ∷ ls) n i j e = by (withLine i l) refl (λ k. whole-lines (m ∷ ls) (suc n) k j)
-  where
-    by : (o : Option Input) → withLine i l ≡ o → ((k : Input) → readFrom (suc n) k (m ∷ ls) ≡ whole j → soFar k (m ∷ ls) ≡ j) → soFar i (l ∷ m ∷ ls) ≡ j
-    by none q h =
-        let k : fault n ≡ whole j = sym (line-none n i l m ls q) ∙ e in
-        let z : _≡_ {A = ℕ} 0 1 = cc in
-        absurd (omega arith)
-    by (some k) q h = so-far-some i k l m ls q ∙ h k (sym (line-some n i k l m ls q) ∙ e)
-
-pub whole-given : (s : List ℕ) (i : Input) → reading s ≡ whole i → readSoFar s ≡ i
-unfolding reading readSoFar choose
-whole-given s i e = by (leb (length s) 65536) (whole-lines (pieces newline s) 1 noInput i) e
-  where
-    by : (t : Bool) → (readFrom 1 noInput (pieces newline s) ≡ whole i → soFar noInput (pieces newline s) ≡ i) → choose t (readFrom 1 noInput (pieces newline s)) (fault 0) ≡ whole i → choose t (soFar noInput (pieces newline s)) noInput ≡ i
-    by true h q = h q
-    by false h q = let z : _≡_ {A = ℕ} 0 1 = cc in absurd (omega arith)

@@ -1,8 +1,8 @@
--- A field and a line as the code answers them.
+-- What the code's answers say of a field and of a line.
 use mathlib.Core.List.{List, [], _∷_, _++_}
 use mathlib.Core.Option.{Option, none, some}
-use mathlib.Core.Bool.{Bool, true, false}
-use Prim.Native.Nat.{ℕ, _-_}
+use mathlib.Core.Bool.{Bool}
+use Prim.Native.Nat.{ℕ}
 use lib.Dec.{leb, eqb}
 use lib.ListN.{length, getD, take}
 use Rattle.model.specs.Basics.{_&_, choose}
@@ -14,10 +14,10 @@ use Rattle.reading.specs.declared.fields.Line as code
 use Rattle.reading.specs.declared.lines.Named.{Named}
 use Rattle.reading.specs.declared.lines.Named.the-variants.{At, Nothing}
 
--- the answer for a number, or for none
-abbrev pub answerOf : Option ℕ → Number
-answerOf none = Bad
-answerOf (some n) = Word n
+-- the number that a field is, or that it is none
+abbrev pub numberOf : Number → Option ℕ
+numberOf (Word n) = some n
+numberOf Bad = none
 
 -- the numbers that a struct holds
 abbrev pub wordsOf : code.Line → List ℕ
@@ -55,7 +55,7 @@ afterLine i (some l) = onLine i l
 unfoldable pub namesSide : (high size rank : ℕ) → List ℕ → Bool
 namesSide high size rank ns = between 1 high rank & (eqb (length ns) size & between 1 (length allSides) (getD ns 0 0))
 
--- the answer for the side of number n, where it is named
-abbrev pub namedBy : Bool → ℕ → Named
-namedBy false n = Nothing
-namedBy true n = At (n - 1)
+-- the place of the side that a line names, or that it names none
+abbrev pub placeOf : Named → Option ℕ
+placeOf (At k) = some k
+placeOf Nothing = none

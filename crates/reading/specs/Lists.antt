@@ -85,13 +85,17 @@ pub record AfterIs (i : Input) (o : Option Input) (r : After) (old new : Lists) 
   pub places : r .places ≡ placesOf (kept i o)
   pub holds : Holds (kept i o) old new
 
--- the verdict on an input
-abbrev pub verdictOf : format.Reading → Verdict
-verdictOf (fault n) = Fault n
-verdictOf (whole i) = Whole
+-- r is the answer of a line that gives f i behind lines that give i: the lent lists were l before the line, and are m after it
+abbrev pub LineIs : Places → (f : Input → Option Input) → (l m : Lists) → After → Type 0
+LineIs p f l m r = (i : Input) (old : Lists) → p ≡ placesOf i → Holds i old l → AfterIs i (f i) r old m
+
+-- what a verdict says is read: the number of the line at fault, or all of i, which the lines before the first fault give
+abbrev pub readingOf : Verdict → (i : Input) → format.Reading
+readingOf (Fault n) i = fault n
+readingOf Whole i = whole i
 
 -- r is the answer of an input, and the lent lists hold what the lines before the first fault give
 pub record ReadIs (input : List ℕ) (r : Reading) (old new : Lists) : Type 0 where
-  pub verdict : r .verdict ≡ verdictOf (reading input)
+  pub verdict : readingOf (r .verdict) (readSoFar input) ≡ reading input
   pub places : r .places ≡ placesOf (readSoFar input)
   pub holds : Holds (readSoFar input) old new

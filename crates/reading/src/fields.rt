@@ -6,7 +6,7 @@ ghost use Prim.Native.Nat.{_≤_};
 ghost use lib.ListN.{length};
 ghost use Rattle.bytes.specs.Bytes.{slice};
 ghost use Rattle.format.specs.Lines.{tab, number, pieces, numbers, lineOf};
-ghost use Rattle.reading.specs.Fields.{answerOf, viewLine, short, lineWith};
+ghost use Rattle.reading.specs.Fields.{numberOf, viewLine, short, lineWith};
 
 // A field as a number.
 pub(crate) enum Number {
@@ -31,7 +31,7 @@ fn wide(b: u8) -> u64
 // The number in the bytes from one place up to another.
 fn number_at(s: &[u8], from: usize, to: usize) -> Number
     requires { ⌜ (from ≤ to) × (to ≤ length (now s)) ⌝ }
-    ensures { λ r. ⌜ r ≡ answerOf (number (slice from to (now (s .entry)))) ⌝ }
+    ensures { λ r. ⌜ numberOf r ≡ number (slice from to (now (s .entry))) ⌝ }
 {
     if from == to {
         return Number::Bad;

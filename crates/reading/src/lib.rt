@@ -7,7 +7,7 @@ ghost use mathlib.Core.List.{List, [], _∷_};
 ghost use Prim.Native.Nat.{ℕ};
 ghost use lib.ListN.{length};
 ghost use Rattle.format.specs.Lines.{Input, noInput, readFrom};
-ghost use Rattle.reading.specs.Lists.{lists, placesOf, verdictOf, ReadIs};
+ghost use Rattle.reading.specs.Lists.{lists, placesOf, readingOf, ReadIs};
 use fields::line_at;
 use lines::on_line;
 use sides::Sides;
@@ -66,7 +66,7 @@ impl Places {
 
 // The verdict on an input's last line n, which has no newline and so many bytes, behind lines of some rank.
 fn ended(rank: usize, n: usize, bytes: usize) -> Verdict
-    ensures { λ r. ⌜ ((i : Input) (rest : List ℕ) → rank ≡ i .rank → length rest ≡ bytes → r ≡ verdictOf (readFrom n i (rest ∷ []))) ⌝ }
+    ensures { λ r. ⌜ ((i : Input) (rest : List ℕ) → rank ≡ i .rank → length rest ≡ bytes → readingOf r i ≡ readFrom n i (rest ∷ [])) ⌝ }
 {
     if 0 < bytes {
         return Verdict::Fault(n);

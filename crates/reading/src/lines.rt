@@ -6,9 +6,9 @@ ghost use lib.Dec.{ltb};
 ghost use lib.ListN.{length, getD, take, drop};
 ghost use lib.Seq.{sets};
 ghost use Rattle.model.specs.Basics.{_&_};
-ghost use Rattle.format.specs.Lines.{Input, between, onW, onN, onV, onS};
-ghost use Rattle.reading.specs.Fields.{wordsOf, viewLine, afterLine, namesSide, namedBy};
-ghost use Rattle.reading.specs.Lists.{Lists, lists, placesOf, Inside, Holds, AfterIs};
+ghost use Rattle.format.specs.Lines.{between, when, onW, onN, onV, onS};
+ghost use Rattle.reading.specs.Fields.{wordsOf, viewLine, afterLine, namesSide, placeOf};
+ghost use Rattle.reading.specs.Lists.{Lists, lists, Inside, LineIs};
 use super::Places;
 use super::fields::Line;
 use sides::Sides;
@@ -42,7 +42,7 @@ fn store(list: &mut [u32], at: usize, l: Line, from: usize, to: usize)
 // The place of the side that a line names, where the line has `size` numbers and a rank from 1 to `high` is before it.
 fn side_named(l: Line, rank: usize, high: usize, size: usize) -> Named
     requires { ⌜ (0 < size) × (size < 21) ⌝ }
-    ensures { λ r. ⌜ r ≡ namedBy (namesSide high size rank (wordsOf l)) (getD (wordsOf l) 0 0) ⌝ }
+    ensures { λ r. ⌜ placeOf r ≡ when (namesSide high size rank (wordsOf l)) (getD (wordsOf l) 0 0 - 1) ⌝ }
 {
     if rank == 0 {
         return Named::Nothing;
@@ -65,7 +65,7 @@ fn side_named(l: Line, rank: usize, high: usize, size: usize) -> Named
 
 // A W line.
 fn on_w(l: Line, mut p: Places) -> After
-    ensures { λ r. ⌜ ((i : Input) (old new : Lists) → p ≡ placesOf i → Holds i old new → AfterIs i (onW i (wordsOf l)) r old new) ⌝ }
+    ensures { λ r. ⌜ ((new : Lists) → LineIs p (λ i. onW i (wordsOf l)) new new r) ⌝ }
 {
     if p.rank != 0 {
         return After {
@@ -90,7 +90,7 @@ fn on_w(l: Line, mut p: Places) -> After
 // An N line.
 fn on_n(l: Line, mut p: Places, nodes: &mut [u32; Places::NODES]) -> After
     requires { ⌜ Inside p ⌝ }
-    ensures { λ r. ⌜ ((i : Input) (old : Lists) (pools steps : List ℕ) → p ≡ placesOf i → Holds i old (lists (now (nodes .entry)) pools steps) → AfterIs i (onN i (wordsOf l)) r old (lists (now (nodes .exit)) pools steps)) ⌝ }
+    ensures { λ r. ⌜ ((pools steps : List ℕ) → LineIs p (λ i. onN i (wordsOf l)) (lists (now (nodes .entry)) pools steps) (lists (now (nodes .exit)) pools steps) r) ⌝ }
 {
     let side = side_named(l, p.rank, 2, 6);
     let Named::At(s) = side else {
@@ -118,7 +118,7 @@ fn on_n(l: Line, mut p: Places, nodes: &mut [u32; Places::NODES]) -> After
 // A V line.
 fn on_v(l: Line, mut p: Places, pools: &mut [u32; Places::POOLS]) -> After
     requires { ⌜ Inside p ⌝ }
-    ensures { λ r. ⌜ ((i : Input) (old : Lists) (nodes steps : List ℕ) → p ≡ placesOf i → Holds i old (lists nodes (now (pools .entry)) steps) → AfterIs i (onV i (wordsOf l)) r old (lists nodes (now (pools .exit)) steps)) ⌝ }
+    ensures { λ r. ⌜ ((nodes steps : List ℕ) → LineIs p (λ i. onV i (wordsOf l)) (lists nodes (now (pools .entry)) steps) (lists nodes (now (pools .exit)) steps) r) ⌝ }
 {
     let side = side_named(l, p.rank, 3, 2);
     let Named::At(s) = side else {
@@ -163,7 +163,7 @@ fn fits(len: usize, rank: usize, steps: usize) -> bool
 // An S line.
 fn on_s(l: Line, mut p: Places, steps: &mut [u32; Places::STEPS]) -> After
     requires { ⌜ Inside p × (l .len ≤ 21) ⌝ }
-    ensures { λ r. ⌜ ((i : Input) (old : Lists) (nodes pools : List ℕ) → p ≡ placesOf i → Holds i old (lists nodes pools (now (steps .entry))) → AfterIs i (onS i (wordsOf l)) r old (lists nodes pools (now (steps .exit)))) ⌝ }
+    ensures { λ r. ⌜ ((nodes pools : List ℕ) → LineIs p (λ i. onS i (wordsOf l)) (lists nodes pools (now (steps .entry))) (lists nodes pools (now (steps .exit))) r) ⌝ }
 {
     let len = l.len;
     if !fits(len, p.rank, p.steps) {
@@ -196,7 +196,7 @@ pub(crate) fn on_line(
     steps: &mut [u32; Places::STEPS],
 ) -> After
     requires { ⌜ Inside p ⌝ }
-    ensures { λ r. ⌜ ((i : Input) (old : Lists) → p ≡ placesOf i → Holds i old (lists (now (nodes .entry)) (now (pools .entry)) (now (steps .entry))) → AfterIs i (afterLine i (viewLine l)) r old (lists (now (nodes .exit)) (now (pools .exit)) (now (steps .exit)))) ⌝ }
+    ensures { λ r. ⌜ LineIs p (λ i. afterLine i (viewLine l)) (lists (now (nodes .entry)) (now (pools .entry)) (now (steps .entry))) (lists (now (nodes .exit)) (now (pools .exit)) (now (steps .exit))) r ⌝ }
 {
     if 21 < l.len {
         return After {

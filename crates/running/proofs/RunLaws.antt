@@ -1,5 +1,5 @@
 -- A run by words.
-use mathlib.Core.Path.{_≡_, refl, sym, ap, subst, _∙_}
+use mathlib.Core.Path.{_≡_, refl, sym, ap, ap₂, subst, _∙_}
 use mathlib.Core.Bool.{Bool, true, false}
 use mathlib.Core.List.{List, [], _∷_, _++_, append-nil, append-assoc}
 use mathlib.Core.Option.{Option, none, some}
@@ -12,20 +12,18 @@ use lib.ListN.{length, getD, take, drop, set, replicate, length-append, take-app
 use lib.Seq.{paste, take-all, length-take-le, drop-drop, paste-suc, length-paste, take-paste, drop-paste}
 use Rattle.model.specs.Basics.{choose}
 use Rattle.model.specs.Side.{State as MState}
-use Rattle.model.specs.Load.{Composition, Refused, Loaded, refused, ok, load}
+use Rattle.model.specs.Load.{Composition, refused, ok, load}
 use Rattle.model.specs.WellFormed.{ready}
 use Rattle.model.specs.Step.{Step, step}
 use Rattle.model.specs.Runs.{answers}
 use Rattle.model.proofs.Basics.Tests.{some-inj}
 use Rattle.model.proofs.Formed.Invariant.{keeps}
-use Rattle.format.specs.Words.{before, stepsOf, stepAt, saidWords, givenWords, answerWords, allAnswerWords, tooShort, runFrom, runSteps, runOf}
+use Rattle.format.specs.Words.{before, stepsOf, stepAt, saidWords, givenWords, answerWords, allAnswerWords, answersOf, tooShort, answered, runFrom, runSteps, runOf}
 use Rattle.format.specs.Words.{Ran as FRan}
-use Rattle.format.proofs.AnswerWords.{answers-many}
+use Rattle.format.proofs.AnswerWords.{answers-many, words-answers}
 use Rattle.format.proofs.StepWords.{steps-next, steps-short, steps-cut, steps-end, Next, next-step}
 use Rattle.steps.specs.declared.Said.{Said}
 use Rattle.steps.specs.declared.Said.the-variants as said
-use Rattle.loading.specs.declared.Outcome.the-variants as outcome
-use Rattle.loading.specs.Loading.{outcomeOf}
 use Rattle.answers.specs.Answers.{saidOf, givenFor}
 use Rattle.running.specs.declared.Ran.{Ran}
 use Rattle.running.specs.declared.Ran.the-variants as ran
@@ -227,13 +225,6 @@ no-steps (some xs) e = let z : _≡_ {A = ℕ} 0 1 = cc in absurd (omega arith)
 run-by : {x y : FRan} {lent new : List ℕ} {r : Ran} → x ≡ y → RunIs y lent new r → RunIs x lent new r
 run-by {lent = lent} {new = new} {r = r} e h = subst (λ (z : FRan). RunIs z lent new r) (sym e) h
 
-refused-same : (k i m : ℕ) (x : Refused) → k ≡ x .number → i ≡ x .side → m ≡ x .node → x ≡ record { number = k; side = i; node = m }
-refused-same k i m x p q r = rw (p, q, r)
-
-refused-is : (k i m : ℕ) (o : Loaded) → outcomeOf o ≡ outcome.Refused k i m → o ≡ refused (record { number = k; side = i; node = m })
-refused-is k i m (refused x) q = let a : k ≡ x .number = cc in let c : i ≡ x .side = cc in let d : m ≡ x .node = cc in ap refused (refused-same k i m x a c d)
-refused-is k i m (ok s) q = let z : _≡_ {A = ℕ} 0 1 = cc in absurd (omega arith)
-
 module _ (b : Composition) (l lent : List ℕ) where
   pub run-broken : countOf (stepsOf l) ≡ none → RunIs (runOf b l (length lent)) lent lent ran.BrokenOff
   run-broken e = run-by (ap (runSteps b (length lent)) (no-steps (stepsOf l) e)) (record { answer = refl; put = record { size = refl; words = refl } })
@@ -250,11 +241,15 @@ module _ (b : Composition) (l lent : List ℕ) where
     unfolding choose
     room-left room = by-room false (le-ltb (length lent) (20 * length (h .steps)) (omega (arith, h .many)))
 
-    pub run-refused : n ≤ length lent / 20 → (k i m : ℕ) → outcomeOf (load b) ≡ outcome.Refused k i m → RunIs (runOf b l (length lent)) lent lent (ran.Refused k i m)
-    run-refused room k i m e = run-by (room-left room ∙ ap (runFrom b (h .steps)) (refused-is k i m (load b) e)) (record { answer = refl; put = record { size = refl; words = refl } })
+    pub run-refused : n ≤ length lent / 20 → (k i m : ℕ) → load b ≡ refused (record { number = k; side = i; node = m }) → RunIs (runOf b l (length lent)) lent lent (ran.Refused k i m)
+    run-refused room k i m e = run-by (room-left room ∙ ap (runFrom b (h .steps)) e) (record { answer = refl; put = record { size = refl; words = refl } })
 
     pub run-done : n ≤ length lent / 20 → (s : MState) → load b ≡ ok s → (new : List ℕ) →
         Put (allAnswerWords (answers b s (h .steps))) n lent new → RunIs (runOf b l (length lent)) lent new (ran.Done n)
     run-done room s e new w =
-        let many : n ≡ length (answers b s (h .steps)) = sym (h .many) ∙ sym (answers-many b s (h .steps)) in
-        run-by (room-left room ∙ ap (runFrom b (h .steps)) e) (record { answer = ap ran.Done many; put = record { size = w .size ∙ ap (λ (m : ℕ). 20 * m) many; words = w .words } })
+        let ys = answers b s (h .steps) in
+        let ws = allAnswerWords ys in
+        let many : n ≡ length ys = sym (h .many) ∙ sym (answers-many b s (h .steps)) in
+        let size : length ws ≡ 20 * length ys = w .size ∙ ap (λ (m : ℕ). 20 * m) many in
+        let read : answersOf n new ≡ ys = ap₂ answersOf many (w .words) ∙ words-answers ys (drop (length ws) lent) size in
+        run-by (room-left room ∙ ap (runFrom b (h .steps)) e) (record { answer = ap answered read; put = record { size = size; words = w .words } })

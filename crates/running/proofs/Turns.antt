@@ -10,23 +10,22 @@ use Rattle.model.specs.Basics.{Res}
 use Rattle.model.specs.Side.{State}
 use Rattle.model.specs.Wrapper.{allSides, described, hasSide}
 use Rattle.model.specs.Load.{Composition, Setting}
-use Rattle.model.specs.Step.{Moved, settled, local, Result, step}
+use Rattle.model.specs.Step.{Moved, Result, step}
 use Rattle.model.specs.Answer.{given}
 use Rattle.format.specs.Words.{stepAt, givenWords}
 use Rattle.values.specs.Env.{viewValue}
 use Rattle.sides.proofs.Lists.{map-set}
 use Rattle.wrappers.specs.Compositions.{composition}
 use Rattle.sides.specs.declared.Rest.{Rest}
-use Rattle.sides.specs.Sides.{coreOf}
 use Rattle.steps.specs.declared.Said.the-variants as said
 use Rattle.loading.proofs.Faults.{map-at}
 use Rattle.loading.proofs.Starting.{has-place}
 use Rattle.answers.specs.Answers.{givenFor}
 use Rattle.steps.specs.declared.RestStep.{RestStep}
-use Rattle.steps.specs.Asked.{knownBy}
 use Rattle.dispatch.specs.Stepping.{settingOf, asked, OwnReady}
-use Rattle.dispatch.specs.Sharing.{shelvesIn, shelvedOf, stateIn, Lent, AtSide, MarkedAt}
+use Rattle.dispatch.specs.Sharing.{shelvedOf, stateIn, Lent, AtSide}
 use Rattle.dispatch.proofs.InState.{none-asked, own-ready, answer-is, after-is, lent-after}
+use Rattle.running.specs.Runs.{moveOf, Moves}
 use Rattle.running.proofs.RunLaws.{Running, run-more}
 
 -- the step asked for is the one whose words stand at a place
@@ -71,18 +70,17 @@ module _ {A : Type 0} (now : A → List ℕ) (w : ℕ) (ns ps : List A)
 
     -- the turn after its step
     pub turn-made : k < n → 20 * n ≤ length lent → m ≡ stepAt l p .side → (ls′ : List (List ℕ)) (ms′ : List (List Bool)) (r : RestStep) →
-        AtSide (settled (local (settingOf w m (now (getD ns i u)) (now (getD ps i v))) (knownBy ms) (shelvesIn ls hs) (coreOf (getD ls (m - 1) []) (getD os i d)) (stepAt l p)))
-        ls (m - 1) (getD os i d) ls′ r →
-        MarkedAt (r .said) (viewValue (r .value)) ms (m - 1) ms′ →
+        Moves (settingOf w m (now (getD ns i u)) (now (getD ps i v))) (getD os i d) ls ms hs (stepAt l p) ls′ ms′ r →
         (new : List ℕ) (next : ℕ) → length (givenWords (givenFor (r .said) m (viewValue (r .value)))) ≡ 20 →
         new ≡ paste out (20 * k) (givenWords (givenFor (r .said) m (viewValue (r .value)))) 20 → next ≡ p + 5 + getD l (p + 4) 0 →
         Turn (composition w (map now ns) (map now ps)) s l lent n (k + 1) next ls′ (set os i (r .rest)) ms′ (set hs i (r .rest .shelved)) new
-    turn-made lt room same ls′ ms′ r is mk new next len put at =
+    turn-made lt room same ls′ ms′ r is new next len put at =
         let x = stepAt l p in
-        let move : Setting → List ℕ → Rest → Res Moved = λ t ys o. settled (local t (knownBy ms) (shelvesIn ls ys) (coreOf (getD ls (m - 1) []) o) x) in
+        let mk = is .marked in
+        let move : Setting → List ℕ → Rest → Res Moved = λ t ys o. moveOf t o ls ms ys x in
         let o : Rest = getD os (m - 1) d in
         let here : AtSide (move (settingOf w m (now (getD ns (m - 1) u)) (now (getD ps (m - 1) v))) hs o) ls (m - 1) o ls′ r =
-        subst (λ (j : ℕ). AtSide (move (settingOf w m (now (getD ns j u)) (now (getD ps j v))) hs (getD os j d)) ls (m - 1) (getD os j d) ls′ r) place is in
+        subst (λ (j : ℕ). AtSide (move (settingOf w m (now (getD ns j u)) (now (getD ps j v))) hs (getD os j d)) ls (m - 1) (getD os j d) ls′ r) place (is .step) in
         let its : AtSide (move (settingOf w m (getD (map now ns) (m - 1) []) (getD (map now ps) (m - 1) [])) (shelvedOf os) o) ls (m - 1) o ls′ r =
         at-same (ap₂ (λ (t : Setting) (ys : List ℕ). move t ys o) (ap₂ (settingOf w m) (sym nodes-at) (sym pools-at)) (h .shelved)) here in
         let e = h .run .ready in

@@ -1,11 +1,11 @@
--- A run by words, as the enums and structs hold it.
+-- A run by words: what the enums say, and what is written.
 use mathlib.Core.Path.{_≡_}
 use mathlib.Core.List.{List}
 use mathlib.Core.Option.{Option, none, some}
 use Prim.Native.Nat.{ℕ, _*_}
 use lib.ListN.{length}
 use Rattle.model.specs.Step.{Step}
-use Rattle.format.specs.Words.{brokenOff, tooShort, unloaded, answered, givenWords, writtenBy, onto}
+use Rattle.format.specs.Words.{answersOf, brokenOff, tooShort, unloaded, answered, givenWords, writtenBy, onto}
 use Rattle.format.specs.Words.{Ran as FRan}
 use Rattle.steps.specs.declared.Said.{Said}
 use Rattle.answers.specs.Answers.{saidOf}
@@ -19,6 +19,7 @@ abbrev pub countOf : Option (List Step) → Option ℕ
 countOf none = none
 countOf (some xs) = some (length xs)
 
+-- the count that the enum says, or that the list breaks off
 abbrev pub countedOf : Counted → Option ℕ
 countedOf (counted.Steps n) = some n
 countedOf counted.BrokenOff = none
@@ -32,12 +33,13 @@ pub record Put (ws : List ℕ) (n : ℕ) (lent after : List ℕ) : Type 0 where
   pub size : length ws ≡ 20 * n
   pub words : after ≡ onto ws lent
 
--- what a run comes to, as the enum holds it
-abbrev pub ranOf : FRan → Ran
-ranOf brokenOff = ran.BrokenOff
-ranOf tooShort = ran.TooShort
-ranOf (unloaded e) = ran.Refused (e .number) (e .side) (e .node)
-ranOf (answered xs) = ran.Done (length xs)
+-- what a run comes to, by the enum and the lent words after it: the n answers there, load's number, side and node, a list that breaks
+-- off, or too few lent words; how many the answers are is n, so that no two cases give the same
+abbrev pub ranOf : Ran → (after : List ℕ) → FRan
+ranOf (ran.Done n) ws = answered (answersOf n ws)
+ranOf (ran.Refused k i m) ws = unloaded (record { number = k; side = i; node = m })
+ranOf ran.BrokenOff ws = brokenOff
+ranOf ran.TooShort ws = tooShort
 
 -- how many answers a run gives
 abbrev pub answersIn : FRan → ℕ
@@ -49,5 +51,5 @@ answersIn (answered xs) = length xs
 -- r is what a run comes to, and the lent words after it have its answers at their start, 20 words each, and are otherwise as
 -- they were
 pub record RunIs (x : FRan) (lent after : List ℕ) (r : Ran) : Type 0 where
-  pub answer : r ≡ ranOf x
+  pub answer : ranOf r after ≡ x
   pub put : Put (writtenBy x) (answersIn x) lent after

@@ -5,11 +5,9 @@ ghost use mathlib.Core.List.{[], map};
 ghost use Prim.Native.Nat.{ℕ, _<_};
 ghost use lib.ListN.{length, getD};
 ghost use Rattle.model.specs.Wrapper.{allSides, described, hasSide};
-ghost use Rattle.model.specs.Load.{load};
+ghost use Rattle.model.specs.Load.{isOk, load};
 ghost use Rattle.tables.specs.Nodes.{table};
 ghost use Rattle.wrappers.specs.Compositions.{composition};
-ghost use Rattle.loading.specs.declared.Outcome.the-variants.{Ok};
-ghost use Rattle.loading.specs.Loading.{outcomeOf};
 ghost use Rattle.loading.specs.Starting.{Startable};
 ghost use Rattle.running.specs.Beginning.{BeginIs, BegunIs};
 use loading::number_of;
@@ -43,7 +41,7 @@ pub(crate) fn begin_all(
     pools: [&[u32]; Sides::COUNT],
     rows: &mut [[u32; Rows::WORDS]; Sides::COUNT],
 ) -> Begun
-    requires { ⌜ (outcomeOf (load (composition wrapper (map now nodes) (map now pools))) ≡ Ok) × (length (now rows) ≡ length allSides) × ((k : ℕ) → k < length allSides → length (getD (now rows) k []) ≡ 5184) ⌝ }
+    requires { ⌜ (isOk (load (composition wrapper (map now nodes) (map now pools))) ≡ true) × (length (now rows) ≡ length allSides) × ((k : ℕ) → k < length allSides → length (getD (now rows) k []) ≡ 5184) ⌝ }
     ensures { λ r. ⌜ BegunIs (composition wrapper (map now (nodes .entry)) (map now (pools .entry))) (now (rows .exit)) r ⌝ }
 {
     let e = Rest::empty();

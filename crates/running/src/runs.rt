@@ -1,26 +1,13 @@
 // The steps of a list of words, from the sides at their start.
 ghost use mathlib.Core.Path.{_≡_};
 ghost use mathlib.Core.Bool.{true};
-ghost use mathlib.Core.List.{List, [], map};
-ghost use mathlib.Core.Option.{some};
-ghost use Prim.Native.Nat.{_+_, _-_, _*_, _<_, _≤_};
-ghost use lib.ListN.{length, getD};
-ghost use Rattle.model.specs.Side.{State};
-ghost use Rattle.model.specs.Wrapper.{allSides};
-ghost use Rattle.model.specs.Load.{load, ok};
-ghost use Rattle.model.specs.WellFormed.{ready};
-ghost use Rattle.model.specs.Step.{Step, local, settled};
-ghost use Rattle.model.specs.Runs.{answers};
-ghost use Rattle.format.specs.Words.{stepsOf, stepAt, allAnswerWords};
-ghost use Rattle.values.specs.Env.{viewValue};
+ghost use mathlib.Core.List.{map};
+ghost use Rattle.model.specs.Load.{isOk, load};
+ghost use Rattle.format.specs.Words.{stepAt};
 ghost use Rattle.wrappers.specs.Compositions.{composition};
-ghost use Rattle.sides.specs.Sides.{coreOf};
-ghost use Rattle.loading.specs.declared.Outcome.the-variants.{Ok};
-ghost use Rattle.loading.specs.Loading.{outcomeOf};
-ghost use Rattle.steps.specs.Asked.{knownBy};
-ghost use Rattle.dispatch.specs.Stepping.{settingOf, OwnReady};
-ghost use Rattle.dispatch.specs.Sharing.{shelvesIn, shelvedOf, Shelves, stateIn, Lent, AtSide, MarkedAt};
-ghost use Rattle.running.specs.Running.{countOf, Put};
+ghost use Rattle.dispatch.specs.Stepping.{settingOf};
+ghost use Rattle.dispatch.specs.Sharing.{stateIn};
+ghost use Rattle.running.specs.Runs.{StepStands, MayStep, Moves, MayRun, HasRoom, AnswersPut, LoadedPut};
 use crate::answer_words::put_answer;
 use crate::beginning::begin_all;
 use crate::step_words::asked_at;
@@ -51,8 +38,8 @@ fn step_at(
     steps: &[u32],
     p: usize,
 ) -> RestStep
-    requires { ⌜ (length (now rows) ≡ length allSides) × (length (now marks) ≡ length allSides) × (0 < side) × (side - 1 < length allSides) × (OwnReady (settingOf wrapper side (now nodes) (now pool)) (getD (now rows) (side - 1) []) o) × (Shelves (now rows) shelved) × (p + 5 ≤ length (now steps)) × (getD (now steps) (p + 4) 0 ≤ length (now steps) - (p + 5)) ⌝ }
-    ensures { λ r. ⌜ (AtSide (settled (local (settingOf wrapper side (now (nodes .entry)) (now (pool .entry))) (knownBy (now (marks .entry))) (shelvesIn (now (rows .entry)) shelved) (coreOf (getD (now (rows .entry)) (side - 1) []) o) (stepAt (now (steps .entry)) p))) (now (rows .entry)) (side - 1) o (now (rows .exit)) r) × (MarkedAt (r .said) (viewValue (r .value)) (now (marks .entry)) (side - 1) (now (marks .exit))) ⌝ }
+    requires { ⌜ MayStep (settingOf wrapper side (now nodes) (now pool)) o (now rows) (now marks) shelved × StepStands (now steps) p ⌝ }
+    ensures { λ r. ⌜ Moves (settingOf wrapper side (now (nodes .entry)) (now (pool .entry))) o (now (rows .entry)) (now (marks .entry)) shelved (stepAt (now (steps .entry)) p) (now (rows .exit)) (now (marks .exit)) r ⌝ }
 {
     let x = asked_at(steps, p);
     let words = value_at(steps, p);
@@ -90,8 +77,8 @@ fn run_steps(
     n: usize,
     out: &mut [u32],
 )
-    requires { ⌜ (Lent (now rows) rests (now marks)) × (ready (composition wrapper (map now nodes) (map now pools)) (stateIn (now rows) rests (now marks)) ≡ true) × (shelved ≡ shelvedOf rests) × (countOf (stepsOf (now steps)) ≡ some n) × (20 * n ≤ length (now out)) ⌝ }
-    ensures { λ _. ⌜ ((xs : List Step) → stepsOf (now (steps .entry)) ≡ some xs → Put (allAnswerWords (answers (composition wrapper (map now (nodes .entry)) (map now (pools .entry))) (stateIn (now (rows .entry)) rests (now (marks .entry))) xs)) n (now (out .entry)) (now (out .exit))) ⌝ }
+    requires { ⌜ MayRun (composition wrapper (map now nodes) (map now pools)) (now rows) rests (now marks) shelved × HasRoom (now steps) n (now out) ⌝ }
+    ensures { λ _. ⌜ AnswersPut (composition wrapper (map now (nodes .entry)) (map now (pools .entry))) (stateIn (now (rows .entry)) rests (now (marks .entry))) (now (steps .entry)) n (now (out .entry)) (now (out .exit)) ⌝ }
 {
     let mut p: usize = 0;
     let mut k: usize = 0;
@@ -135,8 +122,8 @@ pub(crate) fn run_loaded(
     n: usize,
     out: &mut [u32],
 )
-    requires { ⌜ (outcomeOf (load (composition wrapper (map now nodes) (map now pools))) ≡ Ok) × (countOf (stepsOf (now steps)) ≡ some n) × (20 * n ≤ length (now out)) ⌝ }
-    ensures { λ _. ⌜ ((s : State) (xs : List Step) → load (composition wrapper (map now (nodes .entry)) (map now (pools .entry))) ≡ ok s → stepsOf (now (steps .entry)) ≡ some xs → Put (allAnswerWords (answers (composition wrapper (map now (nodes .entry)) (map now (pools .entry))) s xs)) n (now (out .entry)) (now (out .exit))) ⌝ }
+    requires { ⌜ (isOk (load (composition wrapper (map now nodes) (map now pools))) ≡ true) × HasRoom (now steps) n (now out) ⌝ }
+    ensures { λ _. ⌜ LoadedPut (composition wrapper (map now (nodes .entry)) (map now (pools .entry))) (now (steps .entry)) n (now (out .entry)) (now (out .exit)) ⌝ }
 {
     let mut rows = [[0; Rows::WORDS]; Sides::COUNT];
     let mut marks = [[false; Sides::MARKS]; Sides::COUNT];

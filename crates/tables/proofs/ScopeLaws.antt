@@ -54,18 +54,18 @@ module _ (ns pool : List ℕ) (n k : ℕ) (w : Walks (table ns pool) n) (x : Nod
   over-leaf a b c h = sym (at-leaf (over k) ns pool n w x i (nodeIfOver k n) refl refl a b c h)
 
 -- check 6
-pub scope-at : (t : Table) (n : ℕ) → n ≡ overAt t 0 0 → n < 256 → At n ≡ lowestOf (overAll t)
+pub scope-at : (t : Table) (n : ℕ) → n ≡ overAt t 0 0 → n < 256 → lowestOf (At n) ≡ overAll t
 unfolding overAt overAll choose
 scope-at t n e h = rw e (go (over 0 (term t 0)) (rw e at h))
   where
-    go : (m : ℕ) → m < 256 → At m ≡ lowestOf (choose (ltb m 256) (done m) (refuse 0))
+    go : (m : ℕ) → m < 256 → done m ≡ choose (ltb m 256) (done m) (refuse 0)
     go m h = rw (lt-ltb m 256 h)
 
-pub scope-none : (t : Table) (n : ℕ) → n ≡ overAt t 0 0 → 256 ≤ n → Nowhere ≡ lowestOf (overAll t)
+pub scope-none : (t : Table) (n : ℕ) → n ≡ overAt t 0 0 → 256 ≤ n → lowestOf Nowhere ≡ overAll t
 unfolding overAt overAll choose
 scope-none t n e h = go (over 0 (term t 0)) (rw e at h)
   where
-    go : (m : ℕ) → 256 ≤ m → Nowhere ≡ lowestOf (choose (ltb m 256) (done m) (refuse 0))
+    go : (m : ℕ) → 256 ≤ m → refuse 0 ≡ choose (ltb m 256) (done m) (refuse 0)
     go m h = rw (le-ltb m 256 h)
 
 -- counting names, a word further

@@ -1,4 +1,4 @@
--- The answers of the checks, as the code's enums hold them.
+-- What the answers of the checks say, case by case: model's numbers and nodes. Where nothing is at fault model refuses by 0.
 use mathlib.Core.Path.{_≡_}
 use mathlib.Core.Bool.{false}
 use Prim.Native.Nat.{ℕ}
@@ -10,15 +10,15 @@ use Rattle.tables.specs.declared.checks.Lowest.the-variants.{At, Nowhere
 use Rattle.tables.specs.declared.checks.Verdict.{Verdict}
 use Rattle.tables.specs.declared.checks.Verdict.the-variants.{Passed, Refused}
 
--- the lowest node at fault; nowhere where model's answer is a refusal
-abbrev pub lowestOf : Res ℕ → Lowest
-lowestOf (refuse e) = Nowhere
-lowestOf (done n) = At n
+-- the lowest node at fault, or that there is none
+abbrev pub lowestOf : Lowest → Res ℕ
+lowestOf (At n) = done n
+lowestOf Nowhere = refuse 0
 
--- number and node of the fault; passed where there is none
-abbrev pub verdictOf : Res Fault → Verdict
-verdictOf (refuse e) = Passed
-verdictOf (done f) = Refused (f .number) (f .node)
+-- number and node of the fault, or that there is none
+abbrev pub faultOf : Verdict → Res Fault
+faultOf Passed = refuse 0
+faultOf (Refused k n) = done (record { number = k; node = n })
 
 -- a table that passes checks 1 to 6
 abbrev pub Passes : Table → Type 0

@@ -7,7 +7,7 @@ use mathlib.Core.Option.{some}
 use Prim.Native.Nat.{ℕ, _+_, _-_, _*_, _<_, _≤_}
 use native.Mathlib.Nat.{zero-add, mul-suc, mul-le-mul-left}
 use native.Mathlib.Omega.{arith}
-use borrow.Author.Tests.{lt-ltb, le-ltb, eqb-true, eqb-false}
+use borrow.Author.Tests.{le-ltb, le-leb, lt-leb, eqb-true, eqb-false}
 use lib.Dec.{eqb}
 use lib.ListN.{length, getD, set, take, drop, length-map}
 use lib.Seq.{sets, length-sets, length-take-le, take-length, take-at, ext-getD, getD-set-same, getD-set-other}
@@ -18,29 +18,28 @@ use Rattle.model.specs.Wrapper.{allSides}
 use Rattle.model.specs.Load.{Composition, Refused, Loaded, refused, ok, load}
 use Rattle.model.specs.Step.{Step}
 use Rattle.model.specs.Runs.{answers}
-use Rattle.format.specs.Words.{allStepWords, allAnswerWords, tooShort, runFrom, runSteps, runOf, onto}
+use Rattle.format.specs.Words.{allStepWords, allAnswerWords, answersOf, brokenOff, tooShort, unloaded, answered, runFrom, runSteps, runOf, onto}
 use Rattle.format.specs.Words.{Ran as FRan}
-use Rattle.format.specs.Lines.{newline, Input, fault, whole, reading}
-use Rattle.format.specs.Lines as format
+use Rattle.format.specs.Lines.{newline, Input, when, whole, reading, readSoFar}
 use Rattle.format.specs.Output.{wordOk, answerLines, faultLine, refusedLine, outputFor, output}
 use Rattle.format.proofs.StepWords.{words-steps}
-use Rattle.format.proofs.AnswerWords.{answers-many}
-use Rattle.reading.specs.Lists.{Lists, laid, nodesOf, poolsOf, placesOf, Inside, verdictOf, Holds, ReadIs}
+use Rattle.format.proofs.AnswerWords.{answers-many, answers-read}
+use Rattle.reading.specs.Lists.{Lists, laid, nodesOf, poolsOf, placesOf, Inside, readingOf, Holds, ReadIs}
 use Rattle.reading.specs.declared.Places.{Places}
 use Rattle.reading.specs.declared.Reading.{Reading}
+use Rattle.reading.specs.declared.Verdict.{Verdict}
 use Rattle.reading.specs.declared.Verdict.the-variants.{Fault, Whole}
 use Rattle.reading.proofs.LaidLaws.{laid-length, laid-part}
-use Rattle.reading.proofs.ReadLaws.{whole-given}
 use Rattle.sides.proofs.Sets.{mid-sets}
 use Rattle.running.specs.declared.Ran.{Ran}
 use Rattle.running.specs.declared.Ran.the-variants as ran
 use Rattle.wrappers.specs.Compositions.{tablesOf, composition}
-use Rattle.running.specs.Running.{RunIs}
+use Rattle.running.specs.Running.{ranOf, RunIs}
 use Rattle.writing.specs.Written.{PageIs}
 use Rattle.writing.specs.Words.{answeredIn}
 use Rattle.writing.proofs.AnswerLaws.{answered-lines}
 use Rattle.writing.proofs.WrittenLaws.{page-start, page-within}
-use Rattle.text.specs.Text.{Given, writtenOf, bufferAfter, TextIs}
+use Rattle.text.specs.Text.{Given, hasRoom, bufferAfter, TextIs}
 use Rattle.text.specs.declared.Written.the-variants.{Bytes, TooShort}
 
 -- A RUN OF WHAT THE LINES GIVE
@@ -69,38 +68,43 @@ module _ (i : Input) (x : FRan) (lent after : List ℕ) (e : x ≡ runFrom (i .l
   by-load : (r : Ran) → RunIs x lent after r → (o : Loaded) → load (i .loads) ≡ o → RunIs (runFrom (i .loads) (i .steps) o) lent after r
   by-load r h o q = subst (λ (z : FRan). RunIs z lent after r) (e ∙ ap (runFrom (i .loads) (i .steps)) q) h
 
+  -- what the enum says is what the run from there comes to
+  told : (r c : Ran) → RunIs x lent after r → r ≡ c → (o : Loaded) → load (i .loads) ≡ o → ranOf c after ≡ runFrom (i .loads) (i .steps) o
+  told r c h d o q = ap (λ (y : Ran). ranOf y after) (sym d) ∙ by-load r h o q .answer
+
   pub output-done : (n : ℕ) (r : Ran) → RunIs x lent after r → r ≡ ran.Done n → length (i .steps) ≤ 1024 → answeredIn n after ≡ outputFor i
   output-done n r h d few = by (load (i .loads)) refl
     where
       by : (o : Loaded) → load (i .loads) ≡ o → answeredIn n after ≡ outputFor i
       by (refused z) q =
-          let k : ran.Done n ≡ ran.Refused (z .number) (z .side) (z .node) = sym d ∙ by-load r h (refused z) q .answer in
+          let k : answered (answersOf n after) ≡ unloaded z = told r (ran.Done n) h d (refused z) q in
           let m : _≡_ {A = ℕ} 0 1 = cc in
           absurd (omega arith)
       by (ok s) q =
           let ys = answers (i .loads) s (i .steps) in
-          let g = by-load r h (ok s) q in
-          let k : ran.Done n ≡ ran.Done (length ys) = sym d ∙ g .answer in
-          let many : length ys ≡ n = cc in
-          let size : length (allAnswerWords ys) ≡ 20 * n = g .put .size ∙ ap (λ (m : ℕ). 20 * m) many in
-          let words = ap (take (20 * n)) (g .put .words) ∙ take-at (allAnswerWords ys) (drop (length (allAnswerWords ys)) lent) (20 * n) size in
+          let g = by-load r h (ok s) q .put in
+          let k : answered (answersOf n after) ≡ answered ys = told r (ran.Done n) h d (ok s) q in
+          let same : answersOf n after ≡ ys = cc in
+          let many : length ys ≡ n = sym (ap length same) ∙ answers-read n after in
+          let size : length (allAnswerWords ys) ≡ 20 * n = g .size ∙ ap (λ (m : ℕ). 20 * m) many in
+          let words = ap (take (20 * n)) (g .words) ∙ take-at (allAnswerWords ys) (drop (length (allAnswerWords ys)) lent) (20 * n) size in
           answered-lines n after ys many (omega (arith, many, few, answers-many (i .loads) s (i .steps))) words ∙ sym (output-ok i s q)
 
   pub output-unloaded : (k j m : ℕ) (r : Ran) → RunIs x lent after r → r ≡ ran.Refused k j m → refusedLine (record { number = k; side = j; node = m }) ≡ outputFor i
   output-unloaded k j m r h d = by (load (i .loads)) refl
     where
-      same : (z : Refused) → k ≡ z .number → j ≡ z .side → m ≡ z .node → record { number = k; side = j; node = m } ≡ z
-      same z a b c = rw (a, b, c)
+      y : Refused
+      y = record { number = k; side = j; node = m }
 
-      by : (o : Loaded) → load (i .loads) ≡ o → refusedLine (record { number = k; side = j; node = m }) ≡ outputFor i
+      by : (o : Loaded) → load (i .loads) ≡ o → refusedLine y ≡ outputFor i
       by (ok s) q =
-          let u : ran.Refused k j m ≡ ran.Done (length (answers (i .loads) s (i .steps))) = sym d ∙ by-load r h (ok s) q .answer in
+          let u : unloaded y ≡ answered (answers (i .loads) s (i .steps)) = told r (ran.Refused k j m) h d (ok s) q in
           let v : _≡_ {A = ℕ} 0 1 = cc in
           absurd (omega arith)
       by (refused z) q =
-          let u : ran.Refused k j m ≡ ran.Refused (z .number) (z .side) (z .node) = sym d ∙ by-load r h (refused z) q .answer in
-          let a : k ≡ z .number = cc in let b : j ≡ z .side = cc in let c : m ≡ z .node = cc in
-          ap refusedLine (same z a b c) ∙ sym (output-refused i z q)
+          let u : unloaded y ≡ unloaded z = told r (ran.Refused k j m) h d (refused z) q in
+          let same : y ≡ z = cc in
+          ap refusedLine same ∙ sym (output-refused i z q)
 
   -- a list of steps that was read does not break off, and its answers have room
   pub output-always : (o : List ℕ) (r : Ran) → RunIs x lent after r → (r ≡ ran.BrokenOff) ⊎ (r ≡ ran.TooShort) → o ≡ outputFor i
@@ -108,30 +112,30 @@ module _ (i : Input) (x : FRan) (lent after : List ℕ) (e : x ≡ runFrom (i .l
     where
       by : (z : Loaded) → load (i .loads) ≡ z → (r ≡ ran.BrokenOff) ⊎ (r ≡ ran.TooShort) → o ≡ outputFor i
       by (refused z) q (inl u) =
-          let k : ran.BrokenOff ≡ ran.Refused (z .number) (z .side) (z .node) = sym u ∙ by-load r h (refused z) q .answer in
+          let k : brokenOff ≡ unloaded z = told r ran.BrokenOff h u (refused z) q in
           let m : _≡_ {A = ℕ} 0 1 = cc in
           absurd (omega arith)
       by (refused z) q (inr u) =
-          let k : ran.TooShort ≡ ran.Refused (z .number) (z .side) (z .node) = sym u ∙ by-load r h (refused z) q .answer in
+          let k : tooShort ≡ unloaded z = told r ran.TooShort h u (refused z) q in
           let m : _≡_ {A = ℕ} 0 1 = cc in
           absurd (omega arith)
       by (ok s) q (inl u) =
-          let k : ran.BrokenOff ≡ ran.Done (length (answers (i .loads) s (i .steps))) = sym u ∙ by-load r h (ok s) q .answer in
+          let k : brokenOff ≡ answered (answers (i .loads) s (i .steps)) = told r ran.BrokenOff h u (ok s) q in
           let m : _≡_ {A = ℕ} 0 1 = cc in
           absurd (omega arith)
       by (ok s) q (inr u) =
-          let k : ran.TooShort ≡ ran.Done (length (answers (i .loads) s (i .steps))) = sym u ∙ by-load r h (ok s) q .answer in
+          let k : tooShort ≡ answered (answers (i .loads) s (i .steps)) = told r ran.TooShort h u (ok s) q in
           let m : _≡_ {A = ℕ} 0 1 = cc in
           absurd (omega arith)
 
 -- WHAT IS READ
-fault-is : (x : format.Reading) (n : ℕ) → Fault n ≡ verdictOf x → x ≡ fault n
-fault-is (fault m) n h = let a : n ≡ m = cc in ap fault (sym a)
-fault-is (whole i) n h = let m : _≡_ {A = ℕ} 0 1 = cc in absurd (omega arith)
+-- the verdict says what is read
+read-is : (bs : List ℕ) {r : Reading} {old l : Lists} → ReadIs bs r old l → (v : Verdict) → r .verdict ≡ v → reading bs ≡ readingOf v (readSoFar bs)
+read-is bs h v e = sym (h .verdict) ∙ ap (λ (y : Verdict). readingOf y (readSoFar bs)) e
 
 pub fault-output : (bs : List ℕ) {r : Reading} (n : ℕ) {old l : Lists} → ReadIs bs r old l → r .verdict ≡ Fault n → faultLine n ≡ output bs
 unfolding output
-fault-output bs {r} n {old} {l} h e = let q = fault-is (reading bs) n (sym e ∙ h .verdict) in rw (q, output) refl
+fault-output bs n h e = let q = read-is bs h (Fault n) e in rw (q, output) refl
 
 -- a whole input, and the lists that hold it
 pub record WholeIs (bs : List ℕ) (p : Places) (old l : Lists) : Type 0 where
@@ -140,15 +144,8 @@ pub record WholeIs (bs : List ℕ) (p : Places) (old l : Lists) : Type 0 where
   pub places : p ≡ placesOf input
   pub holds : Holds input old l
 
-whole-is : (x : format.Reading) → Whole ≡ verdictOf x → (i : Input) × (x ≡ whole i)
-whole-is (fault n) h = let m : _≡_ {A = ℕ} 0 1 = cc in absurd (omega arith)
-whole-is (whole i) h = (i, refl)
-
 pub whole-read : (bs : List ℕ) {r : Reading} {old l : Lists} → ReadIs bs r old l → r .verdict ≡ Whole → WholeIs bs (r .places) old l
-whole-read bs {r} {old} {l} h e =
-    let x = whole-is (reading bs) (sym e ∙ h .verdict) in
-    let g = whole-given bs (x .0) (x .1) in
-    record { input = x .0; is = x .1; places = h .places ∙ ap placesOf g; holds = subst (λ (i : Input). Holds i old l) g (h .holds) }
+whole-read bs h e = record { input = readSoFar bs; is = read-is bs h Whole e; places = h .places; holds = h .holds }
 
 pub whole-output : (bs : List ℕ) (i : Input) → reading bs ≡ whole i → outputFor i ≡ output bs
 unfolding output
@@ -261,22 +258,22 @@ module _ {o lent page : List ℕ} {n : ℕ} (h : PageIs o lent page n) where
   page-count = sym (length-take-le n page (page-within h))
 
   pub text-short : (out : List ℕ) → length out < n → TextIs o out out TooShort
-  unfolding writtenOf bufferAfter choose
+  unfolding bufferAfter choose
   text-short out lt =
-      let t = lt-ltb (length out) (length o) (omega (arith, h .count)) in
+      let t : hasRoom o out ≡ false = lt-leb (length o) (length out) (omega (arith, h .count)) in
       record {
-        answer = ap (λ (b : Bool). choose b TooShort (Bytes (length o))) (sym t);
-        buffer = ap (λ (b : Bool). choose b out (onto o out)) (sym t);
+        answer = ap (λ (b : Bool). when b (length o)) (sym t);
+        buffer = ap (λ (b : Bool). choose b (onto o out) out) (sym t);
         most = omega (arith, h .count, h .few);
       }
 
   pub text-written : (out : List ℕ) → n ≤ length out → (after : List ℕ) → after ≡ take (length (take n page)) (take n page) ++ drop (length (take n page)) out → TextIs o out after (Bytes n)
-  unfolding writtenOf bufferAfter choose
+  unfolding bufferAfter choose
   text-written out le after w =
-      let t = le-ltb (length out) (length o) (omega (arith, h .count)) in
+      let t : hasRoom o out ≡ true = le-leb (length o) (length out) (omega (arith, h .count)) in
       let copied = ap (λ (z : List ℕ). take (length z) z ++ drop (length z) out) (page-start h) ∙ ap (λ (z : List ℕ). z ++ drop (length o) out) (take-length o) in
       record {
-        answer = ap Bytes (h .count) ∙ ap (λ (b : Bool). choose b TooShort (Bytes (length o))) (sym t);
-        buffer = w ∙ copied ∙ ap (λ (b : Bool). choose b out (onto o out)) (sym t);
+        answer = ap some (h .count) ∙ ap (λ (b : Bool). when b (length o)) (sym t);
+        buffer = w ∙ copied ∙ ap (λ (b : Bool). choose b (onto o out) out) (sym t);
         most = omega (arith, h .count, h .few);
       }

@@ -1,12 +1,14 @@
 -- The answer of `text`, and the lent buffer after it.
 use mathlib.Core.Path.{_≡_}
+use mathlib.Core.Bool.{Bool}
 use mathlib.Core.List.{List}
+use mathlib.Core.Option.{Option, none, some}
 use Prim.Native.Nat.{ℕ, _≤_}
-use lib.Dec.{ltb}
+use lib.Dec.{leb}
 use lib.ListN.{length}
 use Rattle.model.specs.Basics.{choose}
 use Rattle.format.specs.Words.{allStepWords, onto}
-use Rattle.format.specs.Lines.{Input}
+use Rattle.format.specs.Lines.{Input, when}
 use Rattle.wrappers.specs.Compositions.{composition}
 use Rattle.text.specs.declared.Written.{Written}
 use Rattle.text.specs.declared.Written.the-variants.{Bytes, TooShort}
@@ -17,16 +19,21 @@ pub record Given (i : Input) (wrapper : ℕ) (nodes pools : List (List ℕ)) (st
   pub words : steps ≡ allStepWords (i .steps)
   pub few : length (i .steps) ≤ 1024
 
--- how many bytes are written, or that the buffer is too short for the output
-unfoldable pub writtenOf : (output lent : List ℕ) → Written
-writtenOf o lent = choose (ltb (length lent) (length o)) TooShort (Bytes (length o))
+-- how many bytes are written, or that there is no room for them
+abbrev pub bytesOf : Written → Option ℕ
+bytesOf (Bytes n) = some n
+bytesOf TooShort = none
+
+-- the buffer has room for the output
+abbrev pub hasRoom : (output lent : List ℕ) → Bool
+hasRoom o lent = leb (length o) (length lent)
 
 -- the buffer after it: the output at its start, or as it was
 unfoldable pub bufferAfter : (output lent : List ℕ) → List ℕ
-bufferAfter o lent = choose (ltb (length lent) (length o)) lent (onto o lent)
+bufferAfter o lent = choose (hasRoom o lent) (onto o lent) lent
 
 -- r is the answer for an output, which is never longer than 206,848 bytes
 pub record TextIs (o lent after : List ℕ) (r : Written) : Type 0 where
-  pub answer : r ≡ writtenOf o lent
+  pub answer : bytesOf r ≡ when (hasRoom o lent) (length o)
   pub buffer : after ≡ bufferAfter o lent
   pub most : length o ≤ 206848

@@ -1,5 +1,4 @@
 -- The nodes are written of only where the checks passed.
-use mathlib.Core.Path.{sym, _∙_}
 use Rattle.tables.specs.Nodes.{table}
 use Rattle.tables.proofs.CheckLaws.{passed}
 use borrow.Author.Needs.{needs}
@@ -12,7 +11,7 @@ write-scopes-requires c κs =
     let at-check = at-enum-told .before .before in
     let start = at-check .before .before .before in
     let t = table (start .args .nodes .now) (start .args .pool .now) in
-    passed t (sym (at-enum-told .enum-told .given .1) ∙ at-check .check .ensures)
+    passed t (at-check .check .result) (at-check .check .ensures) (at-enum-told .enum-told .given .1)
 
 pub report-spec : {M : Type 1} → statement M
 report-spec =

@@ -12,7 +12,7 @@ returns c =
     let x = c .before .before .before .before in
     let b = composition (x .args .wrapper) (map now (x .args .nodes)) (map now (x .args .pools)) in
     let v = c .before .before .before .load-verdict in
-    load-refused (load b) (v .result) _ _ _ (c .empty-state .result) (v .ensures) (c .before .enum-told2 .given .1) (c .empty-state .ensures)
+    load-refused (load b) (v .result) (c .empty-state .result) (v .ensures) _ _ _ (c .before .enum-told2 .given .1) (c .empty-state .ensures)
 
 start-state-requires : tie.Need-start-state-requires
 start-state-requires c κs =
@@ -26,7 +26,7 @@ returns-2 c =
     let x = c .before .before .before .before in
     let b = composition (x .args .wrapper) (map now (x .args .nodes)) (map now (x .args .pools)) in
     let v = c .before .before .before .load-verdict in
-    load-done b (v .result) (c .start-state .result) (v .ensures) (c .before .enum-told .given .1) (c .start-state .ensures)
+    load-done b (v .result) (v .ensures) (c .before .enum-told .given .1) (c .start-state .result) (c .start-state .ensures)
 
 pub load-spec : {M : Type 1} → statement M
 load-spec =

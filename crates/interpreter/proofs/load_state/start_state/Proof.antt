@@ -51,7 +51,10 @@ loop-again c =
     let long : length (x .args .t2) ≡ 2 = search (needs, x .good) in
     let long′ : length (x .args .t3) ≡ 2 = search (needs, x .good) in
     let n = c .before .number-of in
-    (search needs, turn b k _ (c .side-at .result) two (c .before .before .before .before .before .loop .inv .1) (lent-side now w (x .args .t2) (x .args .t3) k (n .result) _ _ long long′ two (n .ensures) (c .side-at .result) (c .side-at .ensures)))
+    let o = c .side-at in
+    let begun = c .before .before .before .before .before .loop .inv .1 in
+    let side = lent-side now w (x .args .t2) (x .args .t3) k (n .result) _ _ long long′ two (n .ensures) (o .result) (o .ensures) in
+    (search needs, turn b k _ (o .result) two begun side)
 
 returns : tie.Need-returns Inv-loop μ-loop
 returns c =

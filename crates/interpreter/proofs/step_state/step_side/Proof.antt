@@ -64,7 +64,15 @@ side-step-requires c κs =
     let k = c .before .before .before .before .before .before .before .before .place-of in
     let lw = ap length (t .ensures .0) ∙ length-map (s .sides) (λ (o : Side). o .words) ∙ full in
     let lm = ap length (t .ensures .1) ∙ length-map (s .sides) (λ (o : Side). o .left) ∙ full in
-    (lw, lm, i .0, omega (arith, i .0, i .1), own now w ts us _ _ s _ n (k .result) tl ul full (t .ensures .2) (x .pre .0) (x .pre .1) (x .pre .2) (k .ensures) _ _ _ (t .ensures .0) (t .ensures .1) (c .before .before .before .before .before .shelved-in .ensures), shelves s full (t .ensures .2) (x .pre .0) _ _ (t .ensures .0) (c .before .before .before .before .before .shelved-in .ensures))
+    let fits = x .pre .0 in
+    let ready = x .pre .1 in
+    let has = x .pre .2 in
+    let words = t .ensures .0 in
+    let marks = t .ensures .1 in
+    let long = t .ensures .2 in
+    let shelved = c .before .before .before .before .before .shelved-in .ensures in
+    let may = own now w ts us _ _ s _ n (k .result) tl ul full long fits ready has (k .ensures) _ _ _ words marks shelved in
+    (lw, lm, i .0, omega (arith, i .0, i .1), may, shelves s full long fits _ _ words shelved)
 
 mark-left-requires : tie.Need-mark-left-requires
 mark-left-requires c κs =
@@ -142,7 +150,19 @@ returns c =
     let k = c .before .before .before .before .before .before .before .before .before .before .before .before .before .before .before .before .before .place-of in
     let d = c .before .before .before .before .before .before .before .before .side-step in
     let is = d .ensures n in
-    result now w ts us _ _ s _ n (k .result) tl ul full (t .ensures .2) (x .pre .0) (x .pre .1) (x .pre .2) (k .ensures) _ _ _ (t .ensures .0) (t .ensures .1) (c .before .before .before .before .before .before .before .before .before .before .before .before .before .before .shelved-in .ensures) (asked (x .args .kind) n (x .args .i) (x .args .j) (x .args .words .now)) refl _ _ (d .result) is (c .before .before .before .before .mark-left .ensures) _ _ (c .before .put-at .result) (c .answered .result) (c .before .put-at .ensures) (c .answered .ensures)
+    let fits = x .pre .0 in
+    let ready = x .pre .1 in
+    let has = x .pre .2 in
+    let words = t .ensures .0 in
+    let marks = t .ensures .1 in
+    let long = t .ensures .2 in
+    let shelved = c .before .before .before .before .before .before .before .before .before .before .before .before .before .before .shelved-in .ensures in
+    let y = asked (x .args .kind) n (x .args .i) (x .args .j) (x .args .words .now) in
+    let marked = c .before .before .before .before .mark-left .ensures in
+    let put = c .before .put-at in
+    let given = c .answered in
+    result now w ts us _ _ s _ n (k .result) tl ul full long fits ready has (k .ensures) _ _ _ words marks shelved
+    y refl _ _ (d .result) is marked _ _ (put .result) (given .result) (put .ensures) (given .ensures)
 
 pub step-side-spec : {M : Type 1} → statement M
 step-side-spec =

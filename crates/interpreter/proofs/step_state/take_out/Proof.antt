@@ -12,8 +12,13 @@ use native.Mathlib.Omega.{arith}
 use Rattle.interpreter.proofs.step_state.take_out.Statement.{statement}
 use Rattle.interpreter.proofs.step_state.take_out.Tie as tie
 
+-- the first k of a list are a part of each of the first k sides
+abbrev Filled : {B : Type 0} → (Side → B) → List Side → ℕ → List B → Type 0
+Filled f l k x = take k x ≡ map f (take k l)
+
 abbrev Inv-loop : tie.InvT-loop
-Inv-loop rows₀ marks₀ s k₀ rows marks k = (k ≤ 2) × (length rows ≡ 2) × (length marks ≡ 2) × (take k rows ≡ map (λ (o : Side). o .words) (take k (s .sides))) × (take k marks ≡ map (λ (o : Side). o .left) (take k (s .sides))) × LongTo k (wordsIn s)
+Inv-loop rows₀ marks₀ s k₀ rows marks k =
+    (k ≤ 2) × (length rows ≡ 2) × (length marks ≡ 2) × Filled (λ o. o .words) (s .sides) k rows × Filled (λ o. o .left) (s .sides) k marks × LongTo k (wordsIn s)
 
 abbrev μ-loop : tie.MeasureT-loop
 μ-loop rows₀ marks₀ s k₀ rows marks k = 2 - k

@@ -29,7 +29,14 @@ is-stranded-requires : tie.Need-is-stranded-requires Inv-loop μ-loop
 is-stranded-requires c κs = search needs
 
 returns : tie.Need-returns Inv-loop μ-loop
-returns c = let l = c .before .before .before .before .before .args .t1 in let full : length (l .msgs) ≡ 16 = search unmap in found-at l (c .before .before .before .before .loop .k) _ (c .before .is-stranded .result) full (c .before .before .before .before .before .pre) (c .before .before .before .loop-test .taken) (c .before .is-stranded .ensures) (c .if1 .taken)
+returns c =
+    let x = c .before .before .before .before .before in
+    let l = x .args .t1 in
+    let full : length (l .msgs) ≡ 16 = search unmap in
+    let k = c .before .before .before .before .loop .k in
+    let below = c .before .before .before .loop-test .taken in
+    let s = c .before .is-stranded in
+    found-at l k _ (s .result) full (x .pre) below (s .ensures) (c .if1 .taken)
 
 add-k : tie.Need-add-k Inv-loop μ-loop
 add-k c = omega arith
@@ -38,10 +45,18 @@ loop-less : tie.Need-loop-less Inv-loop μ-loop
 loop-less c = omega arith
 
 loop-again : tie.Need-loop-again Inv-loop μ-loop
-loop-again c = let l = c .before .before .before .before .before .args .t1 in let full : length (l .msgs) ≡ 16 = search unmap in (omega arith, next-fresh l (c .before .before .before .before .loop .k) _ (c .before .is-stranded .result) (omega arith) (c .before .is-stranded .ensures) (c .if1 .left) (c .before .before .before .before .loop .inv .1))
+loop-again c =
+    let l = c .before .before .before .before .before .args .t1 in
+    let full : length (l .msgs) ≡ 16 = search unmap in
+    let at = c .before .before .before .before .loop in
+    let s = c .before .is-stranded in
+    (omega arith, next-fresh l (at .k) _ (s .result) (omega arith) (s .ensures) (c .if1 .left) (at .inv .1))
 
 returns-2 : tie.Need-returns-2 Inv-loop μ-loop
-returns-2 c = let l = c .before .before .args .t1 in let full : length (l .msgs) ≡ 16 = search unmap in found-none l (c .before .loop .k) (omega arith) (c .before .loop .inv .1)
+returns-2 c =
+    let l = c .before .before .args .t1 in
+    let full : length (l .msgs) ≡ 16 = search unmap in
+    found-none l (c .before .loop .k) (omega arith) (c .before .loop .inv .1)
 
 pub stranded-in-spec : {M : Type 1} → statement M
 stranded-in-spec =

@@ -26,7 +26,9 @@ returns c =
     let l = x .args .rows .now in
     let e : List ℕ = replicate 144 0 in
     let u = c .before .before .before .before .before .unfold-at in
-    start-is i t l _ e _ _ (u .result) (c .before .empty .result) _ (x .pre .0) (x .pre .1) (c .before .before .before .before .before .before .before .before .before .before .put-box .ensures) (u .ensures) (c .before .empty .ensures) (c .put-into .ensures)
+    let box = c .before .before .before .before .before .before .before .before .before .before .put-box .ensures in
+    let empty = c .before .empty in
+    start-is i t l _ e _ _ (u .result) (empty .result) _ (x .pre .0) (x .pre .1) box (u .ensures) (empty .ensures) (c .put-into .ensures)
 
 pub start-of-spec : {M : Type 1} → statement M
 start-of-spec =

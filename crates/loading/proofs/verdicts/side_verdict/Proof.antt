@@ -1,6 +1,7 @@
 use mathlib.Core.Path.{sym, _∙_}
 use Rattle.tables.specs.Nodes.{table}
-use Rattle.loading.proofs.Faults.{root-in, side-bad, side-passes, side-good, side-seven, start-within}
+use Rattle.tables.proofs.CheckLaws.{passed}
+use Rattle.loading.proofs.Faults.{root-in, side-bad, side-good, side-seven, start-within}
 use native.Mathlib.Omega.{arith}
 use borrow.Author.Needs.{needs}
 use Rattle.loading.proofs.verdicts.side_verdict.Statement.{statement}
@@ -17,7 +18,7 @@ unfolded-at-requires c κs =
     let at-check = c .before .before in
     let x = at-check .before .before .before in
     let t = table (x .args .nodes .now) (x .args .pool .now) in
-    let p = side-passes t (at-check .check .result) (at-check .check .ensures) (c .enum-told .given .1) in
+    let p = passed t (at-check .check .result) (at-check .check .ensures) (c .enum-told .given .1) in
     (p, root-in t p)
 
 add-contents-within : tie.Need-add-contents-within
@@ -27,7 +28,7 @@ returns-2 : tie.Need-returns-2
 returns-2 c =
     let x = c .before .before .before .before .before .before .before .before .before in
     let t = table (x .args .nodes .now) (x .args .pool .now) in
-    let p = side-passes t (c .before .before .before .before .before .before .check .result) (c .before .before .before .before .before .before .check .ensures) (c .before .before .before .before .enum-told .given .1) in
+    let p = passed t (c .before .before .before .before .before .before .check .result) (c .before .before .before .before .before .before .check .ensures) (c .before .before .before .before .enum-told .given .1) in
     let u = c .before .before .before .unfolded-at in
     λ i. side-good i t p (start-within i t (u .result) (u .ensures .1) ∙ sym (c .before .contents-within .ensures) ∙ c .if1 .taken)
 
@@ -35,7 +36,7 @@ returns-3 : tie.Need-returns-3
 returns-3 c =
     let x = c .before .before .before .before .before .before .before .before .before in
     let t = table (x .args .nodes .now) (x .args .pool .now) in
-    let p = side-passes t (c .before .before .before .before .before .before .check .result) (c .before .before .before .before .before .before .check .ensures) (c .before .before .before .before .enum-told .given .1) in
+    let p = passed t (c .before .before .before .before .before .before .check .result) (c .before .before .before .before .before .before .check .ensures) (c .before .before .before .before .enum-told .given .1) in
     let u = c .before .before .before .unfolded-at in
     λ i. side-seven i t p (start-within i t (u .result) (u .ensures .1) ∙ sym (c .before .contents-within .ensures) ∙ c .if1 .left)
 

@@ -19,7 +19,7 @@ returns c =
     let s = c .before .before in
     let a = s .args in
     let w : length (a .l .words) ≡ 21 = search (needs, s .good) in
-    λ i old x y e h. s-fault i (a .p) old _ e h (a .l .len) (a .l .words) w (s .pre .1) (sym (c .before .fits2 .ensures) ∙ not-true _ (c .if1 .taken))
+    λ x y i old e h. s-fault i (a .p) old _ e h (a .l .len) (a .l .words) w (s .pre .1) (sym (c .before .fits2 .ensures) ∙ not-true _ (c .if1 .taken))
 
 add-count : tie.Need-add-count
 add-count c = search needs
@@ -81,7 +81,7 @@ returns-2 c =
     let e = sym (c .before .before .before .before .before .before .fits2 .ensures) ∙ not-false _ (c .before .before .before .before .before .if1 .left) in
     let f = fits-facts (a .l .len) (a .p .rank) (a .p .steps) e in
     let w : length (a .l .words) ≡ 21 = search (needs, s .good) in
-    λ i old x y q h. s-taken i (a .p) old _ q h (a .l .len) (a .l .words) w (s .pre .1) _ e
+    λ x y i old q h. s-taken i (a .p) old _ q h (a .l .len) (a .l .words) w (s .pre .1) _ e
     (c .before .store2 .ensures ∙ ap (λ (z : List ℕ). sets (set z (a .p .words + 4) (a .l .len - 4)) (a .p .words + 5) (take (a .l .len - 4) (drop 4 (a .l .words)))) (c .before .before .before .store .ensures))
 
 pub on-s-spec : {M : Type 1} → statement M

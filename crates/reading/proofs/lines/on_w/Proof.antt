@@ -11,14 +11,14 @@ returns c =
     let s = c .before .before in
     let a = s .args in
     let w : length (a .t1 .words) ≡ 21 = search (needs, s .good) in
-    λ i old l e h. w-late i _ old l e h (a .t1 .len) (a .t1 .words) w (c .if1 .taken)
+    λ l i old e h. w-late i _ old l e h (a .t1 .len) (a .t1 .words) w (c .if1 .taken)
 
 returns-2 : tie.Need-returns-2
 returns-2 c =
     let s = c .before .before .before in
     let a = s .args in
     let w : length (a .t1 .words) ≡ 21 = search (needs, s .good) in
-    λ i old l e h. w-size i _ old l e h (a .t1 .len) (a .t1 .words) w (c .if2 .taken)
+    λ l i old e h. w-size i _ old l e h (a .t1 .len) (a .t1 .words) w (c .if2 .taken)
 
 element-copy-out-p : tie.Need-element-copy-out-p
 element-copy-out-p c = search needs
@@ -28,7 +28,7 @@ returns-3 c =
     let s = c .before .before .before .before in
     let a = s .args in
     let w : length (a .t1 .words) ≡ 21 = search (needs, s .good) in
-    λ i old l e h. w-taken i _ old l e h (a .t1 .len) (a .t1 .words) w (c .before .before .if1 .left) (c .before .if2 .left)
+    λ l i old e h. w-taken i _ old l e h (a .t1 .len) (a .t1 .words) w (c .before .before .if1 .left) (c .before .if2 .left)
 
 pub on-w-spec : {M : Type 1} → statement M
 on-w-spec = tie.close (tie.spec returns returns-2 element-copy-out-p returns-3)

@@ -5,7 +5,7 @@ use denote.Ref.{now}
 use lib.ListN.{length}
 use Rattle.model.specs.Load.{Composition}
 use Rattle.wrappers.specs.Compositions.{composition}
-use Rattle.loading.proofs.Faults.{taken}
+use Rattle.loading.proofs.Faults.{ok-taken}
 use Rattle.running.proofs.BeginLaws.{can-begin, begins-at, Begins, begins-none, begins-more, begun-all}
 use borrow.Author.Needs.{needs}
 use native.Mathlib.Omega.{arith}
@@ -40,7 +40,7 @@ begin-requires : tie.Need-begin-requires Inv-loop μ-loop
 begin-requires c κs =
     let a = c .before .before .before .before in
     let x = a .before .before .before in
-    let can = can-begin now _ (x .args .t2) (x .args .t3) _ _ (c .before .before .before .number-of .ensures) (in-nodes a) (in-pools a) _ _ (taken (loads x) (x .pre .0)) in
+    let can = can-begin now _ (x .args .t2) (x .args .t3) _ _ (c .before .before .before .number-of .ensures) (in-nodes a) (in-pools a) _ _ (ok-taken (loads x) (x .pre .0)) in
     (can, a .before .loop .inv .1 .long _ (a .loop-test .taken))
 
 loop-again : tie.Need-loop-again Inv-loop μ-loop
@@ -53,7 +53,7 @@ loop-again c =
 returns : tie.Need-returns Inv-loop μ-loop
 returns c =
     let x = c .before .before .before in
-    begun-all (loads x) _ _ _ (c .before .loop .inv .1) (search needs) (c .before .before .empty .result) (taken (loads x) (x .pre .0) .loaded)
+    begun-all (loads x) _ _ _ (c .before .loop .inv .1) (search needs) (c .before .before .empty .result) (ok-taken (loads x) (x .pre .0) .loaded)
 
 pub begin-all-spec : {M : Type 1} → statement M
 begin-all-spec =

@@ -21,11 +21,11 @@ run-steps-requires : tie.Need-run-steps-requires
 run-steps-requires c κs =
     let x = c .before .before .before .before .before .before .before .before .before in
     let g = c .before .before .before .before .before .begin-all .ensures in
-    (g .lent, starts (loads x) _ (g .loads), g .shelved, x .pre .1, x .pre .2)
+    (record { lent = g .lent; ready = starts (loads x) _ (g .loads); shelved = g .shelved }, x .pre .1)
 
 returns : tie.Need-returns
 returns c =
-    λ s xs e f.
+    λ s e xs f.
     let x = c .before .before .before .before .before .before .before .before .before .before .before .before in
     let g = c .before .before .before .before .before .before .before .before .begin-all .ensures in
     put-from (loads x) s _ xs _ _ _ (g .loads) e (c .before .before .run-steps .ensures xs f)

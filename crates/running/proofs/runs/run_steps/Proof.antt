@@ -52,7 +52,7 @@ answer-room a = let i = a .before .loop .inv in omega (arith, i .0, i .1 .run .s
 loop-holds : tie.Need-loop-holds Inv-loop μ-loop
 loop-holds c =
     let p = c .before .before .pre in
-    (p .4, record { sides = p .0; shelved = p .2; run = run-start _ _ _ _ _ (p .3) (p .1) })
+    (p .1 .room, record { sides = p .0 .lent; shelved = p .0 .shelved; run = run-start _ _ _ _ _ (p .1 .count) (p .0 .ready) })
 
 side-at-requires : tie.Need-side-at-requires Inv-loop μ-loop
 side-at-requires c κs = next-head (c .before .loop .inv .1 .run) (c .loop-test .taken)
@@ -77,7 +77,10 @@ step-at-requires c κs =
     let x = a .before .before .before .before .before .before .before .before in
     let has = has-asked (a .before) in
     let own = may-step now _ (x .args .t2) (x .args .t3) t (nodes-long x) (pools-long x) _ _ (a .place-of .ensures) has _ _ _ in
-    (t .sides .words, t .sides .marks, positive (a .before), place (a .before), own, shelves-of _ _ _ (t .sides) _ (t .shelved), next-head (t .run) lt, next-fits (t .run) lt)
+    let shelves = shelves-of _ _ _ (t .sides) _ (t .shelved) in (
+      record { words = t .sides .words; marks = t .sides .marks; number = positive (a .before); place = place (a .before); own = own; shelves = shelves },
+      record { head = next-head (t .run) lt; fits = next-fits (t .run) lt },
+    )
 
 array-write-shelved : tie.Need-array-write-shelved Inv-loop μ-loop
 array-write-shelved c = within (c .before .before .before .before .before .before .before .before)
@@ -117,7 +120,7 @@ loop-again c =
     let g = ⊎-elim
     (λ q.
     let has = has-asked (record { before = h; if1 = q .0 }) in
-    let made = turn-made now _ (x .args .t2) (x .args .t3) t (nodes-long x) (pools-long x) _ _ (q .1 .ensures) has _ _ _ lt room side _ _ _ (q .7 .ensures .0) (q .7 .ensures .1) in
+    let made = turn-made now _ (x .args .t2) (x .args .t3) t (nodes-long x) (pools-long x) _ _ (q .1 .ensures) has _ _ _ lt room side _ _ _ (q .7 .ensures) in
     turn-as (q .14) (q .15) (q .16) (q .17) (q .18) (made _ _ (q .11 .ensures .0) (q .11 .ensures .1) next))
     (λ q.
     let lacks = sym (h .has-side .ensures) ∙ q .0 .left in

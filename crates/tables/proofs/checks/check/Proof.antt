@@ -1,223 +1,80 @@
--- `tables::checks::check` meets its contract.
-use Rattle.tables.proofs.CheckLaws.{fail2, fail3, fail4, fail5, fail6, few, pass1, pass2, pass3, pass4, pass5, pass6, size-bad, walks-root}
+-- The checks in their order: each is asked once those before it are passed.
+use Rattle.tables.proofs.CheckLaws.{PassedTo, fail2, fail3, fail4, fail5, fail6, few, pass1, pass2, pass3, pass4, pass5, pass6, size-bad, walks-root}
+use Rattle.model.specs.Table.{Table}
 use Rattle.tables.specs.Nodes.{table}
-use mathlib.Core.Path.{sym, _∙_}
+use Rattle.tables.specs.Checks.{lowestOf}
+use mathlib.Core.Path.{sym, ap, _∙_}
 use borrow.Author.Needs.{needs}
 use Rattle.tables.proofs.checks.check.Statement.{statement}
 use Rattle.tables.proofs.checks.check.Tie as tie
 
-sizes-ok-requires : tie.Need-sizes-ok-requires
-sizes-ok-requires c κs = search needs
+-- the table that is looked at
+abbrev tableOf : tie.Start → Table
+tableOf x = table (x .args .nodes .now) (x .args .pool .now)
 
-lowest-bad-kind-requires : tie.Need-lowest-bad-kind-requires
-lowest-bad-kind-requires c κs = search needs
+-- the checks passed so far
+to-1 : (a : tie.Then1) → PassedTo (tableOf (a .before .before .before .before)) 1
+to-1 a = pass1 (tableOf (a .before .before .before .before)) (sym (a .before .sizes-ok .ensures) ∙ a .if1 .taken)
 
-enum-known-n : tie.Need-enum-known-n
-enum-known-n c = search needs
+to-2 : (a : tie.After-enum-told) → PassedTo (tableOf (a .before .before .before .before .before .before .before)) 2
+to-2 a = pass2 _ (to-1 (a .before .before .before)) (sym (a .before .before .lowest-bad-kind .ensures _) ∙ ap lowestOf (a .enum-told .given .1))
 
-enum-told : tie.Need-enum-told
-enum-told c = search needs
+to-3 : (a : tie.After-enum-told2) → PassedTo (tableOf (a .before .before .before .before .before .before .before .before .before .before)) 3
+to-3 a = pass3 _ (to-2 (a .before .before .before)) (sym (a .before .before .lowest-bad-child .ensures _) ∙ ap lowestOf (a .enum-told2 .given .1))
+
+to-4 : (a : tie.After-enum-told3) → PassedTo (tableOf (a .before .before .before .before .before .before .before .before .before .before .before .before .before)) 4
+to-4 a = pass4 _ (to-3 (a .before .before .before)) (sym (a .before .before .lowest-bad-name .ensures _) ∙ ap lowestOf (a .enum-told3 .given .1))
+
+to-5 : (a : tie.After-enum-told4) → PassedTo (tableOf (a .before .before .before .before .before .before .before .before .before .before .before .before .before .before .before .before)) 5
+to-5 a = pass5 _ (to-4 (a .before .before .before)) (sym (a .before .before .lowest-bad-place .ensures) ∙ ap lowestOf (a .enum-told4 .given .1))
 
 lowest-bad-child-requires : tie.Need-lowest-bad-child-requires
-lowest-bad-child-requires c κs = few (table (c .before .before .before .before .before .before .before .args .nodes .now) (c .before .before .before .before .before .before .before .args .pool .now))
-    (sym (c .before .before .before .before .sizes-ok .ensures) ∙ c .before .before .before .if1 .taken)
-
-enum-known-n-2 : tie.Need-enum-known-n-2
-enum-known-n-2 c = search needs
-
-enum-told-2 : tie.Need-enum-told-2
-enum-told-2 c = search needs
-
-lowest-bad-name-requires : tie.Need-lowest-bad-name-requires
-lowest-bad-name-requires c κs = search needs
-
-enum-known-n-3 : tie.Need-enum-known-n-3
-enum-known-n-3 c = search needs
-
-enum-told-3 : tie.Need-enum-told-3
-enum-told-3 c = search needs
-
-lowest-bad-place-requires : tie.Need-lowest-bad-place-requires
-lowest-bad-place-requires c κs = search needs
-
-enum-known-n-4 : tie.Need-enum-known-n-4
-enum-known-n-4 c = search needs
-
-enum-told-4 : tie.Need-enum-told-4
-enum-told-4 c = search needs
+lowest-bad-child-requires c κs = few _ (to-1 (c .before .before .before) .size)
 
 lowest-bad-scope-requires : tie.Need-lowest-bad-scope-requires
-lowest-bad-scope-requires c κs = (
-  walks-root (table (c .before .before .before .before .before .before .before .before .before .before .before .before .before .before .before .before .args .nodes .now)
-      (c .before .before .before .before .before .before .before .before .before .before .before .before .before .before .before .before .args .pool .now))
-      (pass5 (table (c .before .before .before .before .before .before .before .before .before .before .before .before .before .before .before .before .args .nodes .now)
-      (c .before .before .before .before .before .before .before .before .before .before .before .before .before .before .before .before .args .pool .now))
-      (pass4 (table (c .before .before .before .before .before .before .before .before .before .before .before .before .before .before .before .before .args .nodes .now)
-      (c .before .before .before .before .before .before .before .before .before .before .before .before .before .before .before .before .args .pool .now))
-      (pass3 (table (c .before .before .before .before .before .before .before .before .before .before .before .before .before .before .before .before .args .nodes .now)
-      (c .before .before .before .before .before .before .before .before .before .before .before .before .before .before .before .before .args .pool .now))
-      (pass2 (table (c .before .before .before .before .before .before .before .before .before .before .before .before .before .before .before .before .args .nodes .now)
-      (c .before .before .before .before .before .before .before .before .before .before .before .before .before .before .before .before .args .pool .now))
-      (pass1 (table (c .before .before .before .before .before .before .before .before .before .before .before .before .before .before .before .before .args .nodes .now)
-      (c .before .before .before .before .before .before .before .before .before .before .before .before .before .before .before .before .args .pool .now))
-      (sym (c .before .before .before .before .before .before .before .before .before .before .before .before .before .sizes-ok .ensures)
-      ∙ c .before .before .before .before .before .before .before .before .before .before .before .before .if1 .taken))
-      (sym (c .before .before .before .before .before .before .before .before .before .before .before .lowest-bad-kind .ensures
-      (c .before .before .before .before .before .before .before .before .before .before .before .before .before .before .before .before .args .pool .now))
-      ∙ c .before .before .before .before .before .before .before .before .before .enum-told .given .1))
-      (sym (c .before .before .before .before .before .before .before .before .lowest-bad-child .ensures
-      (c .before .before .before .before .before .before .before .before .before .before .before .before .before .before .before .before .args .pool .now))
-      ∙ c .before .before .before .before .before .before .enum-told2 .given .1))
-      (sym (c .before .before .before .before .before .lowest-bad-name .ensures
-      (c .before .before .before .before .before .before .before .before .before .before .before .before .before .before .before .before .args .pool .now))
-      ∙ c .before .before .before .enum-told3 .given .1)) (sym (c .before .before .lowest-bad-place .ensures) ∙ c .enum-told4 .given .1)),
-  few (table (c .before .before .before .before .before .before .before .before .before .before .before .before .before .before .before .before .args .nodes .now)
-      (c .before .before .before .before .before .before .before .before .before .before .before .before .before .before .before .before .args .pool .now))
-      (sym (c .before .before .before .before .before .before .before .before .before .before .before .before .before .sizes-ok .ensures)
-      ∙ c .before .before .before .before .before .before .before .before .before .before .before .before .if1 .taken),
-)
-
-enum-known-n-5 : tie.Need-enum-known-n-5
-enum-known-n-5 c = search needs
-
-enum-told-5 : tie.Need-enum-told-5
-enum-told-5 c = search needs
+lowest-bad-scope-requires c κs = (walks-root _ (to-5 c), few _ (to-5 c .size))
 
 returns : tie.Need-returns
-returns c = fail2 (table (c .before .before .before .before .before .before .before .before .args .nodes .now) (c .before .before .before .before .before .before .before .before .args .pool .now)) _
-    (pass1 (table (c .before .before .before .before .before .before .before .before .args .nodes .now) (c .before .before .before .before .before .before .before .before .args .pool .now))
-    (sym (c .before .before .before .before .before .sizes-ok .ensures) ∙ c .before .before .before .before .if1 .taken))
-    (sym (c .before .before .before .lowest-bad-kind .ensures (c .before .before .before .before .before .before .before .before .args .pool .now)) ∙ c .before .n .given .1)
+returns c = fail2 _ _ (to-1 (c .before .before .before .before)) (sym (c .before .before .before .lowest-bad-kind .ensures _) ∙ ap lowestOf (c .before .n .given .1))
 
 returns-2 : tie.Need-returns-2
-returns-2 c = fail3 (table (c .before .before .before .before .before .before .before .before .before .before .before .args .nodes .now)
-    (c .before .before .before .before .before .before .before .before .before .before .before .args .pool .now)) _
-    (pass2 (table (c .before .before .before .before .before .before .before .before .before .before .before .args .nodes .now)
-    (c .before .before .before .before .before .before .before .before .before .before .before .args .pool .now))
-    (pass1 (table (c .before .before .before .before .before .before .before .before .before .before .before .args .nodes .now)
-    (c .before .before .before .before .before .before .before .before .before .before .before .args .pool .now))
-    (sym (c .before .before .before .before .before .before .before .before .sizes-ok .ensures) ∙ c .before .before .before .before .before .before .before .if1 .taken))
-    (sym (c .before .before .before .before .before .before .lowest-bad-kind .ensures (c .before .before .before .before .before .before .before .before .before .before .before .args .pool .now))
-    ∙ c .before .before .before .before .enum-told .given .1))
-    (sym (c .before .before .before .lowest-bad-child .ensures (c .before .before .before .before .before .before .before .before .before .before .before .args .pool .now)) ∙ c .before .n2 .given .1)
+returns-2 c = fail3 _ _ (to-2 (c .before .before .before .before)) (sym (c .before .before .before .lowest-bad-child .ensures _) ∙ ap lowestOf (c .before .n2 .given .1))
 
 returns-3 : tie.Need-returns-3
-returns-3 c = fail4 (table (c .before .before .before .before .before .before .before .before .before .before .before .before .before .before .args .nodes .now)
-    (c .before .before .before .before .before .before .before .before .before .before .before .before .before .before .args .pool .now)) _
-    (pass3 (table (c .before .before .before .before .before .before .before .before .before .before .before .before .before .before .args .nodes .now)
-    (c .before .before .before .before .before .before .before .before .before .before .before .before .before .before .args .pool .now))
-    (pass2 (table (c .before .before .before .before .before .before .before .before .before .before .before .before .before .before .args .nodes .now)
-    (c .before .before .before .before .before .before .before .before .before .before .before .before .before .before .args .pool .now))
-    (pass1 (table (c .before .before .before .before .before .before .before .before .before .before .before .before .before .before .args .nodes .now)
-    (c .before .before .before .before .before .before .before .before .before .before .before .before .before .before .args .pool .now))
-    (sym (c .before .before .before .before .before .before .before .before .before .before .before .sizes-ok .ensures)
-    ∙ c .before .before .before .before .before .before .before .before .before .before .if1 .taken))
-    (sym (c .before .before .before .before .before .before .before .before .before .lowest-bad-kind .ensures
-    (c .before .before .before .before .before .before .before .before .before .before .before .before .before .before .args .pool .now))
-    ∙ c .before .before .before .before .before .before .before .enum-told .given .1))
-    (sym (c .before .before .before .before .before .before .lowest-bad-child .ensures
-    (c .before .before .before .before .before .before .before .before .before .before .before .before .before .before .args .pool .now)) ∙ c .before .before .before .before .enum-told2 .given .1))
-    (sym (c .before .before .before .lowest-bad-name .ensures (c .before .before .before .before .before .before .before .before .before .before .before .before .before .before .args .pool .now)) ∙ c .before .n3 .given .1)
+returns-3 c = fail4 _ _ (to-3 (c .before .before .before .before)) (sym (c .before .before .before .lowest-bad-name .ensures _) ∙ ap lowestOf (c .before .n3 .given .1))
 
 returns-4 : tie.Need-returns-4
-returns-4 c = fail5 (table (c .before .before .before .before .before .before .before .before .before .before .before .before .before .before .before .before .before .args .nodes .now)
-    (c .before .before .before .before .before .before .before .before .before .before .before .before .before .before .before .before .before .args .pool .now)) _
-    (pass4 (table (c .before .before .before .before .before .before .before .before .before .before .before .before .before .before .before .before .before .args .nodes .now)
-    (c .before .before .before .before .before .before .before .before .before .before .before .before .before .before .before .before .before .args .pool .now))
-    (pass3 (table (c .before .before .before .before .before .before .before .before .before .before .before .before .before .before .before .before .before .args .nodes .now)
-    (c .before .before .before .before .before .before .before .before .before .before .before .before .before .before .before .before .before .args .pool .now))
-    (pass2 (table (c .before .before .before .before .before .before .before .before .before .before .before .before .before .before .before .before .before .args .nodes .now)
-    (c .before .before .before .before .before .before .before .before .before .before .before .before .before .before .before .before .before .args .pool .now))
-    (pass1 (table (c .before .before .before .before .before .before .before .before .before .before .before .before .before .before .before .before .before .args .nodes .now)
-    (c .before .before .before .before .before .before .before .before .before .before .before .before .before .before .before .before .before .args .pool .now))
-    (sym (c .before .before .before .before .before .before .before .before .before .before .before .before .before .before .sizes-ok .ensures)
-    ∙ c .before .before .before .before .before .before .before .before .before .before .before .before .before .if1 .taken))
-    (sym (c .before .before .before .before .before .before .before .before .before .before .before .before .lowest-bad-kind .ensures
-    (c .before .before .before .before .before .before .before .before .before .before .before .before .before .before .before .before .before .args .pool .now))
-    ∙ c .before .before .before .before .before .before .before .before .before .before .enum-told .given .1))
-    (sym (c .before .before .before .before .before .before .before .before .before .lowest-bad-child .ensures
-    (c .before .before .before .before .before .before .before .before .before .before .before .before .before .before .before .before .before .args .pool .now))
-    ∙ c .before .before .before .before .before .before .before .enum-told2 .given .1))
-    (sym (c .before .before .before .before .before .before .lowest-bad-name .ensures
-    (c .before .before .before .before .before .before .before .before .before .before .before .before .before .before .before .before .before .args .pool .now))
-    ∙ c .before .before .before .before .enum-told3 .given .1)) (sym (c .before .before .before .lowest-bad-place .ensures) ∙ c .before .n4 .given .1)
+returns-4 c = fail5 _ _ (to-4 (c .before .before .before .before)) (sym (c .before .before .before .lowest-bad-place .ensures) ∙ ap lowestOf (c .before .n4 .given .1))
 
 returns-5 : tie.Need-returns-5
-returns-5 c = fail6 (table
-    (c .before .before .before .before .before .before .before .before .before .before .before .before .before .before .before .before .before .before .before .before .args .nodes .now)
-    (c .before .before .before .before .before .before .before .before .before .before .before .before .before .before .before .before .before .before .before .before .args .pool .now)) _
-    (pass5 (table (c .before .before .before .before .before .before .before .before .before .before .before .before .before .before .before .before .before .before .before .before .args .nodes .now)
-    (c .before .before .before .before .before .before .before .before .before .before .before .before .before .before .before .before .before .before .before .before .args .pool .now))
-    (pass4 (table (c .before .before .before .before .before .before .before .before .before .before .before .before .before .before .before .before .before .before .before .before .args .nodes .now)
-    (c .before .before .before .before .before .before .before .before .before .before .before .before .before .before .before .before .before .before .before .before .args .pool .now))
-    (pass3 (table (c .before .before .before .before .before .before .before .before .before .before .before .before .before .before .before .before .before .before .before .before .args .nodes .now)
-    (c .before .before .before .before .before .before .before .before .before .before .before .before .before .before .before .before .before .before .before .before .args .pool .now))
-    (pass2 (table (c .before .before .before .before .before .before .before .before .before .before .before .before .before .before .before .before .before .before .before .before .args .nodes .now)
-    (c .before .before .before .before .before .before .before .before .before .before .before .before .before .before .before .before .before .before .before .before .args .pool .now))
-    (pass1 (table (c .before .before .before .before .before .before .before .before .before .before .before .before .before .before .before .before .before .before .before .before .args .nodes .now)
-    (c .before .before .before .before .before .before .before .before .before .before .before .before .before .before .before .before .before .before .before .before .args .pool .now))
-    (sym (c .before .before .before .before .before .before .before .before .before .before .before .before .before .before .before .before .before .sizes-ok .ensures)
-    ∙ c .before .before .before .before .before .before .before .before .before .before .before .before .before .before .before .before .if1 .taken))
-    (sym (c .before .before .before .before .before .before .before .before .before .before .before .before .before .before .before .lowest-bad-kind .ensures
-    (c .before .before .before .before .before .before .before .before .before .before .before .before .before .before .before .before .before .before .before .before .args .pool .now))
-    ∙ c .before .before .before .before .before .before .before .before .before .before .before .before .before .enum-told .given .1))
-    (sym (c .before .before .before .before .before .before .before .before .before .before .before .before .lowest-bad-child .ensures
-    (c .before .before .before .before .before .before .before .before .before .before .before .before .before .before .before .before .before .before .before .before .args .pool .now))
-    ∙ c .before .before .before .before .before .before .before .before .before .before .enum-told2 .given .1))
-    (sym (c .before .before .before .before .before .before .before .before .before .lowest-bad-name .ensures
-    (c .before .before .before .before .before .before .before .before .before .before .before .before .before .before .before .before .before .before .before .before .args .pool .now))
-    ∙ c .before .before .before .before .before .before .before .enum-told3 .given .1))
-    (sym (c .before .before .before .before .before .before .lowest-bad-place .ensures) ∙ c .before .before .before .before .enum-told4 .given .1)) (sym (c .before .before .before .lowest-bad-scope .ensures) ∙ c .before .n5 .given .1)
+returns-5 c = fail6 _ _ (to-5 (c .before .before .before .before)) (sym (c .before .before .before .lowest-bad-scope .ensures) ∙ ap lowestOf (c .before .n5 .given .1))
 
 returns-6 : tie.Need-returns-6
-returns-6 c = pass6 (table (c .before .before .before .before .before .before .before .before .before .before .before .before .before .before .before .before .before .before .before .args .nodes .now)
-    (c .before .before .before .before .before .before .before .before .before .before .before .before .before .before .before .before .before .before .before .args .pool .now))
-    (pass5 (table (c .before .before .before .before .before .before .before .before .before .before .before .before .before .before .before .before .before .before .before .args .nodes .now)
-    (c .before .before .before .before .before .before .before .before .before .before .before .before .before .before .before .before .before .before .before .args .pool .now))
-    (pass4 (table (c .before .before .before .before .before .before .before .before .before .before .before .before .before .before .before .before .before .before .before .args .nodes .now)
-    (c .before .before .before .before .before .before .before .before .before .before .before .before .before .before .before .before .before .before .before .args .pool .now))
-    (pass3 (table (c .before .before .before .before .before .before .before .before .before .before .before .before .before .before .before .before .before .before .before .args .nodes .now)
-    (c .before .before .before .before .before .before .before .before .before .before .before .before .before .before .before .before .before .before .before .args .pool .now))
-    (pass2 (table (c .before .before .before .before .before .before .before .before .before .before .before .before .before .before .before .before .before .before .before .args .nodes .now)
-    (c .before .before .before .before .before .before .before .before .before .before .before .before .before .before .before .before .before .before .before .args .pool .now))
-    (pass1 (table (c .before .before .before .before .before .before .before .before .before .before .before .before .before .before .before .before .before .before .before .args .nodes .now)
-    (c .before .before .before .before .before .before .before .before .before .before .before .before .before .before .before .before .before .before .before .args .pool .now))
-    (sym (c .before .before .before .before .before .before .before .before .before .before .before .before .before .before .before .before .sizes-ok .ensures)
-    ∙ c .before .before .before .before .before .before .before .before .before .before .before .before .before .before .before .if1 .taken))
-    (sym (c .before .before .before .before .before .before .before .before .before .before .before .before .before .before .lowest-bad-kind .ensures
-    (c .before .before .before .before .before .before .before .before .before .before .before .before .before .before .before .before .before .before .before .args .pool .now))
-    ∙ c .before .before .before .before .before .before .before .before .before .before .before .before .enum-told .given .1))
-    (sym (c .before .before .before .before .before .before .before .before .before .before .before .lowest-bad-child .ensures
-    (c .before .before .before .before .before .before .before .before .before .before .before .before .before .before .before .before .before .before .before .args .pool .now))
-    ∙ c .before .before .before .before .before .before .before .before .before .enum-told2 .given .1))
-    (sym (c .before .before .before .before .before .before .before .before .lowest-bad-name .ensures
-    (c .before .before .before .before .before .before .before .before .before .before .before .before .before .before .before .before .before .before .before .args .pool .now))
-    ∙ c .before .before .before .before .before .before .enum-told3 .given .1))
-    (sym (c .before .before .before .before .before .lowest-bad-place .ensures) ∙ c .before .before .before .enum-told4 .given .1)) (sym (c .before .before .lowest-bad-scope .ensures) ∙ c .enum-told5 .given .1)
+returns-6 c = pass6 _ (to-5 (c .before .before .before)) (sym (c .before .before .lowest-bad-scope .ensures) ∙ ap lowestOf (c .enum-told5 .given .1))
 
 returns-7 : tie.Need-returns-7
-returns-7 c = size-bad (table (c .before .before .before .before .args .nodes .now) (c .before .before .before .before .args .pool .now)) (sym (c .before .sizes-ok .ensures) ∙ c .if1 .left)
+returns-7 c = size-bad (tableOf (c .before .before .before .before)) (sym (c .before .sizes-ok .ensures) ∙ c .if1 .left)
 
 pub check-spec : {M : Type 1} → statement M
 check-spec =
     tie.close
     (tie.spec
-    sizes-ok-requires
-    lowest-bad-kind-requires
-    enum-known-n
-    enum-told
+    (λ c κs. search needs)
+    (λ c κs. search needs)
+    (λ c. search needs)
+    (λ c. search needs)
     lowest-bad-child-requires
-    enum-known-n-2
-    enum-told-2
-    lowest-bad-name-requires
-    enum-known-n-3
-    enum-told-3
-    lowest-bad-place-requires
-    enum-known-n-4
-    enum-told-4
+    (λ c. search needs)
+    (λ c. search needs)
+    (λ c κs. search needs)
+    (λ c. search needs)
+    (λ c. search needs)
+    (λ c κs. search needs)
+    (λ c. search needs)
+    (λ c. search needs)
     lowest-bad-scope-requires
-    enum-known-n-5
-    enum-told-5
+    (λ c. search needs)
+    (λ c. search needs)
     returns
     returns-2
     returns-3

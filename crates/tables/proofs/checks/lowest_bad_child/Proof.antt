@@ -1,8 +1,7 @@
 -- `tables::checks::lowest_bad_child` meets its contract.
 use Rattle.tables.proofs.FieldLaws.{bad-here, bad-more, bad-none, bad-start, tree-is}
-use Rattle.tables.specs.Checks.{lowestOf}
 use Rattle.tables.specs.Nodes.{table}
-use mathlib.Core.Path.{_≡_, refl, sym, ap, _∙_}
+use mathlib.Core.Path.{_≡_, refl, sym, _∙_}
 use mathlib.Core.List.{List}
 use Prim.Native.Nat.{ℕ, _≤_, _-_, _/_}
 use lib.ListN.{length, getD}
@@ -58,13 +57,13 @@ returns c =
     let l = c .before .before .before .before .before .loop in
     let ns = c .before .before .before .before .before .before .before .before .args .nodes .now in
     let k = getD (c .before .before .before .before .before .before .times-child .result .of) (l .n) 0 in
-    λ pool. ap lowestOf (sym
+    λ pool. sym
     (l .inv .3 pool ∙ bad-here (check3 (table ns pool)) _ (l .n) (c .before .before .before .before .loop-test .taken)
     (sym (tree-is ns pool (l .n) k _ (c .before .before .before .node-at .ensures) (c .before .before .before .before .before .before .times-child .ensures pool (l .n) (omega arith)))
-    ∙ sym (c .before .tree-ok .ensures) ∙ c .if1 .left)))
+    ∙ sym (c .before .tree-ok .ensures) ∙ c .if1 .left))
 
 returns-2 : tie.Need-returns-2 Inv-loop μ-loop
-returns-2 c = λ pool. ap lowestOf (sym (c .before .loop .inv .3 pool ∙ bad-none (check3 (table (c .before .before .before .before .args .nodes .now) pool)) _ (c .before .loop .n) (c .loop-test .left)))
+returns-2 c = λ pool. sym (c .before .loop .inv .3 pool ∙ bad-none (check3 (table (c .before .before .before .before .args .nodes .now) pool)) _ (c .before .loop .n) (c .loop-test .left))
 
 pub lowest-bad-child-spec : {M : Type 1} → statement M
 lowest-bad-child-spec =

@@ -1,8 +1,7 @@
 -- `tables::checks::lowest_bad_name` meets its contract.
 use Rattle.tables.proofs.FieldLaws.{bad-here, bad-more, bad-none, bad-start, names-are}
-use Rattle.tables.specs.Checks.{lowestOf}
 use Rattle.tables.specs.Nodes.{table}
-use mathlib.Core.Path.{_≡_, refl, sym, ap, _∙_}
+use mathlib.Core.Path.{_≡_, refl, sym, _∙_}
 use mathlib.Core.List.{List}
 use Prim.Native.Nat.{ℕ, _≤_, _-_, _/_}
 use lib.ListN.{length}
@@ -46,12 +45,12 @@ returns : tie.Need-returns Inv-loop μ-loop
 returns c =
     let l = c .before .before .before .before .loop in
     let ns = c .before .before .before .before .before .before .args .nodes .now in
-    λ pool. ap lowestOf (sym
+    λ pool. sym
     (l .inv .2 pool ∙ bad-here (check4 (table ns pool)) _ (l .n) (c .before .before .before .loop-test .taken)
-    (sym (names-are ns pool (l .n) _ (c .before .before .node-at .ensures)) ∙ sym (c .before .names-ok .ensures) ∙ c .if1 .left)))
+    (sym (names-are ns pool (l .n) _ (c .before .before .node-at .ensures)) ∙ sym (c .before .names-ok .ensures) ∙ c .if1 .left))
 
 returns-2 : tie.Need-returns-2 Inv-loop μ-loop
-returns-2 c = λ pool. ap lowestOf (sym (c .before .loop .inv .2 pool ∙ bad-none (check4 (table (c .before .before .before .args .nodes .now) pool)) _ (c .before .loop .n) (c .loop-test .left)))
+returns-2 c = λ pool. sym (c .before .loop .inv .2 pool ∙ bad-none (check4 (table (c .before .before .before .args .nodes .now) pool)) _ (c .before .loop .n) (c .loop-test .left))
 
 pub lowest-bad-name-spec : {M : Type 1} → statement M
 lowest-bad-name-spec =

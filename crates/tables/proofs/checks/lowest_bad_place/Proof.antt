@@ -1,8 +1,7 @@
 -- `tables::checks::lowest_bad_place` meets its contract.
 use Rattle.tables.proofs.FieldLaws.{bad-here, bad-more, bad-none, bad-start, places-are}
-use Rattle.tables.specs.Checks.{lowestOf}
 use Rattle.tables.specs.Nodes.{table}
-use mathlib.Core.Path.{_≡_, refl, sym, ap, _∙_}
+use mathlib.Core.Path.{_≡_, refl, sym, _∙_}
 use Prim.Native.Nat.{_≤_, _-_, _/_}
 use lib.ListN.{length}
 use Rattle.model.specs.Checks.{firstBad, check5}
@@ -47,11 +46,11 @@ returns c =
     let l = c .before .before .before .before .loop in
     let ns = c .before .before .before .before .before .before .before .args .nodes .now in
     let pool = c .before .before .before .before .before .before .before .args .pool .now in
-    ap lowestOf (sym (l .inv .2
-    ∙ bad-here (check5 (table ns pool)) _ (l .n) (c .before .before .before .loop-test .taken) (sym (places-are ns pool (l .n) _ (c .before .before .node-at .ensures)) ∙ sym (c .before .places-ok .ensures) ∙ c .if1 .left)))
+    sym (l .inv .2
+    ∙ bad-here (check5 (table ns pool)) _ (l .n) (c .before .before .before .loop-test .taken) (sym (places-are ns pool (l .n) _ (c .before .before .node-at .ensures)) ∙ sym (c .before .places-ok .ensures) ∙ c .if1 .left))
 
 returns-2 : tie.Need-returns-2 Inv-loop μ-loop
-returns-2 c = ap lowestOf (sym (c .before .loop .inv .2 ∙ bad-none (check5 (table (c .before .before .before .before .args .nodes .now) (c .before .before .before .before .args .pool .now))) _ (c .before .loop .n) (c .loop-test .left)))
+returns-2 c = sym (c .before .loop .inv .2 ∙ bad-none (check5 (table (c .before .before .before .before .args .nodes .now) (c .before .before .before .before .args .pool .now))) _ (c .before .loop .n) (c .loop-test .left))
 
 pub lowest-bad-place-spec : {M : Type 1} → statement M
 lowest-bad-place-spec =
