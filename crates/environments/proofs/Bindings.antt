@@ -1,14 +1,14 @@
 -- Names bound one after another in lent words: how the words come about, and what the environment is then.
 use mathlib.Core.Path.{_≡_, refl, sym, ap, ap₂, _∙_, subst}
 use mathlib.Core.Bool.{true, false}
-use mathlib.Core.List.{List, [], _∷_, _++_, map, append-nil, append-assoc, map-append}
-use Prim.Native.Nat.{ℕ, suc, _+_, _-_, _<_, _≤_}
+use mathlib.Core.List.{List, [], _∷_, _++_, map, map-append}
+use Prim.Native.Nat.{ℕ, suc, _+_, _<_, _≤_}
 use native.Mathlib.Nat.{add-zero}
 use native.Mathlib.Numerals.{add-one}
 use native.Mathlib.Omega.{arith}
 use borrow.Author.Tests.{leb-true}
-use lib.ListN.{length, getD, take, drop, length-append, length-map, length-take, length-drop, drop-of-length-le}
-use lib.Seq.{take-nil, take-suc, take-all, length-take-le}
+use lib.ListN.{length, getD, take, drop, length-append, length-map, length-take}
+use lib.Seq.{take-suc, take-all, length-take-le}
 use Rattle.model.specs.Basics.{refuse, done, every}
 use Rattle.model.specs.Values.{Env, Fit, extend, binders, matches}
 use Rattle.model.proofs.Basics.Tests.{fst, snd}
@@ -21,26 +21,13 @@ use Rattle.values.specs.Match.{partOf, viewBound, fit, fitOf, storedAfter}
 use Rattle.values.proofs.Lists.{take-count}
 use Rattle.values.proofs.Names.{next-name, next-other, binders-front}
 use Rattle.values.proofs.Matches.{matched-no, matched-yes}
-use Rattle.values.proofs.Environments.{env}
+use Rattle.values.proofs.Environments.{extend-none, extend-more}
 use Rattle.sides.specs.Environments.{envOf, bound}
 use Rattle.sides.proofs.Binding.{bound-length, env-bound, fits-bound}
 use Rattle.environments.specs.declared.matching.Binding.{Binding}
 use Rattle.environments.specs.Fits.{Fits}
 use Rattle.environments.specs.Matching.{patternAt, boundAll, Bindable, Matchable, namesAfter, wordsAfter, BindingIs}
 use Rattle.environments.proofs.Patterns.{isShort, pattern-binds, match-no, match-yes}
-
--- A PART OF A VALUE, by the way that the code goes
-module _ (v : List ℕ) (p : Part) where
-  pub part-in : (j : ℕ) → j ≡ p .len → take j (drop (p .start) v) ≡ partOf v p
-  part-in j z = ap (λ (k : ℕ). take k (drop (p .start) v)) z
-
-  pub part-end : (j : ℕ) → j ≡ length v - p .start → length v - p .start ≤ p .len → take j (drop (p .start) v) ≡ partOf v p
-  part-end j z h =
-      let l = length-drop (p .start) v in
-      take-all j (drop (p .start) v) (omega arith) ∙ sym (take-all (p .len) (drop (p .start) v) (omega arith))
-
-  pub part-past : length v ≤ p .start → [] ≡ partOf v p
-  part-past h = sym (ap (take (p .len)) (drop-of-length-le v h) ∙ take-nil (p .len))
 
 -- one name more
 all-more : (ns : List ℕ) (vs : List (List ℕ)) (e : List ℕ) (n x : ℕ) (v : List ℕ) → length vs ≡ length ns →
@@ -60,14 +47,11 @@ all-length (x ∷ ns) [] e n = refl
 all-length (x ∷ ns) (v ∷ vs) e n = all-length ns vs (bound e n x v) (n + 1) ∙ bound-length e n x v
 
 -- THE ENVIRONMENT WITH THE NAMES, each value within its place
-extend-more : (ρ : Env) (x : ℕ) (v : List ℕ) (ns : List ℕ) (vs : List (List ℕ)) → extend (extend ρ (x ∷ []) (v ∷ [])) ns vs ≡ extend ρ (x ∷ ns) (v ∷ vs)
-extend-more ρ x v ns vs = ap₂ env (append-assoc (ρ .names) (x ∷ []) ns) (append-assoc (ρ .vals) (v ∷ []) vs)
-
 all-env : (ns : List ℕ) (vs : List (List ℕ)) (e : List ℕ) (n : ℕ) → Fits e n → n + length ns ≤ 8 → length vs ≡ length ns → every isShort vs ≡ true →
     (envOf (boundAll e n ns vs) (n + length ns) ≡ extend (envOf e n) ns vs) × Fits (boundAll e n ns vs) (n + length ns)
 unfolding boundAll
 all-env [] [] e n f r h s =
-    rw (add-zero n) (sym (ap₂ env (append-nil (envOf e n .names)) (append-nil (envOf e n .vals))), f)
+    rw (add-zero n) (sym (extend-none (envOf e n)), f)
 all-env [] (v ∷ vs) e n f r h s = absurd (omega arith)
 all-env (x ∷ ns) [] e n f r h s = absurd (omega arith)
 all-env (x ∷ ns) (v ∷ vs) e n f r h s =
@@ -77,7 +61,7 @@ all-env (x ∷ ns) (v ∷ vs) e n f r h s =
     let long = f .long in
     let next : Fits (bound e n x v) (n + 1) = record { long = bound-length e n x v ∙ long; few = omega arith; places = fits-bound e n x v long room short (f .places) } in
     let rest = all-env ns vs (bound e n x v) (n + 1) next (omega arith) (omega arith) (snd _ _ s) in
-    let one = ap (λ (ρ : Env). extend ρ ns vs) (env-bound e n x v long room short) ∙ extend-more (envOf e n) x v ns vs in
+    let one = ap (λ (ρ : Env). extend ρ ns vs) (env-bound e n x v long room short) ∙ extend-more (envOf e n) (x ∷ []) ns (v ∷ []) vs in
     rw (← k) (rest .0 ∙ one, rest .1)
 
 -- THE LOOP over the words of the pattern: after i words k names are bound to the first k parts

@@ -36,11 +36,11 @@ fn tuple_names(e: &[u32], n: usize) -> NameSet
     requires { ⌜ Fits (now e) n ⌝ }
     ensures { λ r. ⌜ ((m : ℕ) → m < 64 → getD (r .on) m false ≡ tupleOf (value (envOf (now (e .entry)) n) m)) ⌝ }
 {
-    let mut on = [false; 64];
+    let mut on = [false; NameSet::NAMES];
     let mut k: usize = 0;
     while k < n {
         let x = wide(e[k]);
-        if x < 64 {
+        if x < NameSet::NAMES {
             on[x] = tuple_in(e, k);
         }
         k += 1;

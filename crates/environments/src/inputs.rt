@@ -19,7 +19,7 @@ fn put_names(e: &mut [u32], w: Names) -> usize
 {
     let mut n: usize = 0;
     let mut k = w.top;
-    while k < 8 {
+    while k < Names::MOST {
         e[n] = w.rows[k];
         n += 1;
         k += 1;

@@ -13,18 +13,20 @@ ghost use Rattle.environments.specs.Fits.{Fits};
 ghost use Rattle.environments.specs.Long.{longIn, sizeFor, sizeBy, longBy};
 use crate::wide;
 use sides::Rows;
+use tables::name_set::NameSet;
 use tables::nodes::node_at;
 use tables::pool::words_at;
 use values::Leaf;
+use values::Value;
 
 // How many words each name of a table, 0 to 63, stands for.
 pub(crate) struct Sizes {
-    of: [u8; 64],
+    of: [u8; NameSet::NAMES],
 }
 
 // A number of words.
 fn words(x: u8) -> usize
-    ensures { λ r. ⌜ r ≡ x ⌝ }
+    ensures { λ r. ⌜ (r ≡ x) × (r < 256) ⌝ }
 {
     x as usize
 }
@@ -34,7 +36,7 @@ impl Sizes {
     fn put(mut self, x: usize, m: u8) -> Sizes
         ensures { λ r. ⌜ r .of ≡ set (self .of) x m ⌝ }
     {
-        if x < 64 {
+        if x < NameSet::NAMES {
             self.of[x] = m;
         }
         self
@@ -42,7 +44,7 @@ impl Sizes {
 
     // How many words a word of a table's value stands for.
     fn size_for(self, w: u32) -> usize
-        ensures { λ r. ⌜ r ≡ sizeFor (self .of) w ⌝ }
+        ensures { λ r. ⌜ (r ≡ sizeFor (self .of) w) × (r < 256) ⌝ }
     {
         if w <= 63 {
             let x = wide(w);
@@ -58,12 +60,12 @@ fn sizes_of(e: &[u32], n: usize) -> Sizes
     requires { ⌜ Fits (now e) n ⌝ }
     ensures { λ r. ⌜ ((m : ℕ) → m < 64 → getD (r .of) m 0 ≡ length (value (envOf (now (e .entry)) n) m)) ⌝ }
 {
-    let mut of = [1u8; 64];
+    let mut of = [1u8; NameSet::NAMES];
     let mut k: usize = 0;
     while k < n {
         let x = wide(e[k]);
         let a = Rows::HEAD + Rows::PLACE * k;
-        if x < 64 {
+        if x < NameSet::NAMES {
             of[x] = e[a] as u8;
         }
         k += 1;
@@ -78,11 +80,10 @@ fn over_long(t: Sizes, s: &[u32]) -> bool
     let mut n: usize = 0;
     let mut i: usize = 0;
     while i < s.len() {
-        let m = t.size_for(s[i]);
-        if 16 - n < m {
+        n += t.size_for(s[i]);
+        if !Value::length_within(n) {
             return true;
         }
-        n += m;
         i += 1;
     }
     false

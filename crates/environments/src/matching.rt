@@ -4,35 +4,19 @@ ghost use Prim.Native.Nat.{_+_};
 ghost use lib.ListN.{length};
 ghost use Rattle.model.specs.Values.{binders};
 ghost use Rattle.values.specs.Env.{viewValue};
-ghost use Rattle.values.specs.Match.{partOf, viewBound};
+ghost use Rattle.values.specs.Match.{viewBound};
 ghost use Rattle.environments.specs.Matching.{patternAt, boundAll, Bindable, Matchable, BindingIs};
 use sides::bind_words;
 use tables::pool::words_at;
 use values::Bound;
 use values::Leaf;
-use values::Part;
 use values::Value;
+use values::part_words;
 
 // Whether a pattern takes a value, and how many names are in force then.
 pub struct Binding {
     pub fits: bool,
     pub n: usize,
-}
-
-// The words of a part of v.
-fn part_of(v: &[u32], p: Part) -> &[u32]
-    ensures { λ r. ⌜ now r ≡ partOf (now (v .entry)) p ⌝ }
-{
-    let a = p.start;
-    let k = p.len;
-    if a < v.len() {
-        if k < v.len() - a {
-            let z = a + k;
-            return &v[a..z];
-        }
-        return &v[a..];
-    }
-    &v[0..0]
 }
 
 // The names of the pattern p, bound to the parts of v behind n names, and how many names are in force then.
@@ -46,7 +30,7 @@ fn bind_parts(e: &mut [u32], n: usize, p: &[u32], v: &[u32], b: Bound) -> usize
         let w = p[i];
         if w <= 63 {
             let q = b.rows[k];
-            bind_words(e, n + k, w, part_of(v, q));
+            bind_words(e, n + k, w, part_words(v, q));
             k += 1;
             i += 1;
         } else {

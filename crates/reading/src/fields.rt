@@ -17,7 +17,7 @@ pub(crate) enum Number {
 // A line's letter and numbers. A length of 22 says that the line is at fault, or has more than 21 numbers.
 pub(crate) struct Line {
     pub(crate) letter: u8,
-    pub(crate) words: [u32; 21],
+    pub(crate) words: [u32; Line::MOST],
     pub(crate) len: usize,
 }
 
@@ -57,14 +57,20 @@ fn number_at(s: &[u8], from: usize, to: usize) -> Number
 }
 
 impl Line {
+    // The most numbers of a line: a step of kind 1 with 17 value words.
+    const MOST: usize = 21;
+
+    // The length of a line at fault.
+    const FAULT: usize = Line::MOST + 1;
+
     // A line at fault.
     fn bad() -> Line
         ensures { λ r. ⌜ viewLine r ≡ none ⌝ }
     {
         Line {
             letter: 0,
-            words: [0; 21],
-            len: 22,
+            words: [0; Line::MOST],
+            len: Line::FAULT,
         }
     }
 
@@ -74,7 +80,7 @@ impl Line {
     {
         Line {
             letter,
-            words: [0; 21],
+            words: [0; Line::MOST],
             len: 0,
         }
     }
@@ -85,7 +91,7 @@ fn with_numbers(letter: u8, s: &[u8], from: usize, to: usize) -> Line
     requires { ⌜ (from ≤ to) × (to ≤ length (now s)) ⌝ }
     ensures { λ r. ⌜ viewLine r ≡ short (lineWith letter (numbers (pieces tab (slice from to (now (s .entry)))))) ⌝ }
 {
-    let mut words = [0u32; 21];
+    let mut words = [0u32; Line::MOST];
     let mut len: usize = 0;
     let mut at = from;
     loop {
@@ -93,11 +99,11 @@ fn with_numbers(letter: u8, s: &[u8], from: usize, to: usize) -> Line
         let Number::Word(w) = number_at(s, at, q) else {
             return Line::bad();
         };
-        if len < 21 {
+        if len < Line::MOST {
             words[len] = w;
             len += 1;
         } else {
-            len = 22;
+            len = Line::FAULT;
         }
         if q == to {
             return Line { letter, words, len };

@@ -13,14 +13,26 @@ use values::Value;
 
 // An answer in words.
 struct Words {
-    of: [u32; 20],
+    of: [u32; Words::COUNT],
+}
+
+impl Words {
+    // The words before the value's: what is said, a refusal's number, the side, and how many value words.
+    const HEAD: usize = 4;
+
+    // The words of an answer.
+    const COUNT: usize = Words::HEAD + Value::LONGEST;
 }
 
 // A length, which is at most 16, as a word.
 fn narrow(n: usize) -> u32
     ensures { λ r. ⌜ (n ≤ 16 → r ≡ n) ⌝ }
 {
-    if n < 17 { n as u32 } else { 17 }
+    if Value::length_within(n) {
+        n as u32
+    } else {
+        17
+    }
 }
 
 // What an answer says, as the first of its words: 0 silent, 1 in, 2 out, 3 refused.
@@ -51,14 +63,14 @@ fn number_word(said: Said) -> u32
 fn words_of(said: Said, side: u32, v: Value) -> Words
     ensures { λ r. ⌜ (length (v .words) ≡ 16) × (length (r .of) ≡ 20) × (v .len ≤ 16 → r .of ≡ wordsIn said side (v .len) (v .words)) ⌝ }
 {
-    let mut of: [u32; 20] = [0; 20];
+    let mut of: [u32; Words::COUNT] = [0; Words::COUNT];
     of[0] = label_word(said);
     of[1] = number_word(said);
     of[2] = side;
     of[3] = narrow(v.len);
     let mut k: usize = 0;
-    while k < 16 {
-        of[4 + k] = v.words[k];
+    while k < Value::LONGEST {
+        of[Words::HEAD + k] = v.words[k];
         k += 1;
     }
     Words { of }
@@ -69,9 +81,9 @@ fn put(out: &mut [u32], i: usize, w: Words)
     requires { ⌜ 20 * i + 20 ≤ length (now out) ⌝ }
     ensures { λ _. ⌜ now (out .exit) ≡ paste (now (out .entry)) (20 * i) (w .of) 20 ⌝ }
 {
-    let at = 20 * i;
+    let at = Words::COUNT * i;
     let mut k: usize = 0;
-    while k < 20 {
+    while k < Words::COUNT {
         out[at + k] = w.of[k];
         k += 1;
     }

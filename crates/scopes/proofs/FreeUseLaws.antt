@@ -1,7 +1,7 @@
 -- Refusal 15 by a walk with a set of names is `defined` of crate model.
 use mathlib.Core.Path.{_≡_, refl, sym, ap, ap₂, _∙_, subst}
 use mathlib.Core.Bool.{Bool, true, false, not, cond}
-use mathlib.Core.List.{List, [], _∷_, _++_, append-assoc, append-nil}
+use mathlib.Core.List.{List, [], _∷_, _++_}
 use Prim.Native.Nat.{ℕ, zero, suc, _+_, _-_, _<_, _≤_}
 use native.Mathlib.Omega.{arith}
 use native.Mathlib.Numerals.{add-one}
@@ -17,7 +17,7 @@ use Rattle.model.proofs.Basics.Environments.{Sized, sized-extend, look-append}
 use Rattle.model.proofs.Basics.Checked.{Sits, s-nil, s-par, s-box, s-new, s-out, s-inp}
 use Rattle.values.proofs.Names.{binders-append}
 use Rattle.scopes.specs.FreeUses.{nameClear, tagClear, hide, clearIn}
-use Rattle.values.proofs.Environments.{env}
+use Rattle.values.proofs.Environments.{extend-none, extend-more}
 
 -- NAMES TAKEN AWAY
 -- one name more
@@ -81,14 +81,10 @@ agrees-new ρ ts x a = record {
     go n h false e = a .same n h ∙ sym (ap not (getD-set-other ts x n false false (λ q. eqb-false x n e (sym q))))
 
 agrees-hide : (ns : List ℕ) (ρ : Env) (ts : List Bool) → Agrees ρ ts → Agrees (extend ρ ns (anyNames ns)) (hide ts ns)
-agrees-hide [] ρ ts a = subst (λ (π : Env). Agrees π ts) (nothing ρ) a
-  where
-    nothing : (ρ : Env) → ρ ≡ extend ρ [] []
-    nothing ρ = sym (ap₂ env (append-nil (ρ .names)) (append-nil (ρ .vals)))
-agrees-hide (n ∷ ns) ρ ts a = subst (λ (π : Env). Agrees π (hide (set ts n false) ns)) (further ρ) (agrees-hide ns _ _ (agrees-new ρ ts n a))
-  where
-    further : (ρ : Env) → extend (extend ρ (n ∷ []) ((0 ∷ []) ∷ [])) ns (anyNames ns) ≡ extend ρ (n ∷ ns) (anyNames (n ∷ ns))
-    further ρ = ap₂ env (append-assoc (ρ .names) (n ∷ []) ns) (append-assoc (ρ .vals) ((0 ∷ []) ∷ []) (anyNames ns))
+agrees-hide [] ρ ts a = subst (λ (π : Env). Agrees π ts) (sym (extend-none ρ)) a
+agrees-hide (n ∷ ns) ρ ts a =
+    let further = extend-more ρ (n ∷ []) ns ((0 ∷ []) ∷ []) (anyNames ns) in
+    subst (λ (π : Env). Agrees π (hide (set ts n false) ns)) further (agrees-hide ns _ _ (agrees-new ρ ts n a))
 
 and-assoc : (a b c : Bool) → a & (b & c) ≡ (a & b) & c
 unfolding _&_

@@ -40,7 +40,7 @@ fn hide_names(ts: NameSet, s: &[u32]) -> NameSet
     let mut i: usize = 0;
     while i < s.len() {
         let x = wide(s[i]);
-        if x < 64 {
+        if x < NameSet::NAMES {
             on[x] = false;
         }
         i += 1;

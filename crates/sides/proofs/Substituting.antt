@@ -11,8 +11,7 @@ use lib.Dec.{eqb}
 use lib.ListN.{length, take, drop, getD, set, length-append, take-append-drop}
 use lib.Seq.{sets, take-suc, take-all, drop-drop, getD-take, getD-drop}
 use Rattle.model.specs.Basics.{every}
-use Rattle.model.specs.Values.{Env, lookup, value, word, substitute}
-use Rattle.values.specs.Env.{standsFor}
+use Rattle.model.specs.Values.{Env, isPublic, lookup, value, word, substitute}
 use Rattle.sides.proofs.Lists.{every-at}
 use Rattle.sides.specs.Layout.{placesOf, viewPlace, fitsPlace}
 use Rattle.sides.specs.Stored.{placed}
@@ -20,6 +19,10 @@ use Rattle.sides.specs.Environments.{envOf, lastOf, slotValue}
 use Rattle.sides.proofs.Sets.{sets-append, set-sets}
 use Rattle.sides.proofs.Parts.{part-of-part, parts-at, word-behind}
 use Rattle.sides.proofs.Reading.{places-count, place-word, place-short}
+
+-- what stands for a word of a table's value, once its bound names are replaced: a name's value, or the word itself
+abbrev standsFor : Env → ℕ → List ℕ
+standsFor ρ w = cond (isPublic w) (value ρ w) (w ∷ [])
 
 -- one name more
 look-more : (ns : List ℕ) (vs : List (List ℕ)) (f : List ℕ → List ℕ) (j w : ℕ) (d : List ℕ) → j < length ns → j < length vs →

@@ -1,38 +1,36 @@
 // The numbers of the layout that specs/Layout.antt defines. Contracts and definitions are no code: they write the numbers out.
 use crate::Row;
 use crate::Rows;
+use crate::Side;
 use crate::Sides;
+use values::Bound;
 use values::Minting;
+use values::Value;
 
 impl Rows {
-    // The words of a row, and of an environment.
-    pub const WIDTH: usize = 144;
-
-    // The rows of a side.
-    pub const COUNT: usize = 32;
-
-    // The words of a side: its rows, its boxes, its shelf.
-    pub const WORDS: usize = 5184;
-
-    // Where its boxes begin, and the words of a box.
-    pub const BOXES: usize = 4608;
-
-    pub const BOX: usize = 2;
-
-    // Where its shelf begins.
-    pub const SHELF: usize = 4640;
-
     // The words of a row before its places for values; an environment has its names there.
     pub const HEAD: usize = 8;
 
-    // The places for values of a row.
-    pub const VALUES: usize = 8;
+    // The places for values of a row: one for each bound name in force.
+    pub const VALUES: usize = Bound::MOST;
 
     // The words of a place: a value's length, then its words.
-    pub const PLACE: usize = 17;
+    pub const PLACE: usize = 1 + Value::LONGEST;
 
-    // The most words of a value.
-    pub const LONGEST: u32 = 16;
+    // The words of a row, and of an environment: 144.
+    pub const WIDTH: usize = Rows::HEAD + Rows::PLACE * Rows::VALUES;
+
+    // Where a side's boxes begin, behind its rows: 4,608.
+    pub const BOXES: usize = Rows::WIDTH * Side::PARTICLES;
+
+    // The words of a box.
+    pub const BOX: usize = 2;
+
+    // Where its shelf begins, behind its boxes: 4,640.
+    pub const SHELF: usize = Rows::BOXES + Rows::BOX * Side::BOXES;
+
+    // The words of a side: its rows, its boxes, its shelf: 5,184.
+    pub const WORDS: usize = Rows::SHELF + Rows::PLACE * Side::SHELF;
 }
 
 impl Row {
@@ -62,9 +60,9 @@ impl Sides {
     // The sides that are lent tables and have a place in a state.
     pub const COUNT: usize = Minting::SIDES;
 
-    // A side's marks of minted names: 256 for the names of each side.
-    pub const MARKS: usize = 256 * Sides::COUNT;
+    // A side's marks of minted names: as many for each side as it may mint.
+    pub const MARKS: usize = Side::MINTED * Sides::COUNT;
 
-    // A side's taken marks: 32 for the shelf of each side.
-    pub const TAKEN: usize = 32 * Sides::COUNT;
+    // A side's taken marks: as many for each side as its shelf has places.
+    pub const TAKEN: usize = Side::SHELF * Sides::COUNT;
 }

@@ -62,7 +62,7 @@ pub struct Message {
 
 // At most 16 messages.
 pub struct Lobby {
-    pub msgs: [Message; 16],
+    pub msgs: [Message; Side::LOBBY],
     pub len: usize,
 }
 

@@ -13,6 +13,7 @@ ghost use Rattle.sides.specs.Environments.{envOf};
 use crate::Output;
 use crate::Row;
 use crate::Rows;
+use crate::Side;
 use crate::Tag;
 use crate::environment::put_substituted;
 use crate::inputs::copy_values;
@@ -144,7 +145,7 @@ fn row_fits(r: &[u32]) -> bool
     ensures { λ b. ⌜ b ≡ fitsRow (now (r .entry)) ⌝ }
 {
     if r[Row::OUTPUT] == 1 {
-        return r[Rows::HEAD] <= Rows::LONGEST;
+        return Value::length_within(wide(r[Rows::HEAD]));
     }
     let n = wide(r[Row::HELD]);
     if Rows::VALUES < n {
@@ -152,7 +153,7 @@ fn row_fits(r: &[u32]) -> bool
     }
     let mut k: usize = 0;
     while k < n {
-        if r[Rows::HEAD + Rows::PLACE * k] <= Rows::LONGEST {
+        if Value::length_within(wide(r[Rows::HEAD + Rows::PLACE * k])) {
             k += 1;
         } else {
             return false;
@@ -166,7 +167,7 @@ pub fn rows_fit(rows: &[u32], n: usize) -> bool
     requires { ⌜ length (now rows) ≡ 5184 ⌝ }
     ensures { λ b. ⌜ b ≡ fitsRows (now (rows .entry)) n ⌝ }
 {
-    if Rows::COUNT < n {
+    if !Side::particles_within(n) {
         return false;
     }
     let mut k: usize = 0;

@@ -9,6 +9,7 @@ ghost use Rattle.sides.specs.Views.{viewMessage, viewLobby, fitsMessage,
 ghost use Rattle.sides.specs.Holding.{LobbyIs};
 use crate::Lobby;
 use crate::Message;
+use crate::Side;
 use crate::Status;
 use values::Value;
 
@@ -16,7 +17,7 @@ fn message_fits(m: Message) -> bool
     ensures { λ r. ⌜ r ≡ fitsMessage m ⌝ }
 {
     let v = m.value;
-    v.len <= 16
+    Value::length_within(v.len)
 }
 
 impl Message {
@@ -42,7 +43,7 @@ impl Lobby {
                 status: Status::Down,
                 channel: 0,
                 value: v,
-            }; 16],
+            }; Side::LOBBY],
             len: 0,
         }
     }
@@ -88,7 +89,7 @@ impl Lobby {
         ensures { λ r. ⌜ r ≡ fitsLobby self ⌝ }
     {
         let n = self.len;
-        if 16 < n {
+        if !Side::lobby_within(n) {
             return false;
         }
         let mut k: usize = 0;

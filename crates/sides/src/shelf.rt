@@ -8,8 +8,10 @@ ghost use Rattle.values.specs.Env.{viewValue};
 ghost use Rattle.sides.specs.Layout.{shelfOf, viewPlace, fitsPlace, fitsShelf, ValueIs};
 ghost use Rattle.sides.specs.Stored.{shelfPut};
 use crate::Rows;
+use crate::Side;
 use crate::places::put_value;
 use crate::places::value_in;
+use crate::places::wide;
 use values::Value;
 
 // The value in place i.
@@ -37,12 +39,12 @@ pub fn shelf_fits(rows: &[u32], n: usize) -> bool
     requires { ⌜ length (now rows) ≡ 5184 ⌝ }
     ensures { λ b. ⌜ b ≡ fitsShelf (now (rows .entry)) n ⌝ }
 {
-    if Rows::COUNT < n {
+    if !Side::shelf_within(n) {
         return false;
     }
     let mut k: usize = 0;
     while k < n {
-        if rows[Rows::SHELF + Rows::PLACE * k] <= Rows::LONGEST {
+        if Value::length_within(wide(rows[Rows::SHELF + Rows::PLACE * k])) {
             k += 1;
         } else {
             return false;

@@ -14,6 +14,8 @@ use reading::read;
 use running::Ran;
 use running::run;
 use sides::Sides;
+use writing::AnswerWords;
+use writing::Page;
 use writing::answered;
 use writing::fault;
 use writing::refused;
@@ -51,11 +53,11 @@ fn run_output(
     nodes: [&[u32]; Sides::COUNT],
     pools: [&[u32]; Sides::COUNT],
     steps: &[u32],
-    page: &mut [u8; 206848],
+    page: &mut [u8; Page::BYTES],
 ) -> usize
     ensures { λ r. ⌜ ((i : Input) → Given i wrapper (map now (nodes .entry)) (map now (pools .entry)) (now (steps .entry)) → PageIs (outputFor i) (now (page .entry)) (now (page .exit)) r) ⌝ }
 {
-    let mut answers = [0u32; 20480];
+    let mut answers = [0u32; AnswerWords::ALL];
     let ran = run(wrapper, nodes, pools, steps, &mut answers);
     match ran {
         Ran::Done(n) => answered(page, &answers, n),
@@ -66,7 +68,7 @@ fn run_output(
 }
 
 // The output for an input, at the start of a page that has room for any, and how many bytes it has.
-pub fn output_on(input: &[u8], page: &mut [u8; 206848]) -> usize
+pub fn output_on(input: &[u8], page: &mut [u8; Page::BYTES]) -> usize
     ensures { λ r. ⌜ PageIs (output (now (input .entry))) (now (page .entry)) (now (page .exit)) r ⌝ }
 {
     let mut nodes = [0u32; Places::NODES];
@@ -92,7 +94,7 @@ pub fn output_on(input: &[u8], page: &mut [u8; 206848]) -> usize
 pub fn text(input: &[u8], out: &mut [u8]) -> Written
     ensures { λ r. ⌜ TextIs (output (now (input .entry))) (now (out .entry)) (now (out .exit)) r ⌝ }
 {
-    let mut page = [0u8; 206848];
+    let mut page = [0u8; Page::BYTES];
     let n = output_on(input, &mut page);
     if out.len() < n {
         return Written::TooShort;

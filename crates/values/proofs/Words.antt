@@ -60,12 +60,7 @@ module _ (w : ℕ) where
   unfolding leafOf _or_
   leaf-name l e h = rw (e, lt-leb w 63 h)
 
--- a conjunction fails where one of its tests fails
+-- a conjunction fails where its first test fails
 pub left-false : (a b : Bool) → a ≡ false → a & b ≡ false
 unfolding _&_
 left-false a b p = rw p
-
-pub right-false : (a b : Bool) → b ≡ false → a & b ≡ false
-unfolding _&_
-right-false true b p = p
-right-false false b p = refl

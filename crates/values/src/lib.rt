@@ -1,15 +1,15 @@
-// Values and patterns as words: where one ends, matching, environments, substitution.
+// Values and patterns as words: where one ends, and what a pattern takes of a value.
 ghost use mathlib.Core.Path.{_≡_};
 ghost use mathlib.Core.Bool.{true, false};
 ghost use mathlib.Core.List.{List, [], _∷_, _++_};
 ghost use Prim.Native.Nat.{ℕ, _≤_};
-ghost use lib.Dec.{ltb};
+ghost use lib.Dec.{leb};
 ghost use lib.ListN.{length, take, drop};
 ghost use Rattle.model.specs.Basics.{has};
-ghost use Rattle.model.specs.Values.{isTuple, isMinted, matches, binders, distinct, at, isValue, noNames, value, word, substitute, extend};
+ghost use Rattle.model.specs.Values.{isTuple, isMinted, matches, binders, distinct, at, isValue};
 ghost use Rattle.values.specs.Span.{leafOf, spanOf, endOf, sizeOf};
 ghost use Rattle.values.specs.Match.{viewBound, partOf, fitOf, storedAfter};
-ghost use Rattle.values.specs.Env.{viewValue, viewEnv, Stores, standsFor, tupleOf, firstEight, extendedOf, Given};
+ghost use Rattle.values.specs.Env.{viewValue, Stores};
 
 // Which words are items by themselves: in a table's value, in a table's pattern, in a value that a step handles.
 pub enum Leaf {
@@ -100,10 +100,10 @@ pub fn size_at(l: Leaf, pool: &[u32], p: usize) -> Span
     ensures { λ r. ⌜ r ≡ sizeOf (at (leafOf l) (now (pool .entry)) p) ⌝ }
 {
     if p < pool.len() {
-        if pool.len() - p < 16 {
+        if pool.len() - p < Value::LONGEST {
             item_end(l, &pool[p..], 0)
         } else {
-            let e = p + 16;
+            let e = p + Value::LONGEST;
             item_end(l, &pool[p..e], 0)
         }
     } else {
@@ -115,7 +115,7 @@ pub fn size_at(l: Leaf, pool: &[u32], p: usize) -> Span
 pub fn is_value(s: &[u32]) -> bool
     ensures { λ r. ⌜ r ≡ isValue (now (s .entry)) ⌝ }
 {
-    if 16 < s.len() {
+    if !Value::length_within(s.len()) {
         return false;
     }
     match item_end(Leaf::Name, s, 0) {
@@ -190,9 +190,9 @@ pub struct Part {
     pub len: usize,
 }
 
-// The parts bound so far, in the order of the names. Eight names are the most that a loaded pattern has.
+// The parts bound so far, in the order of the names.
 pub struct Bound {
-    pub rows: [Part; 8],
+    pub rows: [Part; Bound::MOST],
     pub n: usize,
 }
 
@@ -205,12 +205,15 @@ pub struct Matched {
 }
 
 impl Bound {
+    // The most names that a loaded pattern has.
+    pub const MOST: usize = 8;
+
     // No parts.
     fn none() -> Bound
         ensures { λ r. ⌜ r .n ≡ 0 ⌝ }
     {
         Bound {
-            rows: [Part { start: 0, len: 0 }; 8],
+            rows: [Part { start: 0, len: 0 }; Bound::MOST],
             n: 0,
         }
     }
@@ -220,19 +223,11 @@ impl Bound {
         ensures { λ r. ⌜ ((v : List ℕ) → viewBound v r ≡ take 8 (viewBound v self ++ (partOf v (record { start = start; len = len }) ∷ []))) ⌝ }
     {
         let n = self.n;
-        if n < 8 {
+        if n < Bound::MOST {
             self.rows[n] = Part { start, len };
             self.n = n + 1;
         }
         self
-    }
-
-    // How many parts are stored.
-    pub fn count(self) -> usize
-        ensures { λ r. ⌜ ((v : List ℕ) → r ≡ length (viewBound v self)) × (r ≤ 8) ⌝ }
-    {
-        let n = self.n;
-        if n < 8 { n } else { 8 }
     }
 }
 
@@ -308,49 +303,47 @@ pub fn matching(p: &[u32], v: &[u32]) -> Matched
     match_item(p, v, 0, 0, Bound::none())
 }
 
+// The words of a part of v.
+pub fn part_words(v: &[u32], p: Part) -> &[u32]
+    ensures { λ r. ⌜ now r ≡ partOf (now (v .entry)) p ⌝ }
+{
+    let a = p.start;
+    let k = p.len;
+    if a < v.len() {
+        if k < v.len() - a {
+            let z = a + k;
+            return &v[a..z];
+        }
+        return &v[a..];
+    }
+    &v[0..0]
+}
+
 // A value of at most 16 words. A length of 17 says that the list which was to be stored is longer.
 pub struct Value {
-    pub words: [u32; 16],
+    pub words: [u32; Value::LONGEST],
     pub len: usize,
 }
 
-// An environment: the bound names in force, outermost first, and their values.
-pub struct Env {
-    pub names: [u32; 8],
-    pub vals: [Value; 8],
-    pub n: usize,
-}
-
 impl Value {
+    // The most words of a value.
+    pub const LONGEST: usize = 16;
+
+    // Whether a value may have n words.
+    pub fn length_within(n: usize) -> bool
+        ensures { λ r. ⌜ r ≡ leb n 16 ⌝ }
+    {
+        n <= Value::LONGEST
+    }
+
     // No words.
     pub fn none() -> Value
         ensures { λ r. ⌜ Stores [] r ⌝ }
     {
         Value {
-            words: [0; 16],
+            words: [0; Value::LONGEST],
             len: 0,
         }
-    }
-
-    // One word more: past the sixteenth it is counted and not stored.
-    fn push(mut self, w: u32) -> Value
-        ensures { λ r. ⌜ ((l : List ℕ) → Stores l self → Stores (l ++ (w ∷ [])) r) ⌝ }
-    {
-        let n = self.len;
-        if n < 16 {
-            self.words[n] = w;
-            self.len = n + 1;
-        } else {
-            self.len = 17;
-        }
-        self
-    }
-
-    // A name alone.
-    pub fn name(w: u32) -> Value
-        ensures { λ r. ⌜ viewValue r ≡ w ∷ [] ⌝ }
-    {
-        Value::none().push(w)
     }
 
     // How many words are stored.
@@ -358,19 +351,10 @@ impl Value {
         ensures { λ r. ⌜ (r ≡ length (viewValue self)) × (r ≤ 16) ⌝ }
     {
         let n = self.len;
-        if n < 16 { n } else { 16 }
-    }
-
-    // Whether it is a tuple.
-    pub fn tuple(self) -> bool
-        ensures { λ r. ⌜ r ≡ tupleOf (viewValue self) ⌝ }
-    {
-        let n = self.len;
-        if n == 0 {
-            false
+        if n < Value::LONGEST {
+            n
         } else {
-            let w = self.words[0];
-            4000000 <= w
+            Value::LONGEST
         }
     }
 
@@ -379,206 +363,30 @@ impl Value {
         ensures { λ r. ⌜ Stores (now (s .entry)) r ⌝ }
     {
         let n = s.len();
-        let stored = if n < 16 { n } else { 16 };
-        let mut words = [0u32; 16];
+        let stored = if n < Value::LONGEST {
+            n
+        } else {
+            Value::LONGEST
+        };
+        let mut words = [0u32; Value::LONGEST];
         let mut i: usize = 0;
         while i < stored {
             words[i] = s[i];
             i += 1;
         }
-        let len = if n < 17 { n } else { 17 };
-        Value { words, len }
+        if Value::length_within(n) {
+            return Value { words, len: n };
+        }
+        Value {
+            words,
+            len: Value::LONGEST + 1,
+        }
     }
 
-    // The words of v more.
-    fn join(self, v: Value) -> Value
-        ensures { λ r. ⌜ ((l : List ℕ) → Stores l self → Stores (l ++ viewValue v) r) ⌝ }
+    // A name alone.
+    pub fn name(w: u32) -> Value
+        ensures { λ r. ⌜ viewValue r ≡ w ∷ [] ⌝ }
     {
-        let n = v.count();
-        let mut b = self;
-        let mut k: usize = 0;
-        while k < n {
-            b = b.push(v.words[k]);
-            k += 1;
-        }
-        b
+        Value::of(&[w])
     }
-}
-
-impl Env {
-    // No names in force.
-    pub fn none() -> Env
-        ensures { λ r. ⌜ viewEnv r ≡ noNames ⌝ }
-    {
-        let v = Value::none();
-        Env {
-            names: [0; 8],
-            vals: [v; 8],
-            n: 0,
-        }
-    }
-
-    // One name more; past the eighth none is stored.
-    pub fn with(mut self, name: u32, v: Value) -> Env
-        ensures { λ r. ⌜ viewEnv r ≡ firstEight (extend (viewEnv self) (name ∷ []) (viewValue v ∷ [])) ⌝ }
-    {
-        let n = self.n;
-        if n < 8 {
-            self.names[n] = name;
-            self.vals[n] = v;
-            self.n = n + 1;
-        }
-        self
-    }
-
-    // How many names are in force.
-    pub fn count(self) -> usize
-        ensures { λ r. ⌜ (r ≡ length (viewEnv self .names)) × (r ≡ length (viewEnv self .vals)) × (r ≤ 8) ⌝ }
-    {
-        let k = self.n;
-        if k < 8 { k } else { 8 }
-    }
-
-    // The value of the last w in force; w itself where there is none.
-    pub fn value(self, w: u32) -> Value
-        ensures { λ r. ⌜ viewValue r ≡ value (viewEnv self) w ⌝ }
-    {
-        let n = self.count();
-        let mut v = Value::name(w);
-        let mut k: usize = 0;
-        while k < n {
-            if self.names[k] == w {
-                v = self.vals[k];
-            }
-            k += 1;
-        }
-        v
-    }
-
-    // The first word of what a name stands for.
-    pub fn word(self, x: u32) -> u32
-        ensures { λ r. ⌜ r ≡ word (viewEnv self) x ⌝ }
-    {
-        let v = self.value(x);
-        if v.len == 0 {
-            return 0;
-        }
-        v.words[0]
-    }
-
-    // How many words the value of the last w in force has; 1 where there is none.
-    fn size(self, w: u32) -> usize
-        ensures { λ r. ⌜ r ≡ length (value (viewEnv self) w) ⌝ }
-    {
-        let n = self.count();
-        let mut r: usize = 1;
-        let mut k: usize = 0;
-        while k < n {
-            if self.names[k] == w {
-                let v = self.vals[k];
-                r = v.count();
-            }
-            k += 1;
-        }
-        r
-    }
-
-    // How many words stand for a word of a table's value, once its bound names are replaced.
-    fn size_for(self, w: u32) -> usize
-        ensures { λ r. ⌜ r ≡ length (standsFor (viewEnv self) w) ⌝ }
-    {
-        if w <= 63 { self.size(w) } else { 1 }
-    }
-}
-
-// A table's value with its bound names replaced by their values.
-pub fn substituted(e: Env, s: &[u32]) -> Value
-    ensures { λ r. ⌜ Stores (substitute (viewEnv e) (now (s .entry))) r ⌝ }
-{
-    let mut b = Value::none();
-    let mut i: usize = 0;
-    while i < s.len() {
-        let w = s[i];
-        if w <= 63 {
-            b = b.join(e.value(w));
-        } else {
-            b = b.push(w);
-        }
-        i += 1;
-    }
-    b
-}
-
-// Whether a table's value has over 16 words, once its bound names are replaced by their values. Nothing is stored.
-pub fn over_long(e: Env, s: &[u32]) -> bool
-    ensures { λ r. ⌜ r ≡ ltb 16 (length (substitute (viewEnv e) (now (s .entry)))) ⌝ }
-{
-    let mut n: usize = 0;
-    let mut i: usize = 0;
-    while i < s.len() {
-        let m = e.size_for(s[i]);
-        if 16 - n < m {
-            return true;
-        }
-        n += m;
-        i += 1;
-    }
-    false
-}
-
-// The words of a bound part.
-pub fn part_words(v: &[u32], p: Part) -> Value
-    ensures { λ r. ⌜ Stores (partOf (now (v .entry)) p) r ⌝ }
-{
-    let a = p.start;
-    let k = p.len;
-    if a < v.len() {
-        if k < v.len() - a {
-            let e = a + k;
-            Value::of(&v[a..e])
-        } else {
-            Value::of(&v[a..])
-        }
-    } else {
-        Value::none()
-    }
-}
-
-// The names of a pattern with the parts that a match found, where there is room for them.
-fn with_parts(e: Env, p: &[u32], v: &[u32], b: Bound) -> Env
-    requires { ⌜ Given e (now p) (now v) b ⌝ }
-    ensures { λ r. ⌜ viewEnv r ≡ extend (viewEnv e) (binders (now (p .entry))) (viewBound (now (v .entry)) b) ⌝ }
-{
-    let mut r = e;
-    let mut i: usize = 0;
-    let mut k: usize = 0;
-    while i < p.len() {
-        let w = p[i];
-        if w <= 63 {
-            let q = b.rows[k];
-            r = r.with(w, part_words(v, q));
-            k += 1;
-        }
-        i += 1;
-    }
-    r
-}
-
-// An environment with the names of a pattern, bound to the parts of v that a match found; the environment as it was where
-// names and parts differ in number, over eight names would be in force, or v has over 16 words.
-pub fn extended(e: Env, p: &[u32], v: &[u32], b: Bound) -> Env
-    ensures { λ r. ⌜ viewEnv r ≡ extendedOf (viewEnv e) (binders (now (p .entry))) (now (v .entry)) (viewBound (now (v .entry)) b) ⌝ }
-{
-    let k = names_in(p);
-    let n = e.count();
-    if b.count() == k {
-        if k <= 8 - n {
-            if v.len() <= 16 {
-                return with_parts(e, p, v, b);
-            }
-            return e;
-        }
-        return e;
-    }
-    e
 }

@@ -1,10 +1,8 @@
 // Runs the functions of `values` on vectors that are just allowed and just refused, and prints what each gives.
 use libc::STDOUT_FILENO;
 use values::Bound;
-use values::Env;
 use values::Leaf;
 use values::Span;
-use values::Value;
 
 fn text(s: &[u8]) {
     io::write_all(STDOUT_FILENO, s);
@@ -27,16 +25,12 @@ fn yes_or_no(b: bool) {
     }
 }
 
-// The words of a value, and 'over 16' where it is longer.
-fn show_value(v: Value) {
-    let n = v.count();
+// Words, each behind a blank.
+fn show_words(s: &[u32]) {
     let mut k: usize = 0;
-    while k < n {
-        word(v.words[k]);
+    while k < s.len() {
+        word(s[k]);
         k += 1;
-    }
-    if 16 < v.len {
-        text(b" over 16");
     }
 }
 
@@ -69,12 +63,12 @@ fn names_line(label: &[u8], p: &[u32]) {
 
 // The parts that a match bound.
 fn show_parts(v: &[u32], b: Bound) {
-    let n = b.count();
+    let n = if b.n < Bound::MOST { b.n } else { Bound::MOST };
     let mut k: usize = 0;
     while k < n {
         let q = b.rows[k];
         text(b" [");
-        show_value(values::part_words(v, q));
+        show_words(values::part_words(v, q));
         text(b" ]");
         k += 1;
     }
@@ -91,28 +85,6 @@ fn match_line(label: &[u8], p: &[u32], v: &[u32]) {
     } else {
         text(b" 14\n");
     }
-}
-
-fn substitute_line(label: &[u8], e: Env, s: &[u32]) {
-    text(label);
-    show_value(values::substituted(e, s));
-    text(b"\n");
-}
-
-// The environment e with the names of the pattern p and the parts that p binds of the value v: how many names are in
-// force, and what the names 10 and 11 stand for.
-fn extend_line(label: &[u8], e: Env, p: &[u32], v: &[u32]) {
-    text(label);
-    let m = values::matching(p, v);
-    let b = m.bound;
-    let r = values::extended(e, p, v, b);
-    text(b" ");
-    number(r.count());
-    text(b" in force, 10 is");
-    show_value(r.value(10));
-    text(b", 11 is");
-    show_value(r.value(11));
-    text(b"\n");
 }
 
 // Values: at most 16 words, names public or minted, every tuple with its parts and nothing behind.
@@ -284,122 +256,6 @@ fn matches_leaves() {
     );
 }
 
-// The copier's value <10 10> and longer ones, 10 bound to 7 and to 8 words.
-fn substitutions() {
-    let seven = Env::none().with(10, Value::of(&[4000006, 1, 2, 3, 4, 5, 6]));
-    let eight = Env::none().with(10, Value::of(&[4000007, 1, 2, 3, 4, 5, 6, 7]));
-    substitute_line(
-        b"10 bound to 7 words in <10 10>:",
-        seven,
-        &[4000002, 10, 10],
-    );
-    substitute_line(
-        b"10 bound to 7 words in <10 10 20>:",
-        seven,
-        &[4000003, 10, 10, 20],
-    );
-    substitute_line(
-        b"10 bound to 7 words in <10 10 20 21>:",
-        seven,
-        &[4000004, 10, 10, 20, 21],
-    );
-    substitute_line(
-        b"10 bound to 8 words in <10 10>:",
-        eight,
-        &[4000002, 10, 10],
-    );
-    substitute_line(
-        b"10 bound to 8 words in <11 11>:",
-        eight,
-        &[4000002, 11, 11],
-    );
-}
-
-fn lookups() {
-    let outer = Env::none().with(10, Value::name(20));
-    let inner = outer.with(10, Value::name(21));
-    substitute_line(b"10 unbound:", Env::none(), &[10]);
-    substitute_line(b"10 bound to 20:", outer, &[10]);
-    substitute_line(b"10 bound to 20, then to 21:", inner, &[10]);
-    text(b"20 is a tuple:");
-    yes_or_no(Value::name(20).tuple());
-    text(b"() is a tuple:");
-    yes_or_no(Value::of(&[4000000]).tuple());
-}
-
-fn extensions() {
-    let p: [u32; 3] = [4000002, 10, 11];
-    let v: [u32; 3] = [4000002, 20, 21];
-    let one = Env::none().with(1, Value::name(30));
-    let six = one.with(2, Value::name(30))
-        .with(3, Value::name(30))
-        .with(4, Value::name(30))
-        .with(5, Value::name(30))
-        .with(6, Value::name(30));
-    extend_line(b"no names and two:", Env::none(), &p, &v);
-    extend_line(b"one name and two:", one, &p, &v);
-    extend_line(b"six names and two:", six, &p, &v);
-    extend_line(
-        b"seven names and two:",
-        six.with(7, Value::name(30)),
-        &p,
-        &v,
-    );
-    extend_line(b"two names and no parts:", Env::none(), &p, &[20]);
-}
-
-fn extensions_long() {
-    let eight = Env::none()
-        .with(1, Value::name(30))
-        .with(2, Value::name(30))
-        .with(3, Value::name(30))
-        .with(4, Value::name(30))
-        .with(5, Value::name(30))
-        .with(6, Value::name(30))
-        .with(7, Value::name(30))
-        .with(8, Value::name(30));
-    extend_line(b"eight names and a wildcard:", eight, &[4999999], &[20]);
-    extend_line(
-        b"a ninth name:",
-        eight.with(10, Value::name(20)),
-        &[4999999],
-        &[20],
-    );
-}
-
-fn extensions_by_long_values() {
-    extend_line(
-        b"a value of 16 words:",
-        Env::none(),
-        &[10],
-        &[4000015, 1, 2, 3, 4, 5, 6, 7, 8, 9, 10, 11, 12, 13, 14, 15],
-    );
-    extend_line(
-        b"a value of 17 words:",
-        Env::none(),
-        &[10],
-        &[
-            4000002,
-            4000007,
-            1,
-            2,
-            3,
-            4,
-            5,
-            6,
-            7,
-            4000007,
-            1,
-            2,
-            3,
-            4,
-            5,
-            6,
-            7,
-        ],
-    );
-}
-
 fn main() {
     values_short();
     values_minted();
@@ -410,9 +266,4 @@ fn main() {
     names();
     matches_tuples();
     matches_leaves();
-    substitutions();
-    lookups();
-    extensions();
-    extensions_long();
-    extensions_by_long_values();
 }

@@ -1,15 +1,16 @@
-// A side's marks: minted names that have left, 256 places for each side's; shelf places taken, 32 for each side's.
+// A side's marks: minted names that have left, shelf places taken; for each side as many places as it may have.
 ghost use mathlib.Core.Path.{_≡_};
 ghost use Rattle.model.specs.WellFormed.{wfLeft, clear};
 ghost use Rattle.wellformed.specs.Clauses.{everyFrom, leftAt, takenAt};
 use crate::held::below;
+use sides::Side;
 
 // Whether place k is not marked, or a name of that serial is below its side's count.
 fn left_fits(counts: &[usize], k: usize, marked: bool) -> bool
     ensures { λ r. ⌜ r ≡ leftAt (now (counts .entry)) k marked ⌝ }
 {
     if marked {
-        return below(counts, k / 256 + 1, k % 256);
+        return below(counts, k / Side::MINTED + 1, k % Side::MINTED);
     }
     true
 }
@@ -35,7 +36,7 @@ fn taken_fits(taker: bool, shelved: &[usize], k: usize, marked: bool) -> bool
 {
     if marked {
         if taker {
-            return below(shelved, k / 32 + 1, k % 32);
+            return below(shelved, k / Side::SHELF + 1, k % Side::SHELF);
         }
         return false;
     }

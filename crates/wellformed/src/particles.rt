@@ -63,7 +63,11 @@ fn values_ok(counts: &[usize], words: &[u32], i: usize) -> bool
 fn count_of(s: Names) -> usize
     ensures { λ r. ⌜ r ≡ length (viewNames s) ⌝ }
 {
-    if s.top < 8 { 8 - s.top } else { 0 }
+    if s.top < Names::MOST {
+        Names::MOST - s.top
+    } else {
+        0
+    }
 }
 
 // Whether no name that the waiting input at row i binds to a tuple is used where 15 forbids it.

@@ -35,7 +35,7 @@ pub(crate) fn side_fits(o: Side) -> bool
     let x = o.rest;
     let l = x.lobby;
     if rows_fit(&w, x.particles) {
-        if sides::Side::boxes_within(x.boxes) {
+        if Side::boxes_within(x.boxes) {
             if l.fits() {
                 return shelf_fits(&w, x.shelved);
             }
@@ -82,7 +82,7 @@ fn core_ok(
 {
     let shelved = has_shelf(wrapper, side);
     let l = o.lobby;
-    if sides::Side::minted_within(o.minted) {
+    if Side::minted_within(o.minted) {
         if contents_ok(nodes, pool, counts, words, o.particles, o.boxes) {
             if lobby_ok(shelved, counts, l) {
                 return shelf_ok(shelved, counts, words, o.shelved);

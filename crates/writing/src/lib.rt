@@ -13,8 +13,35 @@ use lines::put_line;
 use numbers::put;
 use numbers::put_field;
 
+// A page has room for any output: `ok` and 1,024 lines, and the bound that a line is written under.
+pub struct Page;
+
+impl Page {
+    pub const BYTES: usize = 206848;
+}
+
+// A run's answers in words.
+pub struct AnswerWords;
+
+impl AnswerWords {
+    // The words before the value's: what is said, a refusal's number, the side, and how many value words.
+    pub const HEAD: usize = 4;
+
+    // The most words of a value.
+    pub const VALUE: usize = 16;
+
+    // The words of an answer.
+    pub const EACH: usize = AnswerWords::HEAD + AnswerWords::VALUE;
+
+    // The most answers of a run.
+    pub const MOST: usize = 1024;
+
+    // The words of all of them.
+    pub const ALL: usize = AnswerWords::EACH * AnswerWords::MOST;
+}
+
 // The line of an input that is at fault.
-pub fn fault(out: &mut [u8; 206848], line: usize) -> usize
+pub fn fault(out: &mut [u8; Page::BYTES], line: usize) -> usize
     ensures { λ r. ⌜ PageIs (faultLine line) (now (out .entry)) (now (out .exit)) r ⌝ }
 {
     let a = put(out, 0, b"line");
@@ -23,7 +50,7 @@ pub fn fault(out: &mut [u8; 206848], line: usize) -> usize
 }
 
 // The line of a load that is refused.
-pub fn refused(out: &mut [u8; 206848], number: usize, side: u32, node: usize) -> usize
+pub fn refused(out: &mut [u8; Page::BYTES], number: usize, side: u32, node: usize) -> usize
     ensures { λ r. ⌜ PageIs (refusedLine (record { number = number; side = side; node = node })) (now (out .entry)) (now (out .exit)) r ⌝ }
 {
     let a = put(out, 0, b"refused");
@@ -34,10 +61,10 @@ pub fn refused(out: &mut [u8; 206848], number: usize, side: u32, node: usize) ->
 }
 
 // The lines of n answers, 20 words each, behind the line `ok`; nothing where there are more than 1,024.
-pub fn answered(out: &mut [u8; 206848], answers: &[u32; 20480], n: usize) -> usize
+pub fn answered(out: &mut [u8; Page::BYTES], answers: &[u32; AnswerWords::ALL], n: usize) -> usize
     ensures { λ r. ⌜ PageIs (answeredIn n (now (answers .entry))) (now (out .entry)) (now (out .exit)) r ⌝ }
 {
-    if n > 1024 {
+    if n > AnswerWords::MOST {
         return 0;
     }
     let mut at = put(out, 0, b"ok\n");

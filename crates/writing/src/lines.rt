@@ -4,6 +4,7 @@ ghost use Prim.Native.Nat.{_+_, _*_, _≤_, _<_, min};
 ghost use lib.ListN.{length};
 ghost use Rattle.writing.specs.Written.{Written};
 ghost use Rattle.writing.specs.Words.{valueIn, sayingIn, lineIn, answerAt};
+use super::AnswerWords;
 use super::numbers::put;
 use super::numbers::put_field;
 use super::numbers::put_fields;
@@ -14,7 +15,12 @@ use super::numbers::wide;
 fn length_in(w: u32) -> usize
     ensures { λ r. ⌜ r ≡ min w 16 ⌝ }
 {
-    if w < 16 { w as usize } else { 16 }
+    let n = w as usize;
+    if n < AnswerWords::VALUE {
+        n
+    } else {
+        AnswerWords::VALUE
+    }
 }
 
 // The side and the value words.
@@ -25,8 +31,8 @@ fn put_value(out: &mut [u8], at: usize, words: &[u32]) -> usize
     ensures { λ r. ⌜ r ≤ at + 186 ⌝ }
 {
     let p = put_number(out, at, wide(words[2]));
-    let e = 4 + length_in(words[3]);
-    put_fields(out, p, &words[4..e])
+    let e = AnswerWords::HEAD + length_in(words[3]);
+    put_fields(out, p, &words[AnswerWords::HEAD..e])
 }
 
 // What the answer says.
@@ -60,8 +66,8 @@ pub(crate) fn put_line(out: &mut [u8], at: usize, index: usize, answers: &[u32])
     ensures { λ r. ⌜ Written (now (out .entry)) at (lineIn index (answerAt index (now (answers .entry)))) r (now (out .exit)) ⌝ }
     ensures { λ r. ⌜ r ≤ at + 201 ⌝ }
 {
-    let from = 20 * index;
-    let to = from + 20;
+    let from = AnswerWords::EACH * index;
+    let to = from + AnswerWords::EACH;
     let a = put_number(out, at, index as u64);
     let b = put(out, a, b"\t");
     let c = put_saying(out, b, &answers[from..to]);

@@ -6,6 +6,14 @@ ghost use lib.ListN.{length};
 ghost use Rattle.format.specs.Output.{decimal, fields};
 ghost use Rattle.writing.specs.Written.{Written};
 
+// A number's decimal digits.
+struct Digits;
+
+impl Digits {
+    // The most that a number of 64 bits has.
+    const MOST: usize = 20;
+}
+
 // Bytes as they are.
 pub(crate) fn put(out: &mut [u8], at: usize, text: &[u8]) -> usize
     requires { ⌜ at + length (now text) ≤ length (now out) ⌝ }
@@ -21,7 +29,7 @@ pub(crate) fn put_number(out: &mut [u8], at: usize, n: u64) -> usize
     ensures { λ r. ⌜ r ≤ at + 20 ⌝ }
     ensures { λ r. ⌜ (n < 4294967296 → r ≤ at + 10) ⌝ }
 {
-    let mut text = [0u8; 20];
+    let mut text = [0u8; Digits::MOST];
     let k = io::decimal(n, &mut text);
     put(out, at, &text[..k])
 }

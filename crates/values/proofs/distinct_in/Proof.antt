@@ -22,16 +22,29 @@ loop-holds : tie.Need-loop-holds Inv-loop μ-loop
 loop-holds c = (search needs, refl)
 
 slice-aggregate-has-word : tie.Need-slice-aggregate-has-word Inv-loop μ-loop
-slice-aggregate-has-word c = sym (length-take-le (c .before .before .before .before .loop .i) (c .before .before .before .before .before .before .args .s .now) (omega arith))
+slice-aggregate-has-word c =
+    let at-loop = c .before .before .before .before in
+    sym (length-take-le (at-loop .loop .i) (at-loop .before .before .args .s .now) (omega arith))
 
 returns : tie.Need-returns Inv-loop μ-loop
-returns c = twice (c .before .before .before .before .before .before .before .before .args .s .now) (c .before .before .before .before .before .before .loop .i) (c .before .before .before .before .before .loop-test .taken) (c .before .before .before .before .before .before .loop .inv .1) (c .before .before .before .if1 .taken) (sym (c .before .has-word .ensures) ∙ c .if2 .taken)
+returns c =
+    let at-has-word = c .before in
+    let at-if1 = at-has-word .before .before in
+    let at-loop-test = at-if1 .before .before in
+    let at-loop = at-loop-test .before in
+    let s = at-loop .before .before .args .s .now in
+    let seen = sym (at-has-word .has-word .ensures) ∙ c .if2 .taken in
+    twice s (at-loop .loop .i) (at-loop-test .loop-test .taken) (at-loop .loop .inv .1) (at-if1 .if1 .taken) seen
 
 loop-again : tie.Need-loop-again Inv-loop μ-loop
 loop-again c =
-    let s = c .before .before .before .before .before .args .s .now in
-    let l = c .before .before .before .loop in
-    (search needs, ⊎-elim (λ q. once-name s (l .i) (c .before .before .loop-test .taken) (l .inv .1) (q .0 .taken) (sym (q .2 .ensures) ∙ q .3 .left)) (λ q. once-other s (l .i) (c .before .before .loop-test .taken) (l .inv .1) (q .left)) (c .if1 .came))
+    let at-loop-test = c .before .before in
+    let at-loop = at-loop-test .before in
+    let s = at-loop .before .before .args .s .now in
+    let l = at-loop .loop in
+    let more = at-loop-test .loop-test .taken in
+    let once = ⊎-elim (λ q. once-name s (l .i) more (l .inv .1) (q .0 .taken) (sym (q .2 .ensures) ∙ q .3 .left)) (λ q. once-other s (l .i) more (l .inv .1) (q .left)) (c .if1 .came) in
+    (search needs, once)
 
 returns-2 : tie.Need-returns-2 Inv-loop μ-loop
 returns-2 c = once-all _ (c .before .loop .i) (c .loop-test .left) (c .before .loop .inv .1)

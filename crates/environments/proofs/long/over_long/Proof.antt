@@ -1,5 +1,6 @@
-use mathlib.Core.Path.{_≡_}
+use mathlib.Core.Path.{_≡_, sym, _∙_}
 use Prim.Native.Nat.{_-_, _≤_}
+use borrow.Author.Tests.{not-true, not-false, leb-true, leb-false}
 use lib.ListN.{length, take}
 use Rattle.environments.specs.Long.{sizeBy}
 use Rattle.environments.proofs.Sizes.{size-none, size-next, size-over, size-all}
@@ -19,16 +20,22 @@ loop-holds c = (search needs, search needs, size-none (c .before .args .t .of) (
 
 returns : tie.Need-returns Inv-loop μ-loop
 returns c =
-    let a = c .before .before .before .before .before .before .args in
-    let l = c .before .before .before .before .loop in
-    size-over (a .t .of) (a .s .now) (l .i) (l .n) _ (c .before .before .before .loop-test .taken) (l .inv .2) (c .before .size-for .ensures) (omega (arith, c .if1 .taken, l .inv .1))
+    let at-size = c .before .before in
+    let at-test = at-size .before .before in
+    let l = at-test .before .loop in
+    let a = at-test .before .before .before .args in
+    let over = leb-false _ 16 (sym (c .before .length-within .ensures) ∙ not-true _ (c .if1 .taken)) in
+    size-over (a .t .of) (a .s .now) (l .i) (l .n) _ (at-test .loop-test .taken) (l .inv .2) (at-size .size-for .ensures .0) over
 
 loop-again : tie.Need-loop-again Inv-loop μ-loop
 loop-again c =
-    let a = c .before .before .before .before .before .before .args in
-    let l = c .before .before .before .before .loop in
-    let sum = size-next (a .t .of) (a .s .now) (l .i) (l .n) _ (c .before .before .before .loop-test .taken) (l .inv .2) (c .before .size-for .ensures) in
-    (search needs, omega (arith, c .if1 .left, l .inv .1), sum)
+    let at-size = c .before .before in
+    let at-test = at-size .before .before in
+    let l = at-test .before .loop in
+    let a = at-test .before .before .before .args in
+    let few = leb-true _ 16 (sym (c .before .length-within .ensures) ∙ not-false _ (c .if1 .left)) in
+    let sum = size-next (a .t .of) (a .s .now) (l .i) (l .n) _ (at-test .loop-test .taken) (l .inv .2) (at-size .size-for .ensures .0) in
+    (search needs, few, sum)
 
 returns-2 : tie.Need-returns-2 Inv-loop μ-loop
 returns-2 c =
@@ -47,8 +54,8 @@ over-long-spec =
     (λ c. search needs)
     (λ c κs. search needs)
     (λ c. search needs)
+    (λ c κs. search needs)
     returns
-    (λ c. search needs)
     (λ c. search needs)
     (λ c. search needs)
     loop-again

@@ -36,7 +36,7 @@ bind-words-requires c κs =
     let name = c .before .before .before .if1 .taken in
     let room = grown-room g more name in
     let long = grown-length g ∙ x .pre .long in
-    let part = simp (length-take, length-drop) at (ap length (c .part-of .ensures)) in
+    let part = simp (length-take, length-drop) at (ap length (c .part-words .ensures)) in
     (long, omega (arith, x .pre .room), omega (arith, x .pre .short))
 
 loop-again : tie.Need-loop-again Inv-loop μ-loop
@@ -48,7 +48,7 @@ loop-again c =
     let name = c .before .before .before .before .before .before .if1 .taken in
     let room = grown-room g more name in
     let full : length (x .args .t5 .rows) ≡ 8 = search (needs, unmap, x .good) in
-    let part = c .before .before .before .part-of .ensures in
+    let part = c .before .before .before .part-words .ensures in
     let words = c .before .before .bind-words .ensures in
     let grown = grown-name g more name (omega (arith, x .pre .room)) _ _ _ part words in
     (search needs, grown, omega (arith, x .pre .room))

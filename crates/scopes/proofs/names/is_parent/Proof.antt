@@ -21,7 +21,14 @@ any-of-four-requires : tie.Need-any-of-four-requires
 any-of-four-requires c κs = search needs
 
 returns : tie.Need-returns
-returns c = c .any-of-four .ensures ∙ parent-by (c .before .before .before .before .before .args .x) (c .before .before .before .before .before .args .m) _ _ _ _ (c .before .before .before .before .is-child .ensures) (c .before .before .before .is-child2 .ensures) (c .before .before .is-child3 .ensures) (c .before .is-child4 .ensures)
+returns c =
+    let fourth = c .before in
+    let third = fourth .before in
+    let second = third .before in
+    let first = second .before in
+    let a = first .before .args in
+    let tests = parent-by (a .x) (a .m) _ _ _ _ (first .is-child .ensures) (second .is-child2 .ensures) (third .is-child3 .ensures) (fourth .is-child4 .ensures) in
+    c .any-of-four .ensures ∙ tests
 
 pub is-parent-spec : {M : Type 1} → statement M
 is-parent-spec =

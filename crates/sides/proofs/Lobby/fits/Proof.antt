@@ -1,7 +1,8 @@
 use mathlib.Core.Path.{_≡_, refl, sym, _∙_}
 use lib.ListN.{length, take}
 use Prim.Native.Nat.{_-_, _≤_}
-use Rattle.sides.proofs.Lists.{fits-long, fits-fails, fits-all, every-more}
+use borrow.Author.Tests.{not-true, not-false, leb-true}
+use Rattle.sides.proofs.Lists.{stops, fits-fails, fits-all, every-more}
 use Rattle.sides.specs.Views.{fitsMessage}
 use Rattle.model.specs.Basics.{every}
 use mathlib.Core.Bool.{true}
@@ -12,37 +13,39 @@ use Rattle.sides.proofs.Lobby.fits.Tie as tie
 use Rattle.values.proofs.Lists.{unmap}
 
 abbrev Inv-loop : tie.InvT-loop
-Inv-loop self n k₀ k = (k ≤ n) × (every fitsMessage (take k (self .msgs)) ≡ true)
+Inv-loop self n k₀ k = (n ≤ 16) × (k ≤ n) × (every fitsMessage (take k (self .msgs)) ≡ true)
 
 abbrev μ-loop : tie.MeasureT-loop
 μ-loop self n k₀ k = n - k
 
 returns : tie.Need-returns Inv-loop μ-loop
-returns c =
-    let l = c .before .args .t1 in
-    let full : length (l .msgs) ≡ 16 = search unmap in
-    fits-long fitsMessage (l .msgs) 16 full (l .len) (c .if1 .taken)
+returns c = stops _ _ (sym (c .before .lobby-within .ensures) ∙ not-true _ (c .if1 .taken))
 
 loop-holds : tie.Need-loop-holds Inv-loop μ-loop
-loop-holds c = (omega arith, refl)
+loop-holds c = (leb-true _ 16 (sym (c .before .lobby-within .ensures) ∙ not-false _ (c .if1 .left)), omega arith, refl)
 
 loop-again : tie.Need-loop-again Inv-loop μ-loop
 loop-again c =
-    let l = c .before .before .before .before .before .before .args .t1 in
+    let z = c .before .before .before .before .loop in
+    let l = c .before .before .before .before .before .before .before .args .t1 in
     let full : length (l .msgs) ≡ 16 = search unmap in
-    (omega arith, every-more fitsMessage (l .msgs) (c .before .before .before .before .loop .k) _ (omega arith) (sym (c .before .message-fits .ensures) ∙ c .if2 .taken) (c .before .before .before .before .loop .inv .1))
+    let fits = sym (c .before .message-fits .ensures) ∙ c .if2 .taken in
+    (z .inv .0, omega arith, every-more fitsMessage (l .msgs) (z .k) _ (omega (arith, z .inv)) fits (z .inv .2))
 
 returns-2 : tie.Need-returns-2 Inv-loop μ-loop
 returns-2 c =
-    let l = c .before .before .before .before .before .before .args .t1 in
+    let z = c .before .before .before .before .loop in
+    let l = c .before .before .before .before .before .before .before .args .t1 in
     let full : length (l .msgs) ≡ 16 = search unmap in
-    fits-fails fitsMessage (l .msgs) 16 full (c .before .before .before .before .loop .k) (l .len) _ (omega arith) (omega arith) (sym (c .before .message-fits .ensures) ∙ c .if2 .left)
+    let fails = sym (c .before .message-fits .ensures) ∙ c .if2 .left in
+    fits-fails fitsMessage (l .msgs) 16 full (z .k) (l .len) _ (omega arith) (z .inv .0) fails
 
 returns-3 : tie.Need-returns-3 Inv-loop μ-loop
 returns-3 c =
-    let l = c .before .before .before .args .t1 in
+    let z = c .before .loop in
+    let l = c .before .before .before .before .args .t1 in
     let full : length (l .msgs) ≡ 16 = search unmap in
-    fits-all fitsMessage (l .msgs) 16 full (c .before .loop .k) (l .len) (omega arith) (omega arith) (c .before .loop .inv .1)
+    fits-all fitsMessage (l .msgs) 16 full (z .k) (l .len) (omega (arith, z .inv)) (z .inv .0) (z .inv .2)
 
 pub fits-spec : {M : Type 1} → statement M
 fits-spec =
@@ -50,6 +53,7 @@ fits-spec =
     (tie.spec
     Inv-loop
     μ-loop
+    (λ c κs. search needs)
     returns
     loop-holds
     (λ c. omega arith)

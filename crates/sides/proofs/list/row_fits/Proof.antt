@@ -1,8 +1,8 @@
-use mathlib.Core.Path.{_≡_, refl}
+use mathlib.Core.Path.{_≡_, refl, sym, ap, _∙_}
 use mathlib.Core.Bool.{true, false}
 use mathlib.Core.List.{[]}
-use Prim.Native.Nat.{_-_, _<_, _≤_}
-use borrow.Author.Tests.{le-leb, lt-leb}
+use Prim.Native.Nat.{ℕ, _-_, _<_, _≤_}
+use lib.Dec.{leb}
 use lib.ListN.{take}
 use Rattle.model.specs.Basics.{every}
 use Rattle.sides.proofs.Lists.{every-more, fits-long, fits-fails, fits-all}
@@ -20,39 +20,60 @@ abbrev μ-loop : tie.MeasureT-loop
 μ-loop r n k₀ k = n - k
 
 returns : tie.Need-returns Inv-loop μ-loop
-returns c = row-fits-output (c .before .before .before .before .args .r .now) (c .before .if1 .taken)
+returns c =
+    let at-wide = c .before in
+    let at-if1 = at-wide .before .before in
+    let word = ap (λ (n : ℕ). leb n 16) (at-wide .wide .ensures) in
+    c .length-within .ensures ∙ word ∙ row-fits-output (at-if1 .before .before .before .args .r .now) (at-if1 .if1 .taken)
 
 returns-2 : tie.Need-returns-2 Inv-loop μ-loop
 returns-2 c =
-    let r = c .before .before .before .before .before .before .args .r .now in
-    let n = c .before .wide .result in
-    row-fits-input r n false (c .before .wide .ensures) (c .before .before .before .if1 .left) (fits-long fitsPlace (placesOf r) 8 (places-count r) n (c .if2 .taken))
+    let at-held = c .before in
+    let at-if1 = at-held .before .before in
+    let r = at-if1 .before .before .before .args .r .now in
+    let n = at-held .wide2 .result in
+    row-fits-input r n false (at-held .wide2 .ensures) (at-if1 .if1 .left) (fits-long fitsPlace (placesOf r) 8 (places-count r) n (c .if2 .taken))
 
 loop-holds : tie.Need-loop-holds Inv-loop μ-loop
 loop-holds c = (search needs, refl)
 
 loop-again : tie.Need-loop-again Inv-loop μ-loop
 loop-again c =
-    let r = c .before .before .before .before .before .before .before .before .before .before .args .r .now in
-    let l = c .before .before .before .loop in
+    let at-within = c .before in
+    let at-wide = at-within .before in
+    let at-loop = at-wide .before .before .before in
+    let at-if1 = at-loop .before .before .before .before in
+    let l = at-loop .loop in
+    let r = at-if1 .before .before .before .args .r .now in
     let k8 : l .k < 8 = omega arith in
-    (search needs, every-more fitsPlace (placesOf r) (l .k) [] (rw (places-count r) k8) (place-fits r (l .k) true k8 (le-leb _ 16 (c .if3 .taken))) (l .inv .1))
+    let short = ap (λ (n : ℕ). leb n 16) (sym (at-wide .wide3 .ensures)) ∙ sym (at-within .length-within2 .ensures) ∙ c .if3 .taken in
+    (search needs, every-more fitsPlace (placesOf r) (l .k) [] (rw (places-count r) k8) (place-fits r (l .k) true k8 short) (l .inv .1))
 
 returns-3 : tie.Need-returns-3 Inv-loop μ-loop
 returns-3 c =
-    let l = c .before .before .before .loop in
+    let at-within = c .before in
+    let at-wide = at-within .before in
+    let at-loop = at-wide .before .before .before in
+    let at-held = at-loop .before .before in
+    let at-if1 = at-held .before .before in
+    let l = at-loop .loop in
+    let r = at-if1 .before .before .before .args .r .now in
+    let n = at-held .wide2 .result in
     let k8 : l .k < 8 = omega arith in
-    let r = c .before .before .before .before .before .before .before .before .before .before .args .r .now in
-    let n = c .before .before .before .before .before .wide .result in
-    row-fits-input r n false (c .before .before .before .before .before .wide .ensures) (c .before .before .before .before .before .before .before .if1 .left)
-    (fits-fails fitsPlace (placesOf r) 8 (places-count r) (l .k) n [] (omega arith) (omega arith) (place-fits r (l .k) false k8 (lt-leb _ 16 (c .if3 .left))))
+    let long = ap (λ (n : ℕ). leb n 16) (sym (at-wide .wide3 .ensures)) ∙ sym (at-within .length-within2 .ensures) ∙ c .if3 .left in
+    let fails = fits-fails fitsPlace (placesOf r) 8 (places-count r) (l .k) n [] (omega arith) (omega arith) (place-fits r (l .k) false k8 long) in
+    row-fits-input r n false (at-held .wide2 .ensures) (at-if1 .if1 .left) fails
 
 returns-4 : tie.Need-returns-4 Inv-loop μ-loop
 returns-4 c =
-    let l = c .before .loop in
-    let r = c .before .before .before .before .before .before .before .before .args .r .now in
-    let n = c .before .before .before .wide .result in
-    row-fits-input r n true (c .before .before .before .wide .ensures) (c .before .before .before .before .before .if1 .left) (fits-all fitsPlace (placesOf r) 8 (places-count r) (l .k) n (omega arith) (omega arith) (l .inv .1))
+    let at-loop = c .before in
+    let at-held = at-loop .before .before in
+    let at-if1 = at-held .before .before in
+    let l = at-loop .loop in
+    let r = at-if1 .before .before .before .args .r .now in
+    let n = at-held .wide2 .result in
+    let fits = fits-all fitsPlace (placesOf r) 8 (places-count r) (l .k) n (omega arith) (omega arith) (l .inv .1) in
+    row-fits-input r n true (at-held .wide2 .ensures) (at-if1 .if1 .left) fits
 
 pub row-fits-spec : {M : Type 1} → statement M
 row-fits-spec =
@@ -62,6 +83,8 @@ row-fits-spec =
     μ-loop
     (λ c. search needs)
     (λ c. search needs)
+    (λ c κs. search needs)
+    (λ c κs. search needs)
     returns
     (λ c. search needs)
     (λ c κs. search needs)
@@ -71,6 +94,8 @@ row-fits-spec =
     (λ c. search needs)
     (λ c. search needs)
     (λ c. search needs)
+    (λ c κs. search needs)
+    (λ c κs. search needs)
     (λ c. search needs)
     (λ c. search needs)
     loop-again

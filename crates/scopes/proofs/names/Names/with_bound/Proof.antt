@@ -27,14 +27,30 @@ with-pattern-requires : tie.Need-with-pattern-requires
 with-pattern-requires c κs = search needs
 
 returns : tie.Need-returns
-returns c = let a = c .before .before .before .before .before .before .before .args in c .with-outer .ensures ∙ ap (λ (w : ℕ). lastEight (w ∷ viewNames (a .self))) (c .before .field-at .ensures (a .pool .now)) ∙ ap (λ (x : List ℕ). lastEight (x ++ viewNames (a .self))) (sym (bound-new (a .nodes .now) (a .pool .now) (a .n) _ (c .before .before .before .before .node-at .ensures) (c .before .before .if1 .taken)))
+returns c =
+    let at-node = c .before .before .before .before in
+    let a = at-node .before .before .before .args in
+    let binds = bound-new (a .nodes .now) (a .pool .now) (a .n) _ (at-node .node-at .ensures) (c .before .before .if1 .taken) in
+    let named = ap (λ (w : ℕ). lastEight (w ∷ viewNames (a .self))) (c .before .field-at .ensures (a .pool .now)) in
+    c .with-outer .ensures ∙ named ∙ ap (λ (x : List ℕ). lastEight (x ++ viewNames (a .self))) (sym binds)
 
 returns-2 : tie.Need-returns-2
 unfolding leafOf
-returns-2 c = let a = c .before .before .before .before .before .before .before .before .before .args in c .with-pattern .ensures ∙ ap (λ (s : List ℕ). lastEight (binders s ++ viewNames (a .self))) (c .before .words-at .ensures) ∙ ap (λ (x : List ℕ). lastEight (x ++ viewNames (a .self))) (sym (bound-input (a .nodes .now) (a .pool .now) (a .n) _ (c .before .before .before .before .before .before .node-at .ensures) (c .before .before .if2 .taken)))
+returns-2 c =
+    let at-node = c .before .before .before .before .before .before in
+    let a = at-node .before .before .before .args in
+    let binds = bound-input (a .nodes .now) (a .pool .now) (a .n) _ (at-node .node-at .ensures) (c .before .before .if2 .taken) in
+    let read = ap (λ (s : List ℕ). lastEight (binders s ++ viewNames (a .self))) (c .before .words-at .ensures) in
+    c .with-pattern .ensures ∙ read ∙ ap (λ (x : List ℕ). lastEight (x ++ viewNames (a .self))) (sym binds)
 
 returns-3 : tie.Need-returns-3
-returns-3 c = let a = c .before .before .before .before .before .before .before .args in let full : length (a .self .rows) ≡ 8 = search needs in sym (ap (λ (x : List ℕ). lastEight (x ++ viewNames (a .self))) (bound-none (a .nodes .now) (a .pool .now) (a .n) _ (c .before .before .before .before .node-at .ensures) (c .before .before .if1 .left) (c .if2 .left)) ∙ last-few (viewNames (a .self)) (view-few (a .self .rows) (a .self .top) 0 full))
+returns-3 c =
+    let at-node = c .before .before .before .before in
+    let a = at-node .before .before .before .args in
+    let full : length (a .self .rows) ≡ 8 = search needs in
+    let binds = bound-none (a .nodes .now) (a .pool .now) (a .n) _ (at-node .node-at .ensures) (c .before .before .if1 .left) (c .if2 .left) in
+    let few = view-few (a .self .rows) (a .self .top) 0 full in
+    sym (ap (λ (x : List ℕ). lastEight (x ++ viewNames (a .self))) binds ∙ last-few (viewNames (a .self)) few)
 
 pub with-bound-spec : {M : Type 1} → statement M
 with-bound-spec =

@@ -6,39 +6,36 @@ use borrow.Author.Needs.{needs}
 use Rattle.scopes.proofs.names.Names.with_outer.Statement.{statement}
 use Rattle.scopes.proofs.names.Names.with_outer.Tie as tie
 
-sub-self : tie.Need-sub-self
-sub-self c = search needs
-
-mul-self : tie.Need-mul-self
-mul-self c = search needs
-
-element-write-self : tie.Need-element-write-self
-element-write-self c = search needs
-
-sub-self-2 : tie.Need-sub-self-2
-sub-self-2 c = search needs
-
-element-write-self-2 : tie.Need-element-write-self-2
-element-write-self-2 c = search needs
-
 returns : tie.Need-returns
-returns c = let a = c .before .before .args in let full : length (a .t1 .rows) ≡ 8 = search needs in outer-in (a .t1 .rows) (a .t1 .top) _ full (c .before .if1 .taken) (c .if2 .taken)
+returns c =
+    let a = c .before .before .args in
+    let full : length (a .t1 .rows) ≡ 8 = search needs in
+    outer-in (a .t1 .rows) (a .t1 .top) _ full (c .before .if1 .taken) (c .if2 .taken)
 
 returns-2 : tie.Need-returns-2
-returns-2 c = let a = c .before .before .args in let full : length (a .t1 .rows) ≡ 8 = search needs in outer-over (a .t1 .rows) (a .t1 .top) _ full (c .if2 .left)
+returns-2 c =
+    let a = c .before .before .args in
+    let full : length (a .t1 .rows) ≡ 8 = search needs in
+    outer-over (a .t1 .rows) (a .t1 .top) _ full (c .if2 .left)
 
 returns-3 : tie.Need-returns-3
-returns-3 c = let a = c .before .args in let full : length (a .t1 .rows) ≡ 8 = search needs in outer-full (a .t1 .rows) (a .t1 .top) _ full (c .if1 .left)
+returns-3 c =
+    let a = c .before .args in
+    let full : length (a .t1 .rows) ≡ 8 = search needs in
+    outer-full (a .t1 .rows) (a .t1 .top) _ full (c .if1 .left)
 
 pub with-outer-spec : {M : Type 1} → statement M
 with-outer-spec =
     tie.close
     (tie.spec
-    sub-self
-    mul-self
-    element-write-self
-    sub-self-2
-    element-write-self-2
+    (λ c. search needs)
+    (λ c. search needs)
+    (λ c. search needs)
+    (λ c. search needs)
+    (λ c. search needs)
+    (λ c. search needs)
+    (λ c. search needs)
+    (λ c. search needs)
     returns
     returns-2
     returns-3)

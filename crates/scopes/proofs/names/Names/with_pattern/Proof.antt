@@ -18,7 +18,11 @@ abbrev μ-loop : tie.MeasureT-loop
 μ-loop s r₀ i₀ r i = i
 
 loop-holds : tie.Need-loop-holds Inv-loop μ-loop
-loop-holds c = let a = c .before .args in let full : length (a .self .rows) ≡ 8 = search needs in (search needs, back-start (a .s .now) (viewNames (a .self)) (view-few (a .self .rows) (a .self .top) 0 full))
+loop-holds c =
+    let a = c .before .args in
+    let full : length (a .self .rows) ≡ 8 = search needs in
+    let few = view-few (a .self .rows) (a .self .top) 0 full in
+    (search needs, back-start (a .s .now) (viewNames (a .self)) few)
 
 sub-i : tie.Need-sub-i Inv-loop μ-loop
 sub-i c = search needs
@@ -36,16 +40,29 @@ loop-less : tie.Need-loop-less Inv-loop μ-loop
 loop-less c = search needs
 
 loop-again : tie.Need-loop-again Inv-loop μ-loop
-loop-again c = let l = c .before .before .before .before .loop in let a = c .before .before .before .before .before .before .args in (search needs, step-name (a .s .now) (l .i) (l .i - 1) (viewNames (a .self)) (viewNames (l .r)) (omega arith) (omega arith) (l .inv .1) _ (c .before .if1 .taken) (c .with-outer .ensures))
+loop-again c =
+    let at-loop = c .before .before .before .before in
+    let l = at-loop .loop in
+    let a = at-loop .before .before .args in
+    let step = step-name (a .s .now) (l .i) (l .i - 1) (viewNames (a .self)) (viewNames (l .r)) (omega arith) (omega arith) (l .inv .1) in
+    (search needs, step _ (c .before .if1 .taken) (c .with-outer .ensures))
 
 loop-less-2 : tie.Need-loop-less-2 Inv-loop μ-loop
 loop-less-2 c = search needs
 
 loop-again-2 : tie.Need-loop-again-2 Inv-loop μ-loop
-loop-again-2 c = let l = c .before .before .before .loop in let a = c .before .before .before .before .before .args in (search needs, step-other (a .s .now) (l .i) (l .i - 1) (viewNames (a .self)) (viewNames (l .r)) (omega arith) (omega arith) (l .inv .1) (c .if1 .left))
+loop-again-2 c =
+    let at-loop = c .before .before .before in
+    let l = at-loop .loop in
+    let a = at-loop .before .before .args in
+    let step = step-other (a .s .now) (l .i) (l .i - 1) (viewNames (a .self)) (viewNames (l .r)) (omega arith) (omega arith) (l .inv .1) in
+    (search needs, step (c .if1 .left))
 
 returns : tie.Need-returns Inv-loop μ-loop
-returns c = let l = c .before .loop in let a = c .before .before .before .args in back-end (a .s .now) (viewNames (a .self)) (viewNames (l .r)) (l .i) (omega arith) (l .inv .1)
+returns c =
+    let l = c .before .loop in
+    let a = c .before .before .before .args in
+    back-end (a .s .now) (viewNames (a .self)) (viewNames (l .r)) (l .i) (omega arith) (l .inv .1)
 
 pub with-pattern-spec : {M : Type 1} → statement M
 with-pattern-spec =
