@@ -12,7 +12,7 @@ use Rattle.model.specs.Basics.{_&_, Res, refuse, done}
 use Rattle.model.specs.Table.{Table}
 use Rattle.model.specs.Side.{Side, State, side, putSide}
 use Rattle.model.specs.Wrapper.{allSides, hasSide}
-use Rattle.model.specs.Load.{Composition, wrapperOf, setting, Loaded, refused, ok, isOk, load}
+use Rattle.model.specs.Load.{Composition, wrapperOf, setting, load}
 use Rattle.model.specs.Load.{table as tableOf}
 use Rattle.model.specs.WellFormed.{counts, wfCore, wfSide, shelfOf, ready}
 use Rattle.model.specs.Step.{Step, Moved, settled, local, known, refusal, answerOf, sideAfter, Result, step}
@@ -26,9 +26,7 @@ use Rattle.wrappers.specs.Compositions.{composition}
 use Rattle.wrappers.proofs.Described.{has-in}
 use Rattle.sides.specs.declared.Rest.{Rest}
 use Rattle.sides.specs.Sides.{coreOf, fitsSide}
-use Rattle.loading.specs.declared.Outcome.the-variants.{Ok}
-use Rattle.loading.specs.Loading.{outcomeOf}
-use Rattle.loading.proofs.Faults.{Taken, taken, table-at}
+use Rattle.loading.proofs.Faults.{Taken, ok-taken, table-at}
 use Rattle.loading.proofs.Starting.{has-number, has-place}
 use Rattle.answers.specs.Answers.{givenFor, isRefusal}
 use Rattle.answers.proofs.AnswerLaws.{step-given}
@@ -44,14 +42,10 @@ use Rattle.dispatch.proofs.AllSides.{side-is, local-is, put-by, sides-s
 abbrev moveAt : Composition → State → Step → ℕ → Res Moved
 moveAt b s x k = settled (local (setting b k) (known s) (shelfOf s) (side s k .core) x)
 
-ok-outcome : (l : Loaded) → isOk l ≡ true → outcomeOf l ≡ Ok
-ok-outcome (refused x) e = absurd (false≢true e)
-ok-outcome (ok s) e = refl
-
 -- load takes the tables of a state that is ready
 pub ready-taken : (b : Composition) (s : State) → ready b s ≡ true → Taken b
 unfolding ready
-ready-taken b s e = taken b (ok-outcome (load b) (fst _ _ e))
+ready-taken b s e = ok-taken b (fst _ _ e)
 
 -- a side that the wrapper lacks: 10, and nothing changes
 pub none-asked : (b : Composition) (s : State) (x : Step) → ready b s ≡ true → hasSide (wrapperOf b) (x .side) ≡ false → step b s x ≡ record { answer = refusal 10 (x .side); after = s }

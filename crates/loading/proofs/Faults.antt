@@ -31,7 +31,7 @@ use Rattle.wrappers.specs.Compositions.{tablesOf, composition}
 use Rattle.loading.specs.declared.Outcome.{Outcome}
 use Rattle.loading.specs.declared.Outcome.the-variants.{Ok, Refused}
 use Rattle.loading.specs.Starting.{Startable}
-use Rattle.loading.specs.Loading.{faultAt, refusalOf, refusalIn, refusalAt, outcomeOf}
+use Rattle.loading.specs.Loading.{faultAt, refusalOf, refusalIn, refusalAt}
 
 -- A SIDE'S FAULT
 pub root-in : (t : Table) → Passes t → 0 < count t
@@ -280,11 +280,3 @@ refused-loads (ok s) a k i m e z =
     let y : refusalOf (Refused k i m) ≡ none = sym (ap refusalOf z) ∙ e in
     let w : _≡_ {A = ℕ} 0 1 = cc in
     absurd (omega arith)
-
--- the same by the outcome of a load
-pub taken : (b : Composition) → outcomeOf (load b) ≡ Ok → Taken b
-taken b e = ok-taken b (by (load b) e)
-  where
-    by : (l : Loaded) → outcomeOf l ≡ Ok → isOk l ≡ true
-    by (refused x) q = let m : _≡_ {A = ℕ} 0 1 = cc in absurd (omega arith)
-    by (ok s) q = refl

@@ -27,8 +27,3 @@ refusalIn (ok s) = none
 abbrev pub refusalAt : (n : ℕ) → Res Fault → Option Refusal
 refusalAt n (refuse e) = none
 refusalAt n (done f) = some (record { number = f .number; side = n; node = f .node })
-
--- the outcome of a load; no contract uses it, dispatch's laws do
-abbrev pub outcomeOf : Loaded → Outcome
-outcomeOf (refused x) = Refused (x .number) (x .side) (x .node)
-outcomeOf (ok s) = Ok

@@ -10,23 +10,29 @@ use Rattle.model.specs.Basics.{Res}
 use Rattle.model.specs.Side.{State}
 use Rattle.model.specs.Wrapper.{allSides, described, hasSide}
 use Rattle.model.specs.Load.{Composition, Setting}
-use Rattle.model.specs.Step.{Moved, Result, step}
+use Rattle.model.specs.Step.{Step, Moved, Result, local, settled, step}
 use Rattle.model.specs.Answer.{given}
 use Rattle.format.specs.Words.{stepAt, givenWords}
 use Rattle.values.specs.Env.{viewValue}
 use Rattle.sides.proofs.Lists.{map-set}
 use Rattle.wrappers.specs.Compositions.{composition}
 use Rattle.sides.specs.declared.Rest.{Rest}
+use Rattle.sides.specs.Sides.{coreOf}
+use Rattle.steps.specs.Asked.{knownBy}
 use Rattle.steps.specs.declared.Said.the-variants as said
 use Rattle.loading.proofs.Faults.{map-at}
 use Rattle.loading.proofs.Starting.{has-place}
 use Rattle.answers.specs.Answers.{givenFor}
 use Rattle.steps.specs.declared.RestStep.{RestStep}
 use Rattle.dispatch.specs.Stepping.{settingOf, asked, OwnReady}
-use Rattle.dispatch.specs.Sharing.{shelvedOf, stateIn, Lent, AtSide}
+use Rattle.dispatch.specs.Sharing.{shelvesIn, shelvedOf, stateIn, Lent, AtSide}
 use Rattle.dispatch.proofs.InState.{none-asked, own-ready, answer-is, after-is, lent-after}
-use Rattle.running.specs.Runs.{moveOf, Moves}
+use Rattle.running.specs.Runs.{Moves}
 use Rattle.running.proofs.RunLaws.{Running, run-more}
+
+-- the model's move of the side that c names, with the rest o, by the step x
+abbrev pub moveOf : Setting → (o : Rest) → (ls : List (List ℕ)) → (ms : List (List Bool)) → (hs : List ℕ) → (x : Step) → Res Moved
+moveOf c o ls ms hs x = settled (local c (knownBy ms) (shelvesIn ls hs) (coreOf (getD ls (c .side - 1) []) o) x)
 
 -- the step asked for is the one whose words stand at a place
 pub asked-at : (l : List ℕ) (p k i j : ℕ) (ws : List ℕ) →

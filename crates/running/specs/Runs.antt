@@ -1,25 +1,20 @@
 -- What the steps of a list of words ask of what is lent, and what they leave.
 use mathlib.Core.Path.{_≡_}
 use mathlib.Core.Bool.{Bool, true}
-use mathlib.Core.List.{List, []}
+use mathlib.Core.List.{List}
 use mathlib.Core.Option.{some}
-use Prim.Native.Nat.{ℕ, _+_, _-_, _*_, _<_, _≤_}
+use Prim.Native.Nat.{ℕ, _+_, _-_, _*_, _≤_}
 use lib.ListN.{length, getD}
-use Rattle.model.specs.Basics.{Res}
 use Rattle.model.specs.Side.{State}
-use Rattle.model.specs.Wrapper.{allSides}
 use Rattle.model.specs.Load.{Composition, Setting, ok, load}
 use Rattle.model.specs.WellFormed.{ready}
-use Rattle.model.specs.Step.{Step, Moved, local, settled}
+use Rattle.model.specs.Step.{Step}
 use Rattle.model.specs.Runs.{answers}
 use Rattle.format.specs.Words.{stepsOf, allAnswerWords}
 use Rattle.values.specs.Env.{viewValue}
 use Rattle.sides.specs.declared.Rest.{Rest}
-use Rattle.sides.specs.Sides.{coreOf}
 use Rattle.steps.specs.declared.RestStep.{RestStep}
-use Rattle.steps.specs.Asked.{knownBy}
-use Rattle.dispatch.specs.Stepping.{OwnReady}
-use Rattle.dispatch.specs.Sharing.{shelvesIn, shelvedOf, Shelves, stateIn, Lent, AtSide, MarkedAt}
+use Rattle.dispatch.specs.Sharing.{shelvedOf, stateIn, Lent, LocalAt, MarkedAt}
 use Rattle.running.specs.Running.{countOf, Put}
 
 -- the words of a step stand at place p of a list
@@ -27,22 +22,10 @@ pub record StepStands (l : List ℕ) (p : ℕ) : Type 0 where
   pub head : p + 5 ≤ length l
   pub fits : getD l (p + 4) 0 ≤ length l - (p + 5)
 
--- the side of setting c, with the rest o, can make a step: ls and ms are all sides' words and marks, hs the counts of their shelves
-pub record MayStep (c : Setting) (o : Rest) (ls : List (List ℕ)) (ms : List (List Bool)) (hs : List ℕ) : Type 0 where
-  pub words : length ls ≡ length allSides
-  pub marks : length ms ≡ length allSides
-  pub number : 0 < c .side
-  pub place : c .side - 1 < length allSides
-  pub own : OwnReady c (getD ls (c .side - 1) []) o
-  pub shelves : Shelves ls hs
-
--- the model's move of that side by the step x
-abbrev pub moveOf : Setting → (o : Rest) → (ls : List (List ℕ)) → (ms : List (List Bool)) → (hs : List ℕ) → (x : Step) → Res Moved
-moveOf c o ls ms hs x = settled (local c (knownBy ms) (shelvesIn ls hs) (coreOf (getD ls (c .side - 1) []) o) x)
-
--- r is that move, and ls′ and ms′ are all sides' words and marks after it
+-- r is the model's move x of the side that c names, with the rest o: ls and ms are all sides' words and marks before it and ls′ and ms′ after
+-- it, hs the counts of their shelves
 pub record Moves (c : Setting) (o : Rest) (ls : List (List ℕ)) (ms : List (List Bool)) (hs : List ℕ) (x : Step) (ls′ : List (List ℕ)) (ms′ : List (List Bool)) (r : RestStep) : Type 0 where
-  pub step : AtSide (moveOf c o ls ms hs x) ls (c .side - 1) o ls′ r
+  pub step : LocalAt c ms ls hs x o ls′ r
   pub marked : MarkedAt (r .said) (viewValue (r .value)) ms (c .side - 1) ms′
 
 -- all sides' words, rests and marks are a state that is ready for b, and hs are the counts of their shelves

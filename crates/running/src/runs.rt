@@ -6,8 +6,8 @@ ghost use Rattle.model.specs.Load.{isOk, load};
 ghost use Rattle.format.specs.Words.{stepAt};
 ghost use Rattle.wrappers.specs.Compositions.{composition};
 ghost use Rattle.dispatch.specs.Stepping.{settingOf};
-ghost use Rattle.dispatch.specs.Sharing.{stateIn};
-ghost use Rattle.running.specs.Runs.{StepStands, MayStep, Moves, MayRun, HasRoom, AnswersPut, LoadedPut};
+ghost use Rattle.dispatch.specs.Sharing.{stateIn, SideReady};
+ghost use Rattle.running.specs.Runs.{StepStands, Moves, MayRun, HasRoom, AnswersPut, LoadedPut};
 use crate::answer_words::put_answer;
 use crate::beginning::begin_all;
 use crate::step_words::asked_at;
@@ -38,7 +38,7 @@ fn step_at(
     steps: &[u32],
     p: usize,
 ) -> RestStep
-    requires { ⌜ MayStep (settingOf wrapper side (now nodes) (now pool)) o (now rows) (now marks) shelved × StepStands (now steps) p ⌝ }
+    requires { ⌜ SideReady (settingOf wrapper side (now nodes) (now pool)) (now marks) (now rows) shelved o × StepStands (now steps) p ⌝ }
     ensures { λ r. ⌜ Moves (settingOf wrapper side (now (nodes .entry)) (now (pool .entry))) o (now (rows .entry)) (now (marks .entry)) shelved (stepAt (now (steps .entry)) p) (now (rows .exit)) (now (marks .exit)) r ⌝ }
 {
     let x = asked_at(steps, p);

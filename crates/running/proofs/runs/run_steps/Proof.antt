@@ -78,7 +78,7 @@ step-at-requires c κs =
     let has = has-asked (a .before) in
     let own = may-step now _ (x .args .t2) (x .args .t3) t (nodes-long x) (pools-long x) _ _ (a .place-of .ensures) has _ _ _ in
     let shelves = shelves-of _ _ _ (t .sides) _ (t .shelved) in (
-      record { words = t .sides .words; marks = t .sides .marks; number = positive (a .before); place = place (a .before); own = own; shelves = shelves },
+      (t .sides .words, t .sides .marks, positive (a .before), place (a .before), own, shelves),
       record { head = next-head (t .run) lt; fits = next-fits (t .run) lt },
     )
 

@@ -3,9 +3,8 @@ use Rattle.model.specs.Basics.{Res}
 use Rattle.model.specs.Step.{Step, Moved}
 use Rattle.format.specs.Words.{stepAt}
 use Rattle.dispatch.specs.Stepping.{settingOf}
-use Rattle.running.specs.Runs.{moveOf}
 use Rattle.dispatch.proofs.InState.{step-short}
-use Rattle.running.proofs.Turns.{asked-at, at-same}
+use Rattle.running.proofs.Turns.{moveOf, asked-at, at-same}
 use borrow.Author.Needs.{needs}
 use Rattle.running.proofs.runs.step_at.Statement.{statement}
 use Rattle.running.proofs.runs.step_at.Tie as tie
@@ -13,7 +12,7 @@ use Rattle.running.proofs.runs.step_at.Tie as tie
 mark-left-requires : tie.Need-mark-left-requires
 mark-left-requires c κs =
     let x = c .before .before .before .before .before .before .before .before .before .before in
-    (x .pre .0 .marks, x .pre .0 .number, x .pre .0 .place, step-short _ _ _ _ _ (c .before .before .side-step .ensures 0 .step))
+    (x .pre .0 .1, x .pre .0 .2, x .pre .0 .3, step-short _ _ _ _ _ (c .before .before .side-step .ensures 0 .step))
 
 returns : tie.Need-returns
 returns c =
