@@ -6,6 +6,7 @@ unfolds to (particles, boxes, new names), the names in force at its last node, a
 name where it is free.
 """
 import os
+import textwrap
 
 NIL = [0, 0, 0, 0, 0]
 out_in, out_vec = [], []
@@ -19,9 +20,14 @@ def inp(c, g, p, b): return [5, c, g, p, b]
 def rep(c, g, p, b): return [6, c, g, p, b]
 
 
+def lines(letter, words):
+    """A letter and words, over as many lines as they need."""
+    return "\n".join(textwrap.wrap(" ".join([letter] + [str(w) for w in words]), 120))
+
+
 def test(name, nodes, pool, answer):
     words = [w for n in nodes for w in (n if isinstance(n, list) else [n])]
-    out_in.append("T%s\nN %s\nV %s\n.\n" % (name, " ".join(map(str, words)), " ".join(map(str, pool))))
+    out_in.append("T%s\n%s\n%s\n.\n" % (name, lines("N", words), lines("V", pool)))
     out_vec.append("%s: %s\n" % (name, answer))
 
 

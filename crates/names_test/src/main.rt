@@ -19,53 +19,56 @@ use counts::counts;
 use names::names;
 use names::value;
 use names::values;
-use sides::State;
-use test_changes::put;
-use test_changes::write;
+use test_output::write;
+use test_states::Start;
 
 // What no state may hold, whatever was minted.
-fn any_side(wrapper: u32, side: u32, s: State) {
-    counts(wrapper, side, s);
-    names(false, wrapper, side, s, 10, 15, &[64, 4000000, 4999999]);
-    names(false, wrapper, side, s, 15, 19, &[64]);
-    values(false, wrapper, side, s, 0, 8);
-    values(true, wrapper, side, s, 8, 12);
+fn any_side(start: Start, side: u32) {
+    counts(start, side);
+    names(false, start, side, 10, 15, &[64, 4000000, 4999999]);
+    names(false, start, side, 15, 19, &[64]);
+    values(false, start, side, 0, 8);
+    values(true, start, side, 8, 12);
 }
 
 // The largest serials and the next, with 256 names minted on each side.
-fn largest_serials(side: u32, s: State) {
-    let t = put(put(s, 1, 9, 256), 2, 9, 256);
+fn largest_serials(side: u32) {
     write(b"with 256 names minted on each side\n");
-    names(true, 2, side, t, 10, 19, &[65791, 131327]);
-    names(false, 2, side, t, 10, 19, &[65792, 131328]);
+    names(true, Start::AllMinted, side, 10, 19, &[65791, 131327]);
+    names(false, Start::AllMinted, side, 10, 19, &[65792, 131328]);
     write(b"with the names that were minted\n");
 }
 
 // What is by the counts of the state, under the pipeline: one name of side 1, two of side 2.
-fn pipeline(side: u32, s: State) {
-    names(true, 2, side, s, 10, 19, &[63, 65536, 131073]);
-    names(false, 2, side, s, 10, 19, &[65537, 131074]);
-    values(false, 2, side, s, 12, 15);
-    value(false, 2, side, s, 16);
+fn pipeline(side: u32) {
+    names(true, Start::Pipeline, side, 10, 19, &[63, 65536, 131073]);
+    names(false, Start::Pipeline, side, 10, 19, &[65537, 131074]);
+    values(false, Start::Pipeline, side, 12, 15);
+    value(false, Start::Pipeline, side, 16);
 }
 
 // The same under the filter: two names of side 1, none of side 2.
-fn filter(s: State) {
-    names(true, 1, 1, s, 10, 19, &[63, 65537]);
-    names(false, 1, 1, s, 10, 19, &[65538, 65792, 131072, 131328]);
-    values(false, 1, 1, s, 12, 14);
-    values(false, 1, 1, s, 15, 17);
+fn filter() {
+    names(true, Start::Filter, 1, 10, 19, &[63, 65537]);
+    names(
+        false,
+        Start::Filter,
+        1,
+        10,
+        19,
+        &[65538, 65792, 131072, 131328],
+    );
+    values(false, Start::Filter, 1, 12, 14);
+    values(false, Start::Filter, 1, 15, 17);
 }
 
 fn main() {
-    let s = test_states::piped();
-    let f = test_states::filtered();
-    any_side(2, 1, s);
-    pipeline(1, s);
-    largest_serials(1, s);
-    any_side(2, 2, s);
-    pipeline(2, s);
-    largest_serials(2, s);
-    any_side(1, 1, f);
-    filter(f);
+    any_side(Start::Pipeline, 1);
+    pipeline(1);
+    largest_serials(1);
+    any_side(Start::Pipeline, 2);
+    pipeline(2);
+    largest_serials(2);
+    any_side(Start::Filter, 1);
+    filter();
 }

@@ -1,46 +1,41 @@
 // Names and values, at every place that holds one.
 ghost use Prim.Native.Nat.{_<_, _≤_};
-use sides::State;
-use test_changes::label;
-use test_changes::number;
-use test_changes::put_value;
-use test_changes::size;
-use test_changes::word;
-use test_changes::write;
-use test_states::ask;
+use test_output::size;
+use test_states::Start;
 use test_states::case;
-use test_states::head;
+use test_states::value_case;
+use test_states::wrapper_of;
 use values::Value;
 use wrappers::has_shelf;
 
 // Whether a side has a place: no shelf but where it may have one.
-fn is_place(place: usize, wrapper: u32, side: u32) -> bool {
+fn is_place(place: usize, start: Start, side: u32) -> bool {
     if place == 18 {
-        return has_shelf(wrapper, side);
+        return has_shelf(wrapper_of(start), side);
     }
     true
 }
 
 // Each of at most eight words as a name, or as a value of one word, at a place.
-fn names_at(good: bool, wrapper: u32, side: u32, s: State, place: usize, words: &[u32]) {
+fn names_at(good: bool, start: Start, side: u32, place: usize, words: &[u32]) {
     if 8 < words.len() {
         return;
     }
     let mut k: usize = 0;
     while k < words.len() {
-        case(good, wrapper, side, s, place, size(words[k]));
+        case(good, start, side, place, size(words[k]));
         k += 1;
     }
 }
 
 // At each of the places 10 to 18 from one on to another; 18 is the shelf.
-pub fn names(good: bool, wrapper: u32, side: u32, s: State, from: usize, to: usize, words: &[u32])
+pub fn names(good: bool, start: Start, side: u32, from: usize, to: usize, words: &[u32])
     requires { ⌜ to ≤ 19 ⌝ }
 {
     let mut k = from;
     while k < to {
-        if is_place(k, wrapper, side) {
-            names_at(good, wrapper, side, s, k, words);
+        if is_place(k, start, side) {
+            names_at(good, start, side, k, words);
         }
         k += 1;
     }
@@ -79,53 +74,31 @@ fn value_of(row: [u32; 6]) -> Value {
     }
 }
 
-// The length of a value, and its words; then its last place, where that is past the length and not 0.
-fn write_value(v: Value) {
-    let n = v.count();
-    let last = v.words[15];
-    write(b" length");
-    number(v.len);
-    let mut k: usize = 0;
-    while k < n {
-        word(v.words[k]);
-        k += 1;
-    }
-    if n < 16 {
-        if last != 0 {
-            write(b" past it");
-            word(last);
-        }
-    }
-}
-
 // A value at a place.
-fn value_at(good: bool, wrapper: u32, side: u32, s: State, place: usize, v: Value) {
-    if is_place(place, wrapper, side) {
-        head(good, wrapper, side);
-        label(place);
-        write_value(v);
-        ask(wrapper, put_value(s, side, place, v));
+fn value_at(good: bool, start: Start, side: u32, place: usize, v: Value) {
+    if is_place(place, start, side) {
+        value_case(good, start, side, place, v);
     }
 }
 
 // A value of the list at each place that holds one.
-pub fn value(good: bool, wrapper: u32, side: u32, s: State, at: usize)
+pub fn value(good: bool, start: Start, side: u32, at: usize)
     requires { ⌜ at < 17 ⌝ }
 {
     let v = value_of(VALUES[at]);
-    value_at(good, wrapper, side, s, 15, v);
-    value_at(good, wrapper, side, s, 16, v);
-    value_at(good, wrapper, side, s, 17, v);
-    value_at(good, wrapper, side, s, 18, v);
+    value_at(good, start, side, 15, v);
+    value_at(good, start, side, 16, v);
+    value_at(good, start, side, 17, v);
+    value_at(good, start, side, 18, v);
 }
 
 // A part of the list.
-pub fn values(good: bool, wrapper: u32, side: u32, s: State, from: usize, to: usize)
+pub fn values(good: bool, start: Start, side: u32, from: usize, to: usize)
     requires { ⌜ to ≤ 17 ⌝ }
 {
     let mut k = from;
     while k < to {
-        value(good, wrapper, side, s, k);
+        value(good, start, side, k);
         k += 1;
     }
 }

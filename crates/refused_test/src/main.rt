@@ -5,10 +5,11 @@
 // lines after them have one answer: wrappers, and a state of the other wrapper or of other tables.
 ghost use Prim.Native.Nat.{_≤_};
 use interpreter::load;
-use interpreter::step;
 use sides::State;
-use test_changes::write;
-use test_states::answer;
+use test_output::write;
+use test_states::Start;
+use test_states::answered;
+use test_states::start_answered;
 
 // A table that load takes, and its pool: it sends `mid` up.
 const SOUND: [u32; 5] = [4, 2, 1, 0, 0];
@@ -24,30 +25,6 @@ fn begin(good: bool, name: &[u8]) {
     }
     write(name);
     write(b":");
-}
-
-// The answer of side 1 to `enter` with the name 20.
-fn answered<'n, 'p>(
-    wrapper: u32,
-    nodes1: &'n [u32],
-    pool1: &'p [u32],
-    nodes2: &'n [u32],
-    pool2: &'p [u32],
-    s: State,
-) {
-    let given: [u32; 1] = [20];
-    let r = step(
-        wrapper,
-        [nodes1, nodes2],
-        [pool1, pool2],
-        s,
-        1,
-        1,
-        0,
-        0,
-        &given,
-    );
-    answer(s, r);
 }
 
 // Both sides send `mid` up.
@@ -208,7 +185,7 @@ fn filtered_line(good: bool, name: &[u8], nodes: &[u32], pool: &[u32], s: State)
     line(good, name, 1, nodes, pool, n, p, s);
 }
 
-// Wrappers; a state of the filter and one of the pipeline under the other wrapper; states that suit their tables, under others.
+// Wrappers; a state of the filter and one of the pipeline under the other wrapper.
 fn wrappers() {
     let nodes = SOUND;
     let pool = WORDS;
@@ -226,20 +203,21 @@ fn wrappers() {
     line(false, b"filter with words for side 2", 1, n, p, no, p, f);
     filtered_line(false, b"filter, state of the pipeline", n, p, s);
     piped_line(false, b"pipeline, state of the filter", n, p, f);
-    piped_line(
-        false,
-        b"pipeline, state of other tables",
-        n,
-        p,
-        test_states::piped(),
-    );
-    filtered_line(
-        false,
-        b"filter, state of other tables",
-        n,
-        p,
-        test_states::filtered(),
-    );
+}
+
+// States that suit their tables, under others.
+fn other_tables() {
+    let nodes = SOUND;
+    let pool = WORDS;
+    let n = &nodes[..];
+    let p = &pool[..];
+    let no = &n[..0];
+    begin(false, b"pipeline, state of other tables");
+    start_answered(Start::Pipeline, 2, n, p, n, p);
+    write(b"\n");
+    begin(false, b"filter, state of other tables");
+    start_answered(Start::Filter, 1, n, p, no, no);
+    write(b"\n");
 }
 
 fn main() {
@@ -247,4 +225,5 @@ fn main() {
     nodes();
     chains();
     wrappers();
+    other_tables();
 }

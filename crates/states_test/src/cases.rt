@@ -1,17 +1,12 @@
 // States with one thing put anew, as a list of rows, each a line.
 ghost use Prim.Native.Nat.{_≤_};
-use sides::State;
-use test_changes::label;
-use test_changes::number;
-use test_changes::put;
-use test_changes::write;
-use test_states::ask;
+use test_states::Start;
 use test_states::case;
-use test_states::head;
+use test_states::wrapper_of;
 use wrappers::has_shelf;
 
 // Where: 0 on every side, 1 where the side may have a shelf, 2 where it may not. Whether it is allowed. What is put, by its number in
-// the crate `changes`; how much or which.
+// the crate `test_states` (changes.rt); how much or which.
 const ROWS: [[usize; 4]; 47] = [
     [0, 1, 19, 1], // 0: an output in a box: there are boxes 0 and 1
     [0, 0, 19, 2],
@@ -63,34 +58,25 @@ const ROWS: [[usize; 4]; 47] = [
 ];
 
 // Whether a row is for a side.
-fn is_for(at: usize, wrapper: u32, side: u32) -> bool {
+fn is_for(at: usize, start: Start, side: u32) -> bool {
+    let shelf = has_shelf(wrapper_of(start), side);
     match at {
         0 => true,
-        1 => has_shelf(wrapper, side),
-        _ => !has_shelf(wrapper, side),
+        1 => shelf,
+        _ => !shelf,
     }
 }
 
 // The lines of a part of the list.
-pub fn cases(wrapper: u32, side: u32, s: State, from: usize, to: usize)
+pub fn cases(start: Start, side: u32, from: usize, to: usize)
     requires { ⌜ to ≤ 47 ⌝ }
 {
     let mut k = from;
     while k < to {
         let row = ROWS[k];
-        if is_for(row[0], wrapper, side) {
-            case(row[1] == 1, wrapper, side, s, row[2], row[3]);
+        if is_for(row[0], start, side) {
+            case(row[1] == 1, start, side, row[2], row[3]);
         }
         k += 1;
     }
-}
-
-// A place marked as taken, with so many on side 1's shelf.
-pub fn taken_case(good: bool, wrapper: u32, side: u32, s: State, place: usize, n: usize) {
-    head(good, wrapper, side);
-    label(32);
-    number(place);
-    write(b" of");
-    number(n);
-    ask(wrapper, put(put(s, 1, 7, n), side, 32, place));
 }

@@ -1,11 +1,6 @@
 // Waiting inputs, as a list of rows, each a line.
-use sides::State;
-use test_changes::number;
-use test_changes::put_input;
-use test_changes::write;
-use test_states::ask;
-use test_states::head;
-use values::Value;
+use test_states::Start;
+use test_states::input_case;
 
 // Whether it is allowed; the box; the node; the number of values; the word that each is. The first three are words on a side: the
 // largest number is put as the largest word.
@@ -39,35 +34,12 @@ const INPUTS: [[usize; 5]; 27] = [
     [1, 0, 41, 1, 4000000],
 ];
 
-// The empty tuple for 4000000, or else the name 20.
-fn value_for(w: usize) -> Value {
-    if w == 4000000 {
-        return Value::name(4000000);
-    }
-    Value::name(20)
-}
-
-// A line.
-fn input_case(wrapper: u32, side: u32, s: State, row: [usize; 5]) {
-    head(row[0] == 1, wrapper, side);
-    write(b" input in box");
-    number(row[1]);
-    write(b" node");
-    number(row[2]);
-    write(b" values");
-    number(row[3]);
-    write(b" of");
-    number(row[4]);
-    let v = value_for(row[4]);
-    ask(wrapper, put_input(s, side, row[1], row[2], row[3], v));
-}
-
 // The lines of the list.
-pub fn inputs(wrapper: u32, side: u32, s: State) {
+pub fn inputs(start: Start, side: u32) {
     let mut k: usize = 0;
     while k < 27 {
         let row = INPUTS[k];
-        input_case(wrapper, side, s, row);
+        input_case(row[0] == 1, start, side, row[1], row[2], row[3], row[4]);
         k += 1;
     }
 }

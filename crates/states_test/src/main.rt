@@ -25,77 +25,67 @@ mod cases; // one thing put anew
 mod inputs; // waiting inputs
 
 use cases::cases;
-use cases::taken_case;
 use inputs::inputs;
-use sides::State;
-use test_changes::put;
-use test_changes::write;
+use test_output::write;
+use test_states::Start;
+use test_states::taken_case;
+use test_states::untouched;
 
 // A side under the pipeline. By the counts of the state: one name of side 1, two of side 2.
-fn pipeline(side: u32, s: State) {
-    cases(2, side, s, 0, 32);
-    inputs(2, side, s);
-    cases(2, side, s, 32, 36);
+fn pipeline(side: u32) {
+    cases(Start::Pipeline, side, 0, 32);
+    inputs(Start::Pipeline, side);
+    cases(Start::Pipeline, side, 32, 36);
 }
 
 // The largest serials, with 256 names minted on each side.
-fn largest_serials(s: State) {
-    let t = put(put(s, 1, 9, 256), 2, 9, 256);
+fn largest_serials() {
     write(b"with 256 names minted on each side\n");
-    cases(2, 1, t, 36, 38);
-    cases(2, 2, t, 36, 38);
+    cases(Start::AllMinted, 1, 36, 38);
+    cases(Start::AllMinted, 2, 36, 38);
     write(b"with the names that were minted\n");
 }
 
 // Side 1 has no mark, side 2 only those of places that are filled.
-fn taken_marks(s: State) {
-    taken_case(false, 2, 1, s, 0, 1);
-    taken_case(false, 2, 1, s, 31, 32);
-    taken_case(true, 2, 2, s, 0, 1);
-    taken_case(false, 2, 2, s, 0, 0);
-    taken_case(false, 2, 2, s, 1, 1);
-    taken_case(false, 2, 2, s, 31, 31);
-    taken_case(true, 2, 2, s, 31, 32);
+fn taken_marks() {
+    taken_case(false, Start::Pipeline, 1, 0, 1);
+    taken_case(false, Start::Pipeline, 1, 31, 32);
+    taken_case(true, Start::Pipeline, 2, 0, 1);
+    taken_case(false, Start::Pipeline, 2, 0, 0);
+    taken_case(false, Start::Pipeline, 2, 1, 1);
+    taken_case(false, Start::Pipeline, 2, 31, 31);
+    taken_case(true, Start::Pipeline, 2, 31, 32);
 }
 
 // Places 32 to 63 are for a shelf of side 2, which has none: no side has a mark there, however full side 1's shelf is.
-fn taken_marks_past_32(s: State, f: State) {
-    taken_case(false, 2, 1, s, 32, 32);
-    taken_case(false, 2, 1, s, 63, 32);
-    taken_case(false, 2, 2, s, 32, 32);
-    taken_case(false, 2, 2, s, 63, 32);
-    taken_case(false, 1, 1, f, 32, 0);
-    taken_case(false, 1, 1, f, 63, 0);
-    taken_case(false, 1, 2, f, 32, 0);
-    taken_case(false, 1, 2, f, 63, 0);
+fn taken_marks_past_32() {
+    taken_case(false, Start::Pipeline, 1, 32, 32);
+    taken_case(false, Start::Pipeline, 1, 63, 32);
+    taken_case(false, Start::Pipeline, 2, 32, 32);
+    taken_case(false, Start::Pipeline, 2, 63, 32);
+    taken_case(false, Start::Filter, 1, 32, 0);
+    taken_case(false, Start::Filter, 1, 63, 0);
+    taken_case(false, Start::Filter, 2, 32, 0);
+    taken_case(false, Start::Filter, 2, 63, 0);
 }
 
 // The filter: two names of side 1, none of side 2, which is empty.
-fn filter(s: State) {
-    cases(1, 1, s, 0, 32);
-    inputs(1, 1, s);
-    cases(1, 1, s, 38, 41);
-    taken_case(false, 1, 1, s, 0, 0);
-    cases(1, 2, s, 41, 47);
-    taken_case(false, 1, 2, s, 0, 0);
-}
-
-// The state as it came from load and steps.
-fn untouched(wrapper: u32, s: State) {
-    test_states::head(true, wrapper, 1);
-    write(b" nothing");
-    test_states::ask(wrapper, s);
+fn filter() {
+    cases(Start::Filter, 1, 0, 32);
+    inputs(Start::Filter, 1);
+    cases(Start::Filter, 1, 38, 41);
+    taken_case(false, Start::Filter, 1, 0, 0);
+    cases(Start::Filter, 2, 41, 47);
+    taken_case(false, Start::Filter, 2, 0, 0);
 }
 
 fn main() {
-    let s = test_states::piped();
-    let f = test_states::filtered();
-    untouched(2, s);
-    untouched(1, f);
-    pipeline(1, s);
-    pipeline(2, s);
-    largest_serials(s);
-    taken_marks(s);
-    filter(f);
-    taken_marks_past_32(s, f);
+    untouched(Start::Pipeline);
+    untouched(Start::Filter);
+    pipeline(1);
+    pipeline(2);
+    largest_serials();
+    taken_marks();
+    filter();
+    taken_marks_past_32();
 }

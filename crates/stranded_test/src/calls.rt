@@ -6,8 +6,9 @@ use interpreter::load;
 use interpreter::step;
 use interpreter::stranded;
 use sides::State;
-use test_changes::word;
-use test_changes::write;
+use test_output::number;
+use test_output::word;
+use test_output::write;
 
 // So many, or none.
 fn count_if(lent: bool, n: usize) -> usize
@@ -106,7 +107,7 @@ pub fn begin(question: &[u8], name: &[u8], wrapper: u32, side: u32) {
 // The position of a stranded message, or none.
 fn position(f: Found) {
     match f {
-        Found::At(k) => test_changes::number(k),
+        Found::At(k) => number(k),
         Found::Nothing => write(b" none"),
     }
 }

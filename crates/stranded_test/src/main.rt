@@ -1,6 +1,7 @@
 // What the question `stranded` answers: in lobbies that load and steps give, of a side that is not there, and where tables are refused or the
 // state is not well formed. Then the side in a refusal.
 mod calls; // load, a step and the question `stranded`
+mod changes; // states with one thing put anew
 mod lobbies; // what is stranded in lobbies by load and steps
 mod refusals; // the side of a refused step
 mod unready; // what is stranded where tables are refused or the state is broken

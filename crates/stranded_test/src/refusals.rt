@@ -2,12 +2,13 @@
 use crate::calls::begin;
 use crate::calls::start;
 use crate::calls::stepped;
+use crate::changes::with_minted;
 use sides::State;
 use steps::Said;
-use test_changes::put;
-use test_changes::same_state;
-use test_changes::word;
-use test_changes::write;
+use test_output::number;
+use test_output::same_state;
+use test_output::word;
+use test_output::write;
 
 // A label, or a refusal with its number.
 fn say(said: Said) {
@@ -27,7 +28,7 @@ fn answer(said: Said, side: u32, len: usize, kept: bool) {
     say(said);
     word(side);
     write(b" length");
-    test_changes::number(len);
+    number(len);
     if kept {
         write(b" kept\n");
     } else {
@@ -75,7 +76,7 @@ fn piped(nodes: &[u32], pool: &[u32], s: State) {
 
 // A state that is not well formed, tables that load refuses, and no wrapper: a side that is there, and one that is not.
 fn unready<'a>(nodes: &'a [u32], pool: &[u32], unknown: &'a [u32], s: State) {
-    let t = put(s, 2, 9, 257);
+    let t = with_minted(s, 1, 257);
     line(b"257 names minted on side 2", 2, nodes, nodes, pool, t, 1);
     line(b"257 names minted on side 2", 2, nodes, nodes, pool, t, 7);
     line(b"unknown kind on side 2", 2, nodes, unknown, pool, s, 1);

@@ -1,9 +1,12 @@
 // Nothing is stranded where load refuses the tables or the state is not well formed for them, whatever stands in a lobby.
 use crate::calls::line;
+use crate::changes::with_arrived;
+use crate::changes::with_last_taken;
+use crate::changes::with_messages;
+use crate::changes::with_minted;
 use crate::lobbies::stranded_on_1;
 use crate::lobbies::stranded_on_both;
 use sides::State;
-use test_changes::put;
 
 // Two lines: both sides of the pipeline are asked.
 fn both<'a>(name: &[u8], nodes1: &'a [u32], nodes2: &'a [u32], pool: &[u32], s: State) {
@@ -33,36 +36,33 @@ fn wrappers(nodes: &[u32], pool: &[u32], s: State) {
 
 // States of the pipeline that are broken elsewhere than in a lobby.
 fn elsewhere(nodes: &[u32], pool: &[u32], s: State) {
-    let minted = put(s, 1, 9, 257);
-    let taken = put(s, 1, 32, 63);
+    let minted = with_minted(s, 0, 257);
+    let taken = with_last_taken(s, 0);
     both(b"257 names minted on side 1", nodes, nodes, pool, minted);
     both(b"taken mark on side 1", nodes, nodes, pool, taken);
 }
 
-// A line: a side of the pipeline is asked, whose first message arrived on a channel.
-fn arrived(name: &[u8], nodes: &[u32], pool: &[u32], s: State, side: u32, channel: usize) {
-    let t = put(s, side, 29, channel);
-    line(name, 2, nodes, nodes, pool, t, side);
+// A line: a side of the pipeline is asked.
+fn piped(name: &[u8], nodes: &[u32], pool: &[u32], s: State, side: u32) {
+    line(name, 2, nodes, nodes, pool, s, side);
 }
 
 // The stranded message itself: on `mid`, which side 1's lobby may not have, on the last public name, and on a number that is no name.
 fn channels(nodes: &[u32], pool: &[u32], s: State) {
-    arrived(b"arrived on mid", nodes, pool, s, 1, 2);
-    arrived(b"arrived on mid", nodes, pool, s, 2, 2);
-    arrived(b"arrived on 63", nodes, pool, s, 1, 63);
-    arrived(b"arrived on 64", nodes, pool, s, 1, 64);
-    arrived(b"arrived on 64", nodes, pool, s, 2, 64);
+    piped(b"arrived on mid", nodes, pool, with_arrived(s, 0, 2), 1);
+    piped(b"arrived on mid", nodes, pool, with_arrived(s, 1, 2), 2);
+    piped(b"arrived on 63", nodes, pool, with_arrived(s, 0, 63), 1);
+    piped(b"arrived on 64", nodes, pool, with_arrived(s, 0, 64), 1);
+    piped(b"arrived on 64", nodes, pool, with_arrived(s, 1, 64), 2);
 }
 
 // The first of 16 messages, the first of 17, and one of the filter's side 2.
 fn counts(nodes: &[u32], pool: &[u32], s: State) {
     let none = &nodes[..0];
     let f = stranded_on_1(1, nodes, none, pool);
-    let full = put(put(s, 2, 5, 16), 2, 29, 0);
-    let over = put(put(s, 2, 5, 17), 2, 29, 0);
-    let second = put(put(f, 2, 5, 1), 2, 29, 0);
-    line(b"first of 16", 2, nodes, nodes, pool, full, 2);
-    line(b"first of 17", 2, nodes, nodes, pool, over, 2);
+    let second = with_messages(f, 1, 1);
+    piped(b"first of 16", nodes, pool, with_messages(s, 1, 16), 2);
+    piped(b"first of 17", nodes, pool, with_messages(s, 1, 17), 2);
     line(b"message on side 2", 1, nodes, none, pool, second, 1);
     line(b"message on side 2", 1, nodes, none, pool, second, 2);
 }

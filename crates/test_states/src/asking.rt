@@ -1,14 +1,15 @@
 // What a step of a state answers.
 use super::handler::stepped;
+use super::starts::started;
+use super::starts::wrapper_of;
+use crate::Start;
 use interpreter::Stepped;
+use interpreter::step;
 use sides::State;
 use steps::Said;
-use test_changes::label;
-use test_changes::number;
-use test_changes::put;
-use test_changes::same_state;
-use test_changes::word;
-use test_changes::write;
+use test_output::same_state;
+use test_output::word;
+use test_output::write;
 
 // What a step says.
 fn say(said: Said) {
@@ -24,7 +25,7 @@ fn say(said: Said) {
 }
 
 // What a step says, and whether the state that comes back is the one that was passed.
-pub fn answer(s: State, r: Stepped) {
+fn answer(s: State, r: Stepped) {
     let said = r.said;
     let t = r.state;
     say(said);
@@ -35,23 +36,9 @@ pub fn answer(s: State, r: Stepped) {
     }
 }
 
-// How a line begins: whether the state is allowed, the wrapper and the side.
-pub fn head(good: bool, wrapper: u32, side: u32) {
-    if good {
-        write(b"allowed");
-    } else {
-        write(b"broken");
-    }
-    if wrapper == 2 {
-        write(b" pipeline");
-    } else {
-        write(b" filter");
-    }
-    word(side);
-}
-
-// How it ends: the answer to `enter` with the name 20, by each side that the wrapper has.
-pub fn ask(wrapper: u32, s: State) {
+// How a line ends: the answer to `enter` with the name 20, by each side that the wrapper has.
+pub(crate) fn ask(start: Start, s: State) {
+    let wrapper = wrapper_of(start);
     let given: [u32; 1] = [20];
     write(b":");
     answer(s, stepped(wrapper, s, 1, 1, 0, 0, &given));
@@ -62,12 +49,38 @@ pub fn ask(wrapper: u32, s: State) {
     write(b"\n");
 }
 
-// A line: one thing put anew on a side. It has no number after it where it is fields that are not read, 33 and 34.
-pub fn case(good: bool, wrapper: u32, side: u32, s: State, what: usize, n: usize) {
-    head(good, wrapper, side);
-    label(what);
-    if what < 33 {
-        number(n);
-    }
-    ask(wrapper, put(s, side, what, n));
+// The answer of side 1 to the same, with tables that may be others than those of the state.
+pub fn answered<'n, 'p>(
+    wrapper: u32,
+    nodes1: &'n [u32],
+    pool1: &'p [u32],
+    nodes2: &'n [u32],
+    pool2: &'p [u32],
+    s: State,
+) {
+    let given: [u32; 1] = [20];
+    let r = step(
+        wrapper,
+        [nodes1, nodes2],
+        [pool1, pool2],
+        s,
+        1,
+        1,
+        0,
+        0,
+        &given,
+    );
+    answer(s, r);
+}
+
+// The same of a state to start from.
+pub fn start_answered<'n, 'p>(
+    start: Start,
+    wrapper: u32,
+    nodes1: &'n [u32],
+    pool1: &'p [u32],
+    nodes2: &'n [u32],
+    pool2: &'p [u32],
+) {
+    answered(wrapper, nodes1, pool1, nodes2, pool2, started(start));
 }

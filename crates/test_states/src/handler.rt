@@ -1,11 +1,11 @@
-// The handler's table, and the states to break, by load and steps.
+// The handler's table, and states of it by load and steps.
 ghost use Prim.Native.Nat.{_<_, _≤_};
 use interpreter::LoadAnswer;
 use interpreter::Stepped;
 use interpreter::load;
 use interpreter::step;
 use sides::State;
-use test_changes::size;
+use test_output::size;
 
 // The words of the nodes.
 struct Words {
@@ -122,7 +122,7 @@ fn loaded(wrapper: u32) -> LoadAnswer {
 }
 
 // A step of such a state.
-pub fn stepped(
+pub(crate) fn stepped(
     wrapper: u32,
     s: State,
     kind: u32,
@@ -195,7 +195,7 @@ fn next(wrapper: u32, s: State, k: usize) -> State
 }
 
 // The state that load gives, after a part of the list.
-fn after(wrapper: u32, from: usize, to: usize) -> State
+pub(crate) fn after(wrapper: u32, from: usize, to: usize) -> State
     requires { ⌜ to ≤ 25 ⌝ }
 {
     let a = loaded(wrapper);
@@ -206,14 +206,4 @@ fn after(wrapper: u32, from: usize, to: usize) -> State
         k += 1;
     }
     s
-}
-
-// Under the pipeline: side 1 has minted one name, side 2 two.
-pub fn piped() -> State {
-    after(2, 0, 16)
-}
-
-// Under the filter: two names minted.
-pub fn filtered() -> State {
-    after(1, 16, 25)
 }

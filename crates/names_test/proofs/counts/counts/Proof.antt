@@ -5,10 +5,10 @@ use Rattle.names_test.proofs.counts.counts.Statement.{statement}
 use Rattle.names_test.proofs.counts.counts.Tie as tie
 
 abbrev Inv-loop : tie.InvT-loop
-Inv-loop wrapper side s k₀ k = k ≤ 10
+Inv-loop start side k₀ k = k ≤ 10
 
 abbrev μ-loop : tie.MeasureT-loop
-μ-loop wrapper side s k₀ k = 10 - k
+μ-loop start side k₀ k = 10 - k
 
 loop-holds : tie.Need-loop-holds Inv-loop μ-loop
 loop-holds c = search needs

@@ -5,10 +5,10 @@ use Rattle.names_test.proofs.names.names.Statement.{statement}
 use Rattle.names_test.proofs.names.names.Tie as tie
 
 abbrev Inv-loop : tie.InvT-loop
-Inv-loop good wrapper side s from to words k₀ k = to ≤ 19
+Inv-loop good start side from to words k₀ k = to ≤ 19
 
 abbrev μ-loop : tie.MeasureT-loop
-μ-loop good wrapper side s from to words k₀ k = to - k
+μ-loop good start side from to words k₀ k = to - k
 
 loop-holds : tie.Need-loop-holds Inv-loop μ-loop
 loop-holds c = search needs

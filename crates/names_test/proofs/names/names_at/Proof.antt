@@ -6,10 +6,10 @@ use Rattle.names_test.proofs.names.names_at.Statement.{statement}
 use Rattle.names_test.proofs.names.names_at.Tie as tie
 
 abbrev Inv-loop : tie.InvT-loop
-Inv-loop good wrapper side s place words k₀ k = (k ≤ length words) × (length words ≤ 8)
+Inv-loop good start side place words k₀ k = (k ≤ length words) × (length words ≤ 8)
 
 abbrev μ-loop : tie.MeasureT-loop
-μ-loop good wrapper side s place words k₀ k = length words - k
+μ-loop good start side place words k₀ k = length words - k
 
 returns : tie.Need-returns Inv-loop μ-loop
 returns c = search needs

@@ -5,10 +5,10 @@ use Rattle.states_test.proofs.cases.cases.Statement.{statement}
 use Rattle.states_test.proofs.cases.cases.Tie as tie
 
 abbrev Inv-loop : tie.InvT-loop
-Inv-loop wrapper side s from to k₀ k = to ≤ 47
+Inv-loop start side from to k₀ k = to ≤ 47
 
 abbrev μ-loop : tie.MeasureT-loop
-μ-loop wrapper side s from to k₀ k = to - k
+μ-loop start side from to k₀ k = to - k
 
 loop-holds : tie.Need-loop-holds Inv-loop μ-loop
 loop-holds c = search needs

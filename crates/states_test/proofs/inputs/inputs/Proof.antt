@@ -5,10 +5,10 @@ use Rattle.states_test.proofs.inputs.inputs.Statement.{statement}
 use Rattle.states_test.proofs.inputs.inputs.Tie as tie
 
 abbrev Inv-loop : tie.InvT-loop
-Inv-loop wrapper side s k₀ k = k ≤ 27
+Inv-loop start side k₀ k = k ≤ 27
 
 abbrev μ-loop : tie.MeasureT-loop
-μ-loop wrapper side s k₀ k = 27 - k
+μ-loop start side k₀ k = 27 - k
 
 loop-holds : tie.Need-loop-holds Inv-loop μ-loop
 loop-holds c = search needs
@@ -43,6 +43,11 @@ inputs-spec =
     loop-holds
     mul-row
     array-copy-out-row
+    (λ c. search needs)
+    (λ c. search needs)
+    (λ c. search needs)
+    (λ c. search needs)
+    (λ c. search needs)
     input-case-requires
     add-k
     loop-less

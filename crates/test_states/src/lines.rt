@@ -1,0 +1,112 @@
+// Lines. Each starts from a state that is made for it.
+use super::asking::ask;
+use super::changes::thing;
+use super::changes::valued;
+use super::changes::waiting;
+use super::labels::label;
+use super::puts::put;
+use super::starts::started;
+use super::starts::wrapper_of;
+use crate::Start;
+use test_output::number;
+use test_output::same_state;
+use test_output::word;
+use test_output::write;
+use values::Value;
+
+// How a line begins: whether the state is allowed, the wrapper and the side.
+fn head(good: bool, start: Start, side: u32) {
+    if good {
+        write(b"allowed");
+    } else {
+        write(b"broken");
+    }
+    if wrapper_of(start) == 2 {
+        write(b" pipeline");
+    } else {
+        write(b" filter");
+    }
+    word(side);
+}
+
+// The state as it came from load and steps.
+pub fn untouched(start: Start) {
+    head(true, start, 1);
+    write(b" nothing");
+    ask(start, started(start));
+}
+
+// One thing put anew on a side. It has no number after it where it is fields that are not read, 33 and 34.
+pub fn case(good: bool, start: Start, side: u32, what: usize, n: usize) {
+    head(good, start, side);
+    label(what);
+    if what < 33 {
+        number(n);
+    }
+    ask(start, put(started(start), side, thing(what, n)));
+}
+
+// A place marked as taken, with so many on side 1's shelf.
+pub fn taken_case(good: bool, start: Start, side: u32, place: usize, n: usize) {
+    head(good, start, side);
+    label(32);
+    number(place);
+    write(b" of");
+    number(n);
+    let s = put(started(start), 1, thing(7, n));
+    ask(start, put(s, side, thing(32, place)));
+}
+
+// An input that waits in a box, at a node, with n values, each the same word.
+pub fn input_case(good: bool, start: Start, side: u32, at: usize, node: usize, n: usize, w: usize) {
+    head(good, start, side);
+    write(b" input in box");
+    number(at);
+    write(b" node");
+    number(node);
+    write(b" values");
+    number(n);
+    write(b" of");
+    number(w);
+    ask(start, put(started(start), side, waiting(at, node, n, w)));
+}
+
+// The length of a value, and its words; then its last place, where that is past the length and not 0.
+fn write_value(v: Value) {
+    let n = v.count();
+    let last = v.words[15];
+    write(b" length");
+    number(v.len);
+    let mut k: usize = 0;
+    while k < n {
+        word(v.words[k]);
+        k += 1;
+    }
+    if n < 16 {
+        if last != 0 {
+            write(b" past it");
+            word(last);
+        }
+    }
+}
+
+// A value at a place that holds one, 15 to 18.
+pub fn value_case(good: bool, start: Start, side: u32, place: usize, v: Value) {
+    head(good, start, side);
+    label(place);
+    write_value(v);
+    ask(start, put(started(start), side, valued(place, v)));
+}
+
+// Whether it is seen that two states of the pipeline differ, of which each has one thing put anew on a side.
+pub fn compare(name: &[u8], side: u32, what: usize, n: usize, other: usize, m: usize) {
+    write(b"compared");
+    word(side);
+    write(name);
+    let s = started(Start::Pipeline);
+    if same_state(put(s, side, thing(what, n)), put(s, side, thing(other, m))) {
+        write(b": same\n");
+    } else {
+        write(b": different\n");
+    }
+}

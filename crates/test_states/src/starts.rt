@@ -1,0 +1,33 @@
+// The states to start from.
+ghost use mathlib.Core.Path.{_≡_};
+ghost use Rattle.test_states.specs.Starts.{wrapperOf};
+use super::changes::thing;
+use super::handler::after;
+use super::puts::put;
+use crate::Start;
+use sides::State;
+
+// The number of its wrapper.
+pub fn wrapper_of(start: Start) -> u32
+    ensures { λ r. ⌜ r ≡ wrapperOf start ⌝ }
+{
+    match start {
+        Start::Pipeline => 2,
+        Start::Filter => 1,
+        Start::AllMinted => 2,
+    }
+}
+
+// The pipeline's, with the largest count of minted names on each side.
+fn all_minted() -> State {
+    let s = after(2, 0, 16);
+    put(put(s, 1, thing(9, 256)), 2, thing(9, 256))
+}
+
+pub(crate) fn started(start: Start) -> State {
+    match start {
+        Start::Pipeline => after(2, 0, 16),
+        Start::Filter => after(1, 16, 25),
+        Start::AllMinted => all_minted(),
+    }
+}
