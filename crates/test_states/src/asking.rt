@@ -1,5 +1,8 @@
 // What a step of a state answers.
+use super::changes::Change;
 use super::handler::stepped;
+use super::puts::put;
+use super::puts::put_thing;
 use super::starts::started;
 use super::starts::wrapper_of;
 use crate::Start;
@@ -36,20 +39,36 @@ fn answer(s: State, r: Stepped) {
     }
 }
 
-// How a line ends: the answer to `enter` with the name 20, by each side that the wrapper has.
+// The answer of a side to `enter` with the name 20.
+fn entered(wrapper: u32, s: State, side: u32) {
+    let given: [u32; 1] = [20];
+    answer(s, stepped(wrapper, s, 1, side, 0, 0, &given));
+}
+
+// How a line ends: that answer, by each side that the wrapper has.
 pub(crate) fn ask(start: Start, s: State) {
     let wrapper = wrapper_of(start);
-    let given: [u32; 1] = [20];
     write(b":");
-    answer(s, stepped(wrapper, s, 1, 1, 0, 0, &given));
+    entered(wrapper, s, 1);
     if wrapper == 2 {
         write(b",");
-        answer(s, stepped(wrapper, s, 1, 2, 0, 0, &given));
+        entered(wrapper, s, 2);
     }
     write(b"\n");
 }
 
-// The answer of side 1 to the same, with tables that may be others than those of the state.
+// The same with one thing put anew on a side.
+pub(crate) fn ask_changed(start: Start, side: u32, c: Change) {
+    ask(start, put(started(start), side, c));
+}
+
+// The same with a place marked as taken, and so many on side 1's shelf.
+pub(crate) fn ask_taken(start: Start, side: u32, place: usize, n: usize) {
+    let s = put_thing(started(start), 1, 7, n);
+    ask(start, put_thing(s, side, 32, place));
+}
+
+// The answer of side 1 to `enter` with the name 20, with tables that may be others than those of the state.
 pub fn answered<'n, 'p>(
     wrapper: u32,
     nodes1: &'n [u32],

@@ -1,10 +1,12 @@
 // Lines. Each starts from a state that is made for it.
 use super::asking::ask;
+use super::asking::ask_changed;
+use super::asking::ask_taken;
 use super::changes::thing;
 use super::changes::valued;
 use super::changes::waiting;
 use super::labels::label;
-use super::puts::put;
+use super::puts::put_thing;
 use super::starts::started;
 use super::starts::wrapper_of;
 use crate::Start;
@@ -43,7 +45,7 @@ pub fn case(good: bool, start: Start, side: u32, what: usize, n: usize) {
     if what < 33 {
         number(n);
     }
-    ask(start, put(started(start), side, thing(what, n)));
+    ask_changed(start, side, thing(what, n));
 }
 
 // A place marked as taken, with so many on side 1's shelf.
@@ -53,8 +55,7 @@ pub fn taken_case(good: bool, start: Start, side: u32, place: usize, n: usize) {
     number(place);
     write(b" of");
     number(n);
-    let s = put(started(start), 1, thing(7, n));
-    ask(start, put(s, side, thing(32, place)));
+    ask_taken(start, side, place, n);
 }
 
 // An input that waits in a box, at a node, with n values, each the same word.
@@ -68,7 +69,7 @@ pub fn input_case(good: bool, start: Start, side: u32, at: usize, node: usize, n
     number(n);
     write(b" of");
     number(w);
-    ask(start, put(started(start), side, waiting(at, node, n, w)));
+    ask_changed(start, side, waiting(at, node, n, w));
 }
 
 // The length of a value, and its words; then its last place, where that is past the length and not 0.
@@ -95,16 +96,21 @@ pub fn value_case(good: bool, start: Start, side: u32, place: usize, v: Value) {
     head(good, start, side);
     label(place);
     write_value(v);
-    ask(start, put(started(start), side, valued(place, v)));
+    ask_changed(start, side, valued(place, v));
 }
 
-// Whether it is seen that two states of the pipeline differ, of which each has one thing put anew on a side.
+// Whether two states of the pipeline are the same, of which each has one thing put anew on a side.
+fn is_same(side: u32, what: usize, n: usize, other: usize, m: usize) -> bool {
+    let s = started(Start::Pipeline);
+    same_state(put_thing(s, side, what, n), put_thing(s, side, other, m))
+}
+
+// Whether that is seen, with what differs.
 pub fn compare(name: &[u8], side: u32, what: usize, n: usize, other: usize, m: usize) {
     write(b"compared");
     word(side);
     write(name);
-    let s = started(Start::Pipeline);
-    if same_state(put(s, side, thing(what, n)), put(s, side, thing(other, m))) {
+    if is_same(side, what, n, other, m) {
         write(b": same\n");
     } else {
         write(b": different\n");

@@ -1,5 +1,6 @@
 // A state with one thing put anew on a side.
 use super::changes::Change;
+use super::changes::thing;
 use super::in_rest::changed_rest;
 use super::in_rest::mark_left;
 use super::in_words::put_words;
@@ -36,4 +37,9 @@ pub(crate) fn put(mut s: State, side: u32, c: Change) -> State {
         s.sides[k] = changed(s.sides[k], c);
     }
     s
+}
+
+// So much, or that one.
+pub(crate) fn put_thing(s: State, side: u32, what: usize, n: usize) -> State {
+    put(s, side, thing(what, n))
 }

@@ -1,9 +1,8 @@
 // The states to start from.
 ghost use mathlib.Core.Path.{_≡_};
 ghost use Rattle.test_states.specs.Starts.{wrapperOf};
-use super::changes::thing;
 use super::handler::after;
-use super::puts::put;
+use super::puts::put_thing;
 use crate::Start;
 use sides::State;
 
@@ -20,8 +19,7 @@ pub fn wrapper_of(start: Start) -> u32
 
 // The pipeline's, with the largest count of minted names on each side.
 fn all_minted() -> State {
-    let s = after(2, 0, 16);
-    put(put(s, 1, thing(9, 256)), 2, thing(9, 256))
+    put_thing(put_thing(after(2, 0, 16), 1, 9, 256), 2, 9, 256)
 }
 
 pub(crate) fn started(start: Start) -> State {
