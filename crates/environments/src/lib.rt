@@ -1,4 +1,4 @@
-// An environment in 144 lent words (crate rows): refusals 15 and 16 of a term in it, that of a waiting input, a match bound in it.
+// An environment in 144 lent words (crate sides): refusals 15 and 16 of a term in it, that of a waiting input, a match bound in it.
 ghost use mathlib.Core.Path.{_≡_};
 
 mod defined;

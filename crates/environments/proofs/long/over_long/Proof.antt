@@ -5,7 +5,6 @@ use lib.ListN.{length, take}
 use Rattle.environments.specs.Long.{sizeBy}
 use Rattle.environments.proofs.Sizes.{size-none, size-next, size-over, size-all}
 use borrow.Author.Needs.{needs}
-use native.Mathlib.Omega.{arith}
 use Rattle.environments.proofs.long.over_long.Statement.{statement}
 use Rattle.environments.proofs.long.over_long.Tie as tie
 
