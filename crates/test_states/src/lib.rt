@@ -4,7 +4,6 @@ mod changes; // what is put anew, by its number
 mod handler; // the table, and states by load and steps
 mod in_rest; // what is put anew in counts, lobby and marks
 mod in_words; // what is put anew in the words
-mod labels; // what a line says is put anew
 mod lines; // lines
 mod lists; // lists that are well formed but for their count or their last row
 mod places; // a row, a box, a shelf value in the words

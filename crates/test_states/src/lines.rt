@@ -5,15 +5,16 @@ use super::asking::ask_taken;
 use super::changes::thing;
 use super::changes::valued;
 use super::changes::waiting;
-use super::labels::label;
 use super::puts::put_thing;
 use super::starts::started;
 use super::starts::wrapper_of;
 use crate::Start;
+use test_output::label;
 use test_output::number;
 use test_output::same_state;
 use test_output::word;
 use test_output::write;
+use test_output::write_value;
 use values::Value;
 
 // How a line begins: whether the state is allowed, the wrapper and the side.
@@ -70,25 +71,6 @@ pub fn input_case(good: bool, start: Start, side: u32, at: usize, node: usize, n
     write(b" of");
     number(w);
     ask_changed(start, side, waiting(at, node, n, w));
-}
-
-// The length of a value, and its words; then its last place, where that is past the length and not 0.
-fn write_value(v: Value) {
-    let n = v.count();
-    let last = v.words[15];
-    write(b" length");
-    number(v.len);
-    let mut k: usize = 0;
-    while k < n {
-        word(v.words[k]);
-        k += 1;
-    }
-    if n < 16 {
-        if last != 0 {
-            write(b" past it");
-            word(last);
-        }
-    }
 }
 
 // A value at a place that holds one, 15 to 18.

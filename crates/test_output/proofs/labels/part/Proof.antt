@@ -1,9 +1,9 @@
--- `test_states::labels::part` meets its contract: the loop reads bytes of the text.
+-- `test_output::labels::part` meets its contract: the loop reads bytes of the text.
 use Prim.Native.Nat.{_-_, _≤_}
 use borrow.Author.Needs.{needs}
 use lib.ListN.{length}
-use Rattle.test_states.proofs.labels.part.Statement.{statement}
-use Rattle.test_states.proofs.labels.part.Tie as tie
+use Rattle.test_output.proofs.labels.part.Statement.{statement}
+use Rattle.test_output.proofs.labels.part.Tie as tie
 
 abbrev Inv-loop : tie.InvT-loop
 Inv-loop text slashes left₀ i₀ left i = i ≤ length text

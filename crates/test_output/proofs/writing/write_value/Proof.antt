@@ -1,8 +1,8 @@
--- `test_states::lines::write_value` meets its contract: the loop reads words below 16.
+-- `test_output::writing::write_value` meets its contract: the loop reads words below 16.
 use Prim.Native.Nat.{_-_, _≤_}
 use borrow.Author.Needs.{needs}
-use Rattle.test_states.proofs.lines.write_value.Statement.{statement}
-use Rattle.test_states.proofs.lines.write_value.Tie as tie
+use Rattle.test_output.proofs.writing.write_value.Statement.{statement}
+use Rattle.test_output.proofs.writing.write_value.Tie as tie
 
 abbrev Inv-loop : tie.InvT-loop
 Inv-loop v n last k₀ t7 k = (k ≤ n) × (n ≤ 16)

@@ -1,5 +1,5 @@
-// What a line says is put anew.
-use test_output::write;
+// What a line says is put anew on a side.
+use super::writing::write;
 
 // Writes the part of a text that stands after so many slashes.
 fn part(text: &[u8], slashes: usize) {
@@ -21,7 +21,8 @@ fn part(text: &[u8], slashes: usize) {
     }
 }
 
-pub(crate) fn label(what: usize) {
+// What is put anew on a side, by its number (test_states, changes.rt).
+pub fn label(what: usize) {
     write(b" ");
     if what < 10 {
         part(
