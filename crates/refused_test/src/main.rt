@@ -6,9 +6,9 @@
 ghost use Prim.Native.Nat.{_≤_};
 use interpreter::load;
 use sides::State;
+use test_answers::entered;
 use test_output::write;
 use test_states::Start;
-use test_states::answered;
 use test_states::start_answered;
 
 // A table that load takes, and its pool: it sends `mid` up.
@@ -48,9 +48,9 @@ fn table_case<'n, 'p>(
 ) {
     let s = sends();
     begin(good, name);
-    answered(2, nodes, pool, sound, words, s);
+    entered(2, nodes, pool, sound, words, s, 1);
     write(b",");
-    answered(2, sound, words, nodes, pool, s);
+    entered(2, sound, words, nodes, pool, s, 1);
     write(b"\n");
 }
 
@@ -169,7 +169,7 @@ fn line<'n, 'p>(
     s: State,
 ) {
     begin(good, name);
-    answered(wrapper, nodes1, pool1, nodes2, pool2, s);
+    entered(wrapper, nodes1, pool1, nodes2, pool2, s, 1);
     write(b"\n");
 }
 

@@ -5,6 +5,7 @@ use interpreter::Stepped;
 use interpreter::load;
 use interpreter::step;
 use sides::State;
+use test_answers::entered;
 use test_output::size;
 
 // The words of the nodes.
@@ -122,7 +123,7 @@ fn loaded(wrapper: u32) -> LoadAnswer {
 }
 
 // A step of such a state.
-pub(crate) fn stepped(
+fn stepped(
     wrapper: u32,
     s: State,
     kind: u32,
@@ -149,6 +150,18 @@ pub(crate) fn stepped(
         j,
         given,
     )
+}
+
+// What a side answers to `enter` with the name 20, and whether it leaves the state as it was.
+pub(crate) fn own_entered(wrapper: u32, s: State, side: u32) {
+    let t = table();
+    let nodes = t.nodes;
+    let pool = POOL;
+    let both = &nodes[..];
+    let words = &pool[..];
+    let n = count_if(wrapper == 2, both.len());
+    let m = count_if(wrapper == 2, words.len());
+    entered(wrapper, both, words, &both[0..n], &words[0..m], s, side);
 }
 
 // Steps: kind, side, two places, name.

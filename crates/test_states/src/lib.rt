@@ -10,7 +10,6 @@ mod places; // a row, a box, a shelf value in the words
 mod puts; // a state with one thing put anew
 mod starts; // the states to start from
 
-pub use asking::answered;
 pub use asking::start_answered;
 pub use lines::case;
 pub use lines::compare;
