@@ -6,7 +6,7 @@
 ghost use Prim.Native.Nat.{_≤_};
 use interpreter::load;
 use sides::State;
-use test_answers::entered;
+use test_changes::entered;
 use test_output::write;
 use test_states::Start;
 use test_states::start_answered;

@@ -5,7 +5,8 @@ use interpreter::Stepped;
 use interpreter::load;
 use interpreter::step;
 use sides::State;
-use test_answers::entered;
+use test_changes::Change;
+use test_changes::entered_changed;
 use test_output::size;
 
 // The words of the nodes.
@@ -152,8 +153,8 @@ fn stepped(
     )
 }
 
-// What a side answers to `enter` with the name 20, and whether it leaves the state as it was.
-pub(crate) fn own_entered(wrapper: u32, s: State, side: u32) {
+// What a side answers to `enter` with the name 20 where two things are put anew, and whether it leaves the state as it was.
+pub(crate) fn own_entered(wrapper: u32, s: State, side: u32, a: Change, b: Change) {
     let t = table();
     let nodes = t.nodes;
     let pool = POOL;
@@ -161,7 +162,17 @@ pub(crate) fn own_entered(wrapper: u32, s: State, side: u32) {
     let words = &pool[..];
     let n = count_if(wrapper == 2, both.len());
     let m = count_if(wrapper == 2, words.len());
-    entered(wrapper, both, words, &both[0..n], &words[0..m], s, side);
+    entered_changed(
+        wrapper,
+        both,
+        words,
+        &both[0..n],
+        &words[0..m],
+        s,
+        side,
+        a,
+        b,
+    );
 }
 
 // Steps: kind, side, two places, name.

@@ -1,13 +1,8 @@
 // States by load and steps with one thing put anew on a side, well formed or not, and lines about what a step of them answers.
 mod asking; // what a step of a state answers
-mod changes; // what is put anew, by its number
+mod changes; // what is put anew
 mod handler; // the table, and states by load and steps
-mod in_rest; // what is put anew in counts, lobby and marks
-mod in_words; // what is put anew in the words
 mod lines; // lines
-mod lists; // lists that are well formed but for their count or their last row
-mod places; // a row, a box, a shelf value in the words
-mod puts; // a state with one thing put anew
 mod starts; // the states to start from
 
 pub use asking::start_answered;

@@ -1,17 +1,16 @@
 // Lines. Each starts from a state that is made for it.
 use super::asking::ask;
-use super::asking::ask_changed;
-use super::asking::ask_taken;
+use super::changes::base;
+use super::changes::nothing;
 use super::changes::thing;
 use super::changes::valued;
 use super::changes::waiting;
-use super::puts::put_thing;
 use super::starts::started;
 use super::starts::wrapper_of;
 use crate::Start;
+use test_changes::compared;
 use test_output::label;
 use test_output::number;
-use test_output::same_state;
 use test_output::word;
 use test_output::write;
 use test_output::write_value;
@@ -36,7 +35,7 @@ fn head(good: bool, start: Start, side: u32) {
 pub fn untouched(start: Start) {
     head(true, start, 1);
     write(b" nothing");
-    ask(start, started(start));
+    ask(start, base(start), nothing());
 }
 
 // One thing put anew on a side. It has no number after it where it is fields that are not read, 33 and 34.
@@ -46,7 +45,7 @@ pub fn case(good: bool, start: Start, side: u32, what: usize, n: usize) {
     if what < 33 {
         number(n);
     }
-    ask_changed(start, side, thing(what, n));
+    ask(start, base(start), thing(side, what, n));
 }
 
 // A place marked as taken, with so many on side 1's shelf.
@@ -56,7 +55,7 @@ pub fn taken_case(good: bool, start: Start, side: u32, place: usize, n: usize) {
     number(place);
     write(b" of");
     number(n);
-    ask_taken(start, side, place, n);
+    ask(start, thing(1, 7, n), thing(side, 32, place));
 }
 
 // An input that waits in a box, at a node, with n values, each the same word.
@@ -70,7 +69,7 @@ pub fn input_case(good: bool, start: Start, side: u32, at: usize, node: usize, n
     number(n);
     write(b" of");
     number(w);
-    ask_changed(start, side, waiting(at, node, n, w));
+    ask(start, base(start), waiting(side, at, node, n, w));
 }
 
 // A value at a place that holds one, 15 to 18.
@@ -78,23 +77,17 @@ pub fn value_case(good: bool, start: Start, side: u32, place: usize, v: Value) {
     head(good, start, side);
     label(place);
     write_value(v);
-    ask_changed(start, side, valued(place, v));
+    ask(start, base(start), valued(side, place, v));
 }
 
-// Whether two states of the pipeline are the same, of which each has one thing put anew on a side.
-fn is_same(side: u32, what: usize, n: usize, other: usize, m: usize) -> bool {
-    let s = started(Start::Pipeline);
-    same_state(put_thing(s, side, what, n), put_thing(s, side, other, m))
-}
-
-// Whether that is seen, with what differs.
+// Whether it is seen that two states of the pipeline differ, of which each has one thing put anew on a side.
 pub fn compare(name: &[u8], side: u32, what: usize, n: usize, other: usize, m: usize) {
     write(b"compared");
     word(side);
     write(name);
-    if is_same(side, what, n, other, m) {
-        write(b": same\n");
-    } else {
-        write(b": different\n");
-    }
+    compared(
+        started(Start::Pipeline),
+        thing(side, what, n),
+        thing(side, other, m),
+    );
 }

@@ -1,9 +1,9 @@
 // A state with one thing put anew on a side.
-use super::changes::Change;
-use super::changes::thing;
+use super::changes::minted;
 use super::in_rest::changed_rest;
 use super::in_rest::mark_left;
 use super::in_words::put_words;
+use crate::Change;
 use sides::Side;
 use sides::Sides;
 use sides::State;
@@ -31,15 +31,17 @@ fn changed(o: Side, c: Change) -> Side {
 }
 
 // A state is as it was where the side is none.
-pub(crate) fn put(mut s: State, side: u32, c: Change) -> State {
-    let k = place_of(side);
+fn put_on(mut s: State, c: Change) -> State {
+    let k = place_of(c.side);
     if k < Sides::COUNT {
         s.sides[k] = changed(s.sides[k], c);
     }
     s
 }
 
-// So much, or that one.
-pub(crate) fn put_thing(s: State, side: u32, what: usize, n: usize) -> State {
-    put(s, side, thing(what, n))
+pub(crate) fn put(s: State, c: Change) -> State {
+    if c.what == 39 {
+        return put_on(put_on(s, minted(1)), minted(2));
+    }
+    put_on(s, c)
 }

@@ -1,8 +1,9 @@
 // What is put anew in a side but in its words, by its number (changes.rt): the counts, the lobby, the marks.
-use super::changes::Change;
+use super::changes::value_of;
 use super::lists::lobby_of;
 use super::lists::words_of;
 use super::places::as_word;
+use crate::Change;
 use sides::Message;
 use sides::Rest;
 use sides::Sides;
@@ -100,7 +101,7 @@ fn marked(r: Rest, what: usize, n: usize) -> Rest {
 pub(crate) fn changed_rest(r: Rest, c: Change) -> Rest {
     let what = c.what;
     let n = c.n;
-    let v = c.value;
+    let v = value_of(c);
     if what < 10 {
         return counted(r, what, n);
     }

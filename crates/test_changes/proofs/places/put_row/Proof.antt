@@ -1,8 +1,8 @@
--- `test_states::places::put_row` meets its contract: the loop goes over the eight places.
+-- `test_changes::places::put_row` meets its contract: the loop goes over the eight places.
 use Prim.Native.Nat.{_-_, _≤_}
 use borrow.Author.Needs.{needs}
-use Rattle.test_states.proofs.places.put_row.Statement.{statement}
-use Rattle.test_states.proofs.places.put_row.Tie as tie
+use Rattle.test_changes.proofs.places.put_row.Statement.{statement}
+use Rattle.test_changes.proofs.places.put_row.Tie as tie
 
 abbrev Inv-loop : tie.InvT-loop
 Inv-loop words₀ i v n none k₀ words k = k ≤ 8

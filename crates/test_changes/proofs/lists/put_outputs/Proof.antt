@@ -1,8 +1,8 @@
--- `test_states::lists::put_outputs` meets its contract: the loop goes over rows below 31.
+-- `test_changes::lists::put_outputs` meets its contract: the loop goes over rows below 31.
 use Prim.Native.Nat.{_-_, _≤_}
 use borrow.Author.Needs.{needs}
-use Rattle.test_states.proofs.lists.put_outputs.Statement.{statement}
-use Rattle.test_states.proofs.lists.put_outputs.Tie as tie
+use Rattle.test_changes.proofs.lists.put_outputs.Statement.{statement}
+use Rattle.test_changes.proofs.lists.put_outputs.Tie as tie
 
 abbrev Inv-loop : tie.InvT-loop
 Inv-loop words₀ last v k₀ words k = k ≤ 31

@@ -1,8 +1,8 @@
--- `test_states::lists::put_boxes` meets its contract: the loop goes over boxes below 15.
+-- `test_changes::lists::put_boxes` meets its contract: the loop goes over boxes below 15.
 use Prim.Native.Nat.{_-_, _≤_}
 use borrow.Author.Needs.{needs}
-use Rattle.test_states.proofs.lists.put_boxes.Statement.{statement}
-use Rattle.test_states.proofs.lists.put_boxes.Tie as tie
+use Rattle.test_changes.proofs.lists.put_boxes.Statement.{statement}
+use Rattle.test_changes.proofs.lists.put_boxes.Tie as tie
 
 abbrev Inv-loop : tie.InvT-loop
 Inv-loop words₀ last k₀ words k = k ≤ 15

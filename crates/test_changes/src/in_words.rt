@@ -1,6 +1,6 @@
 // What is put anew in the words of a side, by its number (changes.rt): particles, boxes, values on the shelf. How many there are of each
 // is no word. Particle 0 is a waiting input in the states to break, particle 1 an output.
-use super::changes::Change;
+use super::changes::value_of;
 use super::lists::name_past;
 use super::lists::put_boxes;
 use super::lists::put_outputs;
@@ -13,6 +13,7 @@ use super::places::put_place;
 use super::places::put_row;
 use super::places::put_shelved;
 use super::places::put_waiting;
+use crate::Change;
 use sides::Rows;
 use sides::Tag;
 use values::Value;
@@ -97,7 +98,7 @@ fn put_output_if(words: &mut [u32; Rows::WORDS], w: u32) {
 fn put_fields(words: &mut [u32; Rows::WORDS], c: Change) {
     let what = c.what;
     let n = c.n;
-    let v = c.value;
+    let v = value_of(c);
     match what {
         33 => put_output_with_more(words),
         34 => put_input_with_more(words),
@@ -112,7 +113,7 @@ fn put_fields(words: &mut [u32; Rows::WORDS], c: Change) {
 pub(crate) fn put_words(words: &mut [u32; Rows::WORDS], c: Change) {
     let what = c.what;
     let n = c.n;
-    let v = c.value;
+    let v = value_of(c);
     if what < 10 {
         put_counted(words, what, n);
     } else if what < 19 {

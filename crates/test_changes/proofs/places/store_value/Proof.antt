@@ -1,8 +1,8 @@
--- `test_states::places::store_value` meets its contract: the loop goes over words below 16.
+-- `test_changes::places::store_value` meets its contract: the loop goes over words below 16.
 use Prim.Native.Nat.{_-_, _≤_}
 use borrow.Author.Needs.{needs}
-use Rattle.test_states.proofs.places.store_value.Statement.{statement}
-use Rattle.test_states.proofs.places.store_value.Tie as tie
+use Rattle.test_changes.proofs.places.store_value.Statement.{statement}
+use Rattle.test_changes.proofs.places.store_value.Tie as tie
 
 abbrev Inv-loop : tie.InvT-loop
 Inv-loop words₀ a v k₀ words k = k ≤ 16

@@ -1,8 +1,8 @@
--- `test_states::places::put_head` meets its contract: the loop goes over words below 8, and row i ends below 4,608.
+-- `test_changes::places::put_head` meets its contract: the loop goes over words below 8, and row i ends below 4,608.
 use Prim.Native.Nat.{_-_, _≤_}
 use borrow.Author.Needs.{needs}
-use Rattle.test_states.proofs.places.put_head.Statement.{statement}
-use Rattle.test_states.proofs.places.put_head.Tie as tie
+use Rattle.test_changes.proofs.places.put_head.Statement.{statement}
+use Rattle.test_changes.proofs.places.put_head.Tie as tie
 
 abbrev Inv-loop : tie.InvT-loop
 Inv-loop words₀ i head k₀ words k = k ≤ 8

@@ -1,4 +1,6 @@
-// A line's part about a step: what it answers, and whether it leaves its state as it was.
+// A line's part about a step of a state: what it answers, and whether it leaves the state as it was.
+use super::puts::put;
+use crate::Change;
 use interpreter::Stepped;
 use interpreter::step;
 use sides::State;
@@ -55,4 +57,29 @@ pub fn entered<'n, 'p>(
         &given,
     );
     answer(s, r);
+}
+
+// The same with two things put anew in the state, one after the other.
+pub fn entered_changed<'n, 'p>(
+    wrapper: u32,
+    nodes1: &'n [u32],
+    pool1: &'p [u32],
+    nodes2: &'n [u32],
+    pool2: &'p [u32],
+    s: State,
+    side: u32,
+    a: Change,
+    b: Change,
+) {
+    let t = put(put(s, a), b);
+    entered(wrapper, nodes1, pool1, nodes2, pool2, t, side);
+}
+
+// Whether a state with one thing put anew is the same as with another.
+pub fn compared(s: State, a: Change, b: Change) {
+    if same_state(put(s, a), put(s, b)) {
+        write(b": same\n");
+    } else {
+        write(b": different\n");
+    }
 }
