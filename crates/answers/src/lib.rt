@@ -8,7 +8,7 @@ pub fn padded(v: Value) -> Value
     ensures { λ r. ⌜ Padded (viewValue v) r ⌝ }
 {
     let n = v.count();
-    let mut words: [u32; 16] = [0; 16];
+    let mut words = [0u32; Value::LONGEST];
     let mut k: usize = 0;
     while k < n {
         words[k] = v.words[k];

@@ -18,6 +18,7 @@ use bodies::rows_left;
 use pairs::join_offer;
 use sides::Rest;
 use sides::Row;
+use sides::Rows;
 use sides::word_at;
 use steps::Offer;
 use steps::RestStep;
@@ -69,7 +70,7 @@ fn meet_pair(
     requires { ⌜ MeetablePair (table (now nodes) (now pool)) side (now rows) o i j ⌝ }
     ensures { λ r. ⌜ StepIs (settled (meet (withTable side (table (now (nodes .entry)) (now (pool .entry)))) (coreOf (now (rows .entry)) o) i j)) (now (rows .entry)) o (now (rows .exit)) r ⌝ }
 {
-    let mut e = [0; 144];
+    let mut e = [0; Rows::WIDTH];
     let a = join_offer(nodes, pool, rows, i, j, &mut e);
     let Offer::At(d) = a else {
         return RestStep::plain(Said::Refused(a.number()), o);

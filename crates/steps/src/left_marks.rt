@@ -8,6 +8,7 @@ ghost use Rattle.model.specs.Wrapper.{allSides};
 ghost use Rattle.model.specs.Step.{markOf, mark1, markAll};
 ghost use Rattle.values.specs.Env.{viewValue};
 ghost use Rattle.steps.specs.Asked.{mayEnter};
+use sides::Side;
 use sides::Sides;
 use values::Value;
 use values::is_minted;
@@ -19,7 +20,7 @@ fn mark_of(w: u32) -> usize
     let side = (w / 65536) as usize;
     let serial = (w % 65536) as usize;
     if 0 < side {
-        256 * (side - 1) + serial
+        Side::MINTED * (side - 1) + serial
     } else {
         serial
     }
