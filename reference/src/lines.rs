@@ -186,6 +186,7 @@ fn print_answer(answer: &Answer) -> String {
     match &answer.outcome {
         Ok(Label::In(value)) => print_label("in", answer.side, value),
         Ok(Label::Out(value)) => print_label("out", answer.side, value),
+        Ok(Label::Log(value)) => print_label("log", answer.side, value),
         Ok(Label::Silent) => String::from("tau"),
         Err(refusal) => format!("no\t{}", refusal.number()),
     }

@@ -22,6 +22,8 @@ pub enum Wrapper {
     Filter,
     /// Two handlers, W2.
     Pipeline,
+    /// One handler, L: a copy of each message goes to the environment on `log`.
+    Logging,
 }
 
 /// Everything a run holds between two steps.
@@ -46,7 +48,8 @@ pub struct Side {
     /// How many names this side has minted.
     pub minted: u32,
     pub lobby: Vec<Message>,
-    /// The minted names, of either side, that have left by this side's outlet.
+    /// The minted names, of either side, that have left by this side's outlet
+    /// or in a copy.
     pub left: BTreeSet<Name>,
 }
 
@@ -126,8 +129,8 @@ pub enum Stage {
     Down(Name),
     /// Came up out of box 0 on this channel.
     Arrived(Name),
-    /// On its way to the environment, on `out`.
-    Leaving,
+    /// On its way to the environment, on `out` or `log`.
+    Leaving(Name),
 }
 
 /// What unfolding adds to a side.

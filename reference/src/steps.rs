@@ -5,7 +5,7 @@ use crate::state::{
     Act, Growth, Input, Message, Origin, Output, OutputTag, Particle, Side, Stage, State, Wrapper,
     LOBBY_LIMIT, PARTICLE_LIMIT, SHELF_LIMIT,
 };
-use crate::terms::{Direction, Name, Value, IN, MID, OUT};
+use crate::terms::{Direction, Name, Value, IN, LOG, MID, OUT};
 
 /// A step as asked for.
 #[derive(Clone, Debug, Default, PartialEq, Eq)]
@@ -22,6 +22,7 @@ pub struct Step {
 pub enum Label {
     In(Value),
     Out(Value),
+    Log(Value),
     Silent,
 }
 
@@ -90,7 +91,7 @@ impl State {
             Positions::Up(i) => self.up(side, i),
             Positions::Descend(i, j) => self.sides[side].descend(i, j),
             Positions::Meet(i, j) => self.sides[side].meet(i, j),
-            Positions::Pass(i) => self.sides[side].pass(i),
+            Positions::Pass(i) => self.pass(side, i),
             Positions::Leave(i) => self.sides[side].leave(i),
             Positions::Take(i) => self.take(i),
         }
@@ -102,14 +103,26 @@ impl State {
         found.ok_or(Refusal::NoSuchStep)
     }
 
-    /// Kind 1: a down message on `in`.
+    /// Kind 1: a down message on `in`. L's input on `in` has the body
+    /// `log y | in y`, so there the copy comes first.
     fn enter(&mut self, side: usize, words: &[u32]) -> Outcome {
         let value = Value::from_words(words).ok_or(Refusal::Malformed)?;
         if value.leaves().into_iter().any(|name| !self.is_known(name)) {
             return Err(Refusal::NotLeft);
         }
-        self.sides[side].add_message(Stage::Down(IN), value.clone())?;
+        let mut stages = self.copies();
+        stages.push(Stage::Down(IN));
+        self.sides[side].add_messages(&stages, &value)?;
         Ok(Label::In(value))
+    }
+
+    /// The stages of the copies that are made of a message: one leaving on
+    /// `log` under L.
+    fn copies(&self) -> Vec<Stage> {
+        match self.wrapper {
+            Wrapper::Logging => vec![Stage::Leaving(LOG)],
+            Wrapper::Filter | Wrapper::Pipeline => vec![],
+        }
     }
 
     /// True for a public name and for one that has left by either outlet.
@@ -133,7 +146,7 @@ impl State {
         if self.wrapper == Wrapper::Pipeline && side == 0 && channel == MID {
             self.add_to_shelf(value)?;
         } else {
-            self.sides[side].add_message(Stage::Arrived(channel), value)?;
+            self.sides[side].add_messages(&[Stage::Arrived(channel)], &value)?;
         }
         self.sides[side].particles.remove(i);
         Ok(Label::Silent)
@@ -148,13 +161,27 @@ impl State {
         Ok(())
     }
 
+    /// Kind 6: a message that arrived on `out` becomes leaving where it stands;
+    /// L's input on `out` sends a copy too, which goes to the end.
+    fn pass(&mut self, side: usize, i: usize) -> Outcome {
+        let message = self.sides[side].message(i)?;
+        if message.stage != Stage::Arrived(OUT) {
+            return Err(Refusal::Unable);
+        }
+        let value = message.value.clone();
+        let copies = self.copies();
+        self.sides[side].add_messages(&copies, &value)?;
+        self.sides[side].lobby[i].stage = Stage::Leaving(OUT);
+        Ok(Label::Silent)
+    }
+
     /// Kind 8: side 2 takes a copy of a shelf message.
     fn take(&mut self, i: usize) -> Outcome {
         let value = self.shelf.get(i).ok_or(Refusal::NoSuchStep)?.clone();
         if self.taken.contains(&i) {
             return Err(Refusal::Unable);
         }
-        self.sides[1].add_message(Stage::Down(MID), value)?;
+        self.sides[1].add_messages(&[Stage::Down(MID)], &value)?;
         self.taken.insert(i);
         Ok(Label::Silent)
     }
@@ -174,8 +201,8 @@ enum Positions {
 
 impl Positions {
     /// Refuses unknown kinds, unused fields that are not 0, value words where
-    /// there are none, and kind 8 from side 1 (under the filter there is no
-    /// other side).
+    /// there are none, and kind 8 from side 1 (only the pipeline has another
+    /// side).
     fn of(step: &Step) -> Result<Positions, Refusal> {
         let (i, j) = (step.i as usize, step.j as usize);
         let words = !step.value.is_empty();
@@ -194,12 +221,15 @@ impl Positions {
 }
 
 impl Side {
-    /// Adds a lobby message at the end.
-    fn add_message(&mut self, stage: Stage, value: Value) -> Result<(), Refusal> {
-        if self.lobby.len() == LOBBY_LIMIT {
+    /// Adds lobby messages with one value at the end, all of them or none.
+    fn add_messages(&mut self, stages: &[Stage], value: &Value) -> Result<(), Refusal> {
+        if self.lobby.len() + stages.len() > LOBBY_LIMIT {
             return Err(Refusal::Full);
         }
-        self.lobby.push(Message { stage, value });
+        self.lobby.extend(stages.iter().map(|&stage| Message {
+            stage,
+            value: value.clone(),
+        }));
         Ok(())
     }
 
@@ -316,25 +346,21 @@ impl Side {
         Ok((input.replicated, growth))
     }
 
-    /// Kind 6: a message that arrived on `out` becomes leaving.
-    fn pass(&mut self, i: usize) -> Outcome {
-        if self.message(i)?.stage != Stage::Arrived(OUT) {
-            return Err(Refusal::Unable);
-        }
-        self.lobby[i].stage = Stage::Leaving;
-        Ok(Label::Silent)
-    }
-
-    /// Kind 7: a leaving message goes out, and its minted names are marked.
+    /// Kind 7: a leaving message goes out on its channel, and its minted names
+    /// are marked.
     fn leave(&mut self, i: usize) -> Outcome {
-        if self.message(i)?.stage != Stage::Leaving {
+        let Stage::Leaving(channel) = self.message(i)?.stage else {
             return Err(Refusal::Unable);
-        }
+        };
         let value = self.lobby.remove(i).value;
         let minted = |name: &&Name| matches!(**name, Name::Minted { .. });
         let names = value.leaves().into_iter().filter(minted).copied();
         self.left.extend(names);
-        Ok(Label::Out(value))
+        Ok(if channel == OUT {
+            Label::Out(value)
+        } else {
+            Label::Log(value)
+        })
     }
 }
 

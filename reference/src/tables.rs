@@ -53,6 +53,7 @@ pub fn load(wrapper: u32, tables: [Table; 2]) -> Result<State, LoadRefusal> {
     let wrapper = match wrapper {
         1 => Wrapper::Filter,
         2 => Wrapper::Pipeline,
+        3 => Wrapper::Logging,
         _ => return Err(refusal(0, (1, 0))),
     };
     let mut sides = vec![load_side(1, tables[0]).map_err(|fault| refusal(1, fault))?];
@@ -60,8 +61,10 @@ pub fn load(wrapper: u32, tables: [Table; 2]) -> Result<State, LoadRefusal> {
         Wrapper::Pipeline => {
             sides.push(load_side(2, tables[1]).map_err(|fault| refusal(2, fault))?)
         }
-        Wrapper::Filter if !tables[1].is_empty() => return Err(refusal(2, (1, 0))),
-        Wrapper::Filter => {}
+        Wrapper::Filter | Wrapper::Logging if !tables[1].is_empty() => {
+            return Err(refusal(2, (1, 0)))
+        }
+        Wrapper::Filter | Wrapper::Logging => {}
     }
     Ok(State::new(wrapper, sides))
 }

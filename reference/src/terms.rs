@@ -37,6 +37,8 @@ pub const IN: Name = Name::Public(0);
 pub const OUT: Name = Name::Public(1);
 /// The public name `mid`.
 pub const MID: Name = Name::Public(2);
+/// The channel of the copies that the logging wrapper sends.
+pub const LOG: Name = Name::Public(3);
 
 impl Name {
     /// The number this name is written as.

@@ -253,8 +253,8 @@ fn the_side_of_a_step_is_any_number() {
 
 #[test]
 fn a_bad_last_line_hides_a_load_refusal() {
-    assert_eq!(bench("W 3"), "refused 1 0 0\n");
-    assert_eq!(bench("W 3\nX"), "line 2\n");
+    assert_eq!(bench("W 4"), "refused 1 0 0\n");
+    assert_eq!(bench("W 4\nX"), "line 2\n");
     assert_eq!(bench("W 1\nN 1 9 0 0 0 0\nS 1"), "line 3\n");
 }
 

@@ -30,7 +30,7 @@ const NIL: [u32; 5] = [0; 5];
 
 #[test]
 fn the_wrapper_goes_first() {
-    for wrapper in [0, 3, 4, 1_000, u32::MAX] {
+    for wrapper in [0, 4, 5, 1_000, u32::MAX] {
         let input = format!("W {wrapper}\nN 1 9 9 9 9 9\nN 2 9 9 9 9 9");
         assert_eq!(bench(&input), "refused 1 0 0\n");
     }
@@ -50,20 +50,22 @@ fn sizes() {
 }
 
 #[test]
-fn the_filters_side_2_is_empty() {
-    let load_with = |nodes: &[u32], pool: &[u32]| {
+fn side_2_is_empty_but_under_the_pipeline() {
+    let load_with = |wrapper: u32, nodes: &[u32], pool: &[u32]| {
         let two = Table { nodes, pool };
         let one = Table {
             nodes: &NIL,
             pool: &[],
         };
-        load(1, [one, two])
+        load(wrapper, [one, two])
             .err()
             .map(|r| (r.number, r.side, r.node))
     };
-    assert_eq!(load_with(&[], &[]), None);
-    assert_eq!(load_with(&NIL, &[]), Some((1, 2, 0)));
-    assert_eq!(load_with(&[], &[7]), Some((1, 2, 0)));
+    for wrapper in [1, 3] {
+        assert_eq!(load_with(wrapper, &[], &[]), None);
+        assert_eq!(load_with(wrapper, &NIL, &[]), Some((1, 2, 0)));
+        assert_eq!(load_with(wrapper, &[], &[7]), Some((1, 2, 0)));
+    }
 }
 
 #[test]

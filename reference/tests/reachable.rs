@@ -9,7 +9,7 @@ use reference::load_script;
 use reference::random::Random;
 use reference::state::{Act, Origin, OutputTag, Side, Stage, State, Wrapper};
 use reference::steps::{Label, Refusal};
-use reference::terms::{Direction, Expression, Name, Process, Subject, Value, MID};
+use reference::terms::{Direction, Expression, Name, Process, Subject, Value, LOG, MID};
 
 /// The names of a tag.
 fn tag_names(tag: OutputTag) -> Vec<Name> {
@@ -164,16 +164,18 @@ fn check(state: &State) {
             .into_iter()
             .all(|name| is_minted(state, name)));
         let mid_arrived = side.lobby.iter().any(|m| m.stage == Stage::Arrived(MID));
-        assert!(!mid_arrived || state.wrapper == Wrapper::Filter || side.number == 2);
+        assert!(!mid_arrived || state.wrapper != Wrapper::Pipeline || side.number == 2);
+        let logged = side.lobby.iter().any(|m| m.stage == Stage::Leaving(LOG));
+        assert!(!logged || state.wrapper == Wrapper::Logging);
     }
     assert!(longest_value(state) <= 16);
     assert!(state.shelf.len() <= 32);
     assert!(state.taken.iter().all(|&place| place < state.shelf.len()));
     let on_shelf = state.shelf.iter().flat_map(Value::leaves);
     assert!(on_shelf.into_iter().all(|&name| is_minted(state, name)));
-    let filter = state.wrapper == Wrapper::Filter;
-    assert_eq!(state.sides.len(), if filter { 1 } else { 2 });
-    assert!(!filter || state.shelf.is_empty());
+    let alone = state.wrapper != Wrapper::Pipeline;
+    assert_eq!(state.sides.len(), if alone { 1 } else { 2 });
+    assert!(!alone || state.shelf.is_empty());
 }
 
 /// A waiting body is open in its pattern's names only.

@@ -6,7 +6,7 @@ use native.Mathlib.Omega.{arith}
 use native.Mathlib.Numerals.{add-one}
 use lib.ListN.{length, take, getD, set, replicate}
 use Rattle.model.specs.Basics.{Res, refuse, done}
-use Rattle.model.specs.Step.{Label, silent, enters, leaves, Moved, Answer, labelled, refusal, answerOf}
+use Rattle.model.specs.Step.{Label, silent, enters, leaves, logs, Moved, Answer, labelled, refusal, answerOf}
 use Rattle.model.specs.Answer.{Said as MSaid, label, saidBy, sideBy, valueBy, Given, given}
 use Rattle.values.specs.declared.Value.{Value}
 use Rattle.values.specs.Env.{viewValue}
@@ -44,6 +44,7 @@ same-given p q r s = rw (p, q, r, s)
 said-of : (y : Said) (l : Label) → labelOf y ≡ done l → saidOf y ≡ label l
 said-of said.In l e = let z : enters ≡ l = cc in ap label z
 said-of said.Out l e = let z : leaves ≡ l = cc in ap label z
+said-of said.Log l e = let z : logs ≡ l = cc in ap label z
 said-of said.Silent l e = let z : silent ≡ l = cc in ap label z
 said-of (said.Refused n) l e = let z : _≡_ {A = ℕ} 0 1 = cc in absurd (omega arith)
 

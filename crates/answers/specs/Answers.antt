@@ -4,7 +4,7 @@ use mathlib.Core.Bool.{Bool, true, false}
 use mathlib.Core.List.{List, _++_}
 use Prim.Native.Nat.{ℕ, _-_}
 use lib.ListN.{length, replicate}
-use Rattle.model.specs.Step.{silent, enters, leaves, Answer, labelled, refusal}
+use Rattle.model.specs.Step.{silent, enters, leaves, logs, Answer, labelled, refusal}
 use Rattle.model.specs.Answer.{Said as MSaid, label, number, Given}
 use Rattle.values.specs.declared.Value.{Value}
 use Rattle.steps.specs.declared.Said.{Said}
@@ -19,6 +19,7 @@ pub record Padded (l : List ℕ) (r : Value) : Type 0 where
 abbrev pub saidOf : Said → MSaid
 saidOf said.In = label enters
 saidOf said.Out = label leaves
+saidOf said.Log = label logs
 saidOf said.Silent = label silent
 saidOf (said.Refused n) = number n
 

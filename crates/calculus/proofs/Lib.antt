@@ -15,6 +15,7 @@ pub mod Moves
 pub mod Marks
 pub mod TreeMoves
 pub mod Bags
+pub mod Forwarders
 pub mod Swaps
 pub mod ScopeExamples
 pub mod Contexts

@@ -13,7 +13,7 @@ use Rattle.model.specs.Wrapper.{allSides}
 use Rattle.model.specs.Load.{Composition, wrapperOf, setting}
 use Rattle.model.specs.Load.{table as tableOf}
 use Rattle.model.specs.WellFormed.{shelfOf}
-use Rattle.model.specs.Step.{Label, silent, enters, leaves, Step, Moved, settled, local, takes, marked, marks, markAll, known, sideAfter}
+use Rattle.model.specs.Step.{Label, silent, enters, leaves, logs, Step, Moved, settled, local, takes, marked, marks, markAll, known, sideAfter}
 use Rattle.values.specs.Env.{viewValue}
 use Rattle.tables.specs.Nodes as slices
 use Rattle.wrappers.specs.declared.Source.the-variants as route
@@ -28,7 +28,7 @@ use Rattle.steps.specs.Asked.{Source, knownBy}
 use Rattle.steps.specs.StepIs.{StepIs}
 use Rattle.steps.proofs.Held.{side-shelf}
 use Rattle.dispatch.specs.Stepping.{settingOf}
-use Rattle.dispatch.specs.Sharing.{shelvesIn, shelvedOf, Shelves, sidesIn, stateIn, Lent, AtSide, isOut, markedBy, MarkedAt}
+use Rattle.dispatch.specs.Sharing.{shelvesIn, shelvedOf, Shelves, sidesIn, stateIn, Lent, AtSide, saysLeft, markedBy, MarkedAt}
 
 -- a side that is not there would have this rest
 module _ (d : Rest) where
@@ -139,6 +139,7 @@ shelves-of ls os ms lent hs e = record { long = lent .long; fits = λ k h. subst
 marks-by : (s : Said) (l : Label) (v : List ℕ) (m : List Bool) → labelOf s ≡ done l → markedBy s v m ≡ marks l v m
 marks-by said.In l v m e = let z : enters ≡ l = cc in ap (λ (x : Label). marks x v m) z
 marks-by said.Out l v m e = let z : leaves ≡ l = cc in ap (λ (x : Label). marks x v m) z
+marks-by said.Log l v m e = let z : logs ≡ l = cc in ap (λ (x : Label). marks x v m) z
 marks-by said.Silent l v m e = let z : silent ≡ l = cc in ap (λ (x : Label). marks x v m) z
 marks-by (said.Refused n) l v m e = let z : _≡_ {A = ℕ} 0 1 = cc in absurd (omega arith)
 
@@ -186,14 +187,16 @@ source-is ls ns p s h =
     record { first = omega arith; last = h; long = s .long p z; fits = s .fits p z }
 
 -- MARKS after what is said
-pub marked-out : (s : Said) (v : List ℕ) (ls : List (List Bool)) (k m : ℕ) (y : List Bool) → isOut s ≡ true → k ≡ m → y ≡ markAll (getD ls k []) v → MarkedAt s v ls m (set ls k y)
-marked-out said.In v ls k m y e same q = absurd (false≢true e)
-marked-out said.Out v ls k m y e same q = record { is = ap (set ls k) q ∙ ap (λ (j : ℕ). set ls j (markAll (getD ls j []) v)) same }
-marked-out said.Silent v ls k m y e same q = absurd (false≢true e)
-marked-out (said.Refused n) v ls k m y e same q = absurd (false≢true e)
+pub marked-left : (s : Said) (v : List ℕ) (ls : List (List Bool)) (k m : ℕ) (y : List Bool) → saysLeft s ≡ true → k ≡ m → y ≡ markAll (getD ls k []) v → MarkedAt s v ls m (set ls k y)
+marked-left said.In v ls k m y e same q = absurd (false≢true e)
+marked-left said.Out v ls k m y e same q = record { is = ap (set ls k) q ∙ ap (λ (j : ℕ). set ls j (markAll (getD ls j []) v)) same }
+marked-left said.Log v ls k m y e same q = record { is = ap (set ls k) q ∙ ap (λ (j : ℕ). set ls j (markAll (getD ls j []) v)) same }
+marked-left said.Silent v ls k m y e same q = absurd (false≢true e)
+marked-left (said.Refused n) v ls k m y e same q = absurd (false≢true e)
 
-pub marked-not : (s : Said) (v : List ℕ) (ls : List (List Bool)) (m : ℕ) → isOut s ≡ false → MarkedAt s v ls m ls
+pub marked-not : (s : Said) (v : List ℕ) (ls : List (List Bool)) (m : ℕ) → saysLeft s ≡ false → MarkedAt s v ls m ls
 marked-not said.In v ls m e = record { is = sym (set-getD ls m []) }
 marked-not said.Out v ls m e = absurd (false≢true (sym e))
+marked-not said.Log v ls m e = absurd (false≢true (sym e))
 marked-not said.Silent v ls m e = record { is = sym (set-getD ls m []) }
 marked-not (said.Refused n) v ls m e = record { is = sym (set-getD ls m []) }

@@ -1,5 +1,5 @@
 -- A side's step by its kind: a law for each way that the code goes.
-use mathlib.Core.Path.{_≡_, refl, sym, ap, subst, _∙_}
+use mathlib.Core.Path.{_≡_, refl, sym, ap, ap₂, subst, _∙_}
 use mathlib.Core.Bool.{Bool, true, false}
 use mathlib.Core.List.{List, [], _∷_}
 use Prim.Native.Nat.{ℕ, _+_, _≤_}
@@ -59,36 +59,36 @@ meets : (n k : ℕ) → n ≤ k → k ≤ n → k ≡ n
 meets n k h g = omega arith
 
 -- KINDS 2, 3, 6, 7
-module _ (c : Setting) (s : Core) (k i : ℕ) where
-  pub one-down : k ≡ 2 → settled (onePlace c s k i) ≡ settled (goDown s i)
+module _ (c : Setting) (cs : List ℕ) (s : Core) (k i : ℕ) where
+  pub one-down : k ≡ 2 → settled (onePlace c cs s k i) ≡ settled (goDown s i)
   unfolding onePlace choose
-  one-down e = ap (λ (x : ℕ). settled (onePlace c s x i)) e
+  one-down e = ap (λ (x : ℕ). settled (onePlace c cs s x i)) e
 
-  pub one-up : k ≡ 3 → settled (onePlace c s k i) ≡ settled (up c s i)
+  pub one-up : k ≡ 3 → settled (onePlace c cs s k i) ≡ settled (up c s i)
   unfolding onePlace choose
-  one-up e = ap (λ (x : ℕ). settled (onePlace c s x i)) e
+  one-up e = ap (λ (x : ℕ). settled (onePlace c cs s x i)) e
 
-  pub one-pass : k ≡ 6 → settled (onePlace c s k i) ≡ settled (pass s i)
+  pub one-pass : k ≡ 6 → settled (onePlace c cs s k i) ≡ settled (pass cs s i)
   unfolding onePlace choose
-  one-pass e = ap (λ (x : ℕ). settled (onePlace c s x i)) e
+  one-pass e = ap (λ (x : ℕ). settled (onePlace c cs s x i)) e
 
-  one-seven : k ≡ 7 → settled (onePlace c s k i) ≡ settled (leave s i)
+  one-seven : k ≡ 7 → settled (onePlace c cs s k i) ≡ settled (leave s i)
   unfolding onePlace choose
-  one-seven e = ap (λ (x : ℕ). settled (onePlace c s x i)) e
+  one-seven e = ap (λ (x : ℕ). settled (onePlace c cs s x i)) e
 
-  pub one-leave : OnePlaceKind k → (k ≡ 2 → ⊥) → (k ≡ 3 → ⊥) → (k ≡ 6 → ⊥) → settled (onePlace c s k i) ≡ settled (leave s i)
+  pub one-leave : OnePlaceKind k → (k ≡ 2 → ⊥) → (k ≡ 3 → ⊥) → (k ≡ 6 → ⊥) → settled (onePlace c cs s k i) ≡ settled (leave s i)
   one-leave h a b d =
       let five = beyond 4 k (beyond 3 k (beyond 2 k (h .first) a) b) (h .not-4) in
       one-seven (meets 7 k (beyond 6 k (beyond 5 k five (h .not-5)) d) (h .last))
 
-  one-none : (k ≡ 2 → ⊥) → (k ≡ 3 → ⊥) → (k ≡ 6 → ⊥) → (k ≡ 7 → ⊥) → settled (onePlace c s k i) ≡ refuse 10
+  one-none : (k ≡ 2 → ⊥) → (k ≡ 3 → ⊥) → (k ≡ 6 → ⊥) → (k ≡ 7 → ⊥) → settled (onePlace c cs s k i) ≡ refuse 10
   unfolding onePlace choose settled bind
   one-none a b d e = rw (ne-eqb k 2 a, ne-eqb k 3 b, ne-eqb k 6 d, ne-eqb k 7 e)
 
 -- where the side has a shelf or none
-one-with : (c : Setting) (s : Core) (k i : ℕ) (t : Bool) → shelves (c .wrapper) (c .side) ≡ t → onePlace c s k i ≡ onePlace (withShelf t) s k i
+one-with : (c : Setting) (cs : List ℕ) (s : Core) (k i : ℕ) (t : Bool) → shelves (c .wrapper) (c .side) ≡ t → onePlace c cs s k i ≡ onePlace (withShelf t) cs s k i
 unfolding onePlace
-one-with c s k i t e = rw (up-with c t e s i)
+one-with c cs s k i t e = rw (up-with c t e s i)
 
 -- KINDS 2 TO 7
 module _ (c : Setting) (s : Core) (k i j : ℕ) where
@@ -103,12 +103,14 @@ module _ (c : Setting) (s : Core) (k i j : ℕ) where
   pub two-meet : k ≡ 5 → settled (twoPlaces c s k i j) ≡ settled (meet (withTable (c .side) (c .table)) s i j)
   two-meet e = two-meets e ∙ ap settled (meet-with c s i j)
 
-  two-ones : (k ≡ 4 → ⊥) → (k ≡ 5 → ⊥) → j ≡ 0 → settled (twoPlaces c s k i j) ≡ settled (onePlace c s k i)
+  two-ones : (k ≡ 4 → ⊥) → (k ≡ 5 → ⊥) → j ≡ 0 → settled (twoPlaces c s k i j) ≡ settled (onePlace c (c .wrapper .copies) s k i)
   unfolding twoPlaces choose need
   two-ones a b e = rw (ne-eqb k 4 a, ne-eqb k 5 b, eq-eqb j 0 e)
 
-  pub two-one : (k ≡ 4 → ⊥) → (k ≡ 5 → ⊥) → j ≡ 0 → (t : Bool) → t ≡ shelves (c .wrapper) (c .side) → (p : ℕ) → p ≡ i → settled (twoPlaces c s k i j) ≡ settled (onePlace (withShelf t) s k p)
-  two-one a b e t h p q = two-ones a b e ∙ ap settled (one-with c s k i t (sym h)) ∙ ap (λ (y : ℕ). settled (onePlace (withShelf t) s k y)) (sym q)
+  pub two-one : (k ≡ 4 → ⊥) → (k ≡ 5 → ⊥) → j ≡ 0 → (t : Bool) → t ≡ shelves (c .wrapper) (c .side) → (cs : List ℕ) → c .wrapper .copies ≡ cs → (p : ℕ) → p ≡ i →
+      settled (twoPlaces c s k i j) ≡ settled (onePlace (withShelf t) cs s k p)
+  two-one a b e t h cs g p q =
+      two-ones a b e ∙ ap settled (one-with c (c .wrapper .copies) s k i t (sym h)) ∙ ap₂ (λ (x : List ℕ) (y : ℕ). settled (onePlace (withShelf t) x s k y)) g (sym q)
 
   two-unused : (k ≡ 4 → ⊥) → (k ≡ 5 → ⊥) → (j ≡ 0 → ⊥) → settled (twoPlaces c s k i j) ≡ refuse 10
   unfolding twoPlaces choose need settled bind
@@ -122,7 +124,7 @@ module _ (c : Setting) (s : Core) (k i j : ℕ) where
           let zero-j = eqb-true j 0 e in
           let off : (x : ℕ) → 2 ≤ x → x ≤ 7 → k ≡ x → ⊥ = λ x p q z. h (subst (λ (y : ℕ). 2 ≤ y) (sym z) p, subst (λ (y : ℕ). y ≤ 7) (sym z) q, zero-j) in
           two-ones a b zero-j ∙
-          one-none c s k i (off 2 (omega arith) (omega arith)) (off 3 (omega arith) (omega arith)) (off 6 (omega arith) (omega arith)) (off 7 (omega arith) (omega arith))
+          one-none c (c .wrapper .copies) s k i (off 2 (omega arith) (omega arith)) (off 3 (omega arith) (omega arith)) (off 6 (omega arith) (omega arith)) (off 7 (omega arith) (omega arith))
       go false e = two-unused a b (eqb-false j 0 e)
 
 -- where there is no route, 10
@@ -141,13 +143,13 @@ module _ (c : Setting) (known : ℕ → Bool) (sh : ℕ → List (List ℕ)) (s 
   pub kind-is : (k x : ℕ) → k ≡ x → settled (local c known sh s (asked k n i j ws)) ≡ settled (local c known sh s (asked x n i j ws))
   kind-is k x e = ap (λ (y : ℕ). settled (local c known sh s (asked y n i j ws))) e
 
-  enter-all : (i ≡ 0) × (j ≡ 0) → settled (local c known sh s (asked 1 n i j ws)) ≡ settled (enter known s ws)
+  enter-all : (i ≡ 0) × (j ≡ 0) → settled (local c known sh s (asked 1 n i j ws)) ≡ settled (enter (c .wrapper .copies) known s ws)
   unfolding local choose need _&_
   enter-all e = rw (eq-eqb i 0 (e .0), eq-eqb j 0 (e .1))
 
   -- the first m words, which are all
-  pub enter-on : (i ≡ 0) × (j ≡ 0) → (m : ℕ) → m ≡ length ws → settled (local c known sh s (asked 1 n i j ws)) ≡ settled (enter known s (take m ws))
-  enter-on e m same = enter-all e ∙ ap (λ (v : List ℕ). settled (enter known s v)) (sym (take-all m ws (omega (arith, same))))
+  pub enter-on : (i ≡ 0) × (j ≡ 0) → (cs : List ℕ) → c .wrapper .copies ≡ cs → (m : ℕ) → m ≡ length ws → settled (local c known sh s (asked 1 n i j ws)) ≡ settled (enter cs known s (take m ws))
+  enter-on e cs g m same = enter-all e ∙ ap₂ (λ (x v : List ℕ). settled (enter x known s v)) g (sym (take-all m ws (omega (arith, same))))
 
   pub enter-off : ((i ≡ 0) × (j ≡ 0) → ⊥) → settled (local c known sh s (asked 1 n i j ws)) ≡ refuse 10
   unfolding local choose need settled bind

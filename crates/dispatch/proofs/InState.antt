@@ -23,7 +23,7 @@ use Rattle.values.specs.Env.{viewValue}
 use Rattle.tables.specs.Nodes as slices
 use Rattle.tables.specs.Checks.{Passes}
 use Rattle.wrappers.specs.Compositions.{composition}
-use Rattle.wrappers.proofs.Described.{has-in}
+use Rattle.model.proofs.Formed.Invariant.{which}
 use Rattle.sides.specs.declared.Rest.{Rest}
 use Rattle.sides.specs.Sides.{coreOf, fitsSide}
 use Rattle.loading.proofs.Faults.{Taken, ok-taken, table-at}
@@ -106,7 +106,7 @@ module _ (w : ℕ) (ns ps : List (List ℕ)) (ls : List (List ℕ)) (os : List R
     pub own-ready : OwnReady (settingOf w n (getD ns (n - 1) []) (getD ps (n - 1) [])) l o
     unfolding wfSide
     own-ready =
-        let t = ready-taken b st e .sides n (has-in w n h) h in
+        let t = ready-taken b st e .sides n (which w n h) h in
         let f = fst _ _ (side-wf b st e n h) in
         record {
           narrow = omega (arith, has-number w n h .1);

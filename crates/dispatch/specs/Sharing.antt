@@ -71,17 +71,19 @@ StillAt c ms ls ns x k o r = LocalIs c ms (shelvesIn ls ns) x (getD ls k []) o (
 abbrev pub LocalAt : Setting → (marks : List (List Bool)) → (words : List (List ℕ)) → (shelved : List ℕ) → Step → Rest → List (List ℕ) → RestStep → Type 0
 LocalAt c ms ls ns x o ls′ r = AtSide (settled (local c (knownBy ms) (shelvesIn ls ns) (coreOf (getD ls (c .side - 1) []) o) x)) ls (c .side - 1) o ls′ r
 
--- what is said is that a value left
-abbrev pub isOut : Said → Bool
-isOut said.In = false
-isOut said.Out = true
-isOut said.Silent = false
-isOut (said.Refused n) = false
+-- what is said is that a value left, on `out` or on `log`
+abbrev pub saysLeft : Said → Bool
+saysLeft said.In = false
+saysLeft said.Out = true
+saysLeft said.Log = true
+saysLeft said.Silent = false
+saysLeft (said.Refused n) = false
 
 -- a side's marks after what is said with the words v
 abbrev pub markedBy : Said → List ℕ → List Bool → List Bool
 markedBy said.In v l = l
 markedBy said.Out v l = markAll l v
+markedBy said.Log v l = markAll l v
 markedBy said.Silent v l = l
 markedBy (said.Refused n) v l = l
 

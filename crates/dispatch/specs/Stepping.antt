@@ -51,14 +51,14 @@ pub record OnePlaceKind (k : ℕ) : Type 0 where
   pub not-4 : k ≡ 4 → ⊥
   pub not-5 : k ≡ 5 → ⊥
 
--- kinds 2, 3, 6 and 7
-unfoldable pub onePlace : Setting → Core → (kind i : ℕ) → Res Moved
-onePlace c s k i =
-    choose (eqb k 2) (goDown s i) (choose (eqb k 3) (up c s i) (choose (eqb k 6) (pass s i) (choose (eqb k 7) (leave s i) (refuse 10))))
+-- kinds 2, 3, 6 and 7, with copies on these channels
+unfoldable pub onePlace : Setting → (copies : List ℕ) → Core → (kind i : ℕ) → Res Moved
+onePlace c cs s k i =
+    choose (eqb k 2) (goDown s i) (choose (eqb k 3) (up c s i) (choose (eqb k 6) (pass cs s i) (choose (eqb k 7) (leave s i) (refuse 10))))
 
 -- kinds 2 to 7
 unfoldable pub twoPlaces : Setting → Core → (kind i j : ℕ) → Res Moved
-twoPlaces c s k i j = choose (eqb k 4) (descend s i j) (choose (eqb k 5) (meet c s i j) (need (eqb j 0) 10 (onePlace c s k i)))
+twoPlaces c s k i j = choose (eqb k 4) (descend s i j) (choose (eqb k 5) (meet c s i j) (need (eqb j 0) 10 (onePlace c (c .wrapper .copies) s k i)))
 
 -- a side that a step may act on: its table passes the checks, its counts are within their arrays, and it is well formed
 pub record OwnReady (c : Setting) (l : List ℕ) (o : Rest) : Type 0 where

@@ -8,7 +8,7 @@ ghost use Rattle.model.specs.Wrapper.{allSides, described};
 ghost use Rattle.values.specs.Env.{viewValue};
 ghost use Rattle.steps.specs.StepIs.{Sane};
 ghost use Rattle.dispatch.specs.Stepping.{settingOf, asked, RouteOffer};
-ghost use Rattle.dispatch.specs.Sharing.{Shelves, SideReady, StillAt, LocalAt, isOut, MarkedAt};
+ghost use Rattle.dispatch.specs.Sharing.{Shelves, SideReady, StillAt, LocalAt, saysLeft, MarkedAt};
 use crate::own_side::own_step;
 use crate::own_side::wordless;
 use loading::place_of;
@@ -98,13 +98,14 @@ pub fn side_step(
     )
 }
 
-// Whether what is said is that a value left.
-fn is_out(said: Said) -> bool
-    ensures { λ r. ⌜ r ≡ isOut said ⌝ }
+// Whether what is said is that a value left, on `out` or on `log`.
+fn says_left(said: Said) -> bool
+    ensures { λ r. ⌜ r ≡ saysLeft said ⌝ }
 {
     match said {
         Said::In => false,
         Said::Out => true,
+        Said::Log => true,
         Said::Silent => false,
         Said::Refused(_) => false,
     }
@@ -116,7 +117,7 @@ pub fn mark_left(marks: &mut [[bool; Sides::MARKS]; Sides::COUNT], side: u32, sa
     ensures { λ _. ⌜ MarkedAt said (viewValue v) (now (marks .entry)) (side - 1) (now (marks .exit)) ⌝ }
 {
     let k = place_of(side);
-    if is_out(said) {
+    if says_left(said) {
         mark_all(&mut marks[k], v);
     }
 }

@@ -1,10 +1,11 @@
 // Kinds 1 to 7: the side's own words are lent.
 ghost use mathlib.Core.Path.{_≡_};
+ghost use mathlib.Core.List.{List};
 ghost use Prim.Native.Nat.{ℕ, _≤_};
 ghost use lib.ListN.{length};
 ghost use Rattle.model.specs.Wrapper.{allSides};
-ghost use Rattle.model.specs.Load.{Setting};
 ghost use Rattle.model.specs.Step.{settled};
+ghost use Rattle.wrappers.specs.Copies.{logIf};
 ghost use Rattle.sides.specs.Sides.{coreOf};
 ghost use Rattle.steps.specs.Asked.{OfferIf, withShelf};
 ghost use Rattle.steps.specs.StepIs.{Sane, StepIs};
@@ -21,12 +22,21 @@ use steps::enter;
 use steps::leave;
 use steps::pass;
 use steps::up;
+use wrappers::has_log;
 use wrappers::has_shelf;
 
-// Kinds 2, 3, 6 and 7: the steps that name one place. `shelving` says whether what goes up on `mid` goes to the shelf.
-fn one_place(shelving: bool, rows: &mut [u32], o: Rest, kind: u32, i: usize) -> RestStep
+// Kinds 2, 3, 6 and 7: the steps that name one place. `shelving` says whether what goes up on `mid` goes to the shelf, `logging` whether
+// copies leave of what passes.
+fn one_place(
+    shelving: bool,
+    logging: bool,
+    rows: &mut [u32],
+    o: Rest,
+    kind: u32,
+    i: usize,
+) -> RestStep
     requires { ⌜ Sane (now rows) o × OnePlaceKind kind ⌝ }
-    ensures { λ r. ⌜ StepIs (settled (onePlace (withShelf shelving) (coreOf (now (rows .entry)) o) kind i)) (now (rows .entry)) o (now (rows .exit)) r ⌝ }
+    ensures { λ r. ⌜ StepIs (settled (onePlace (withShelf shelving) (logIf logging) (coreOf (now (rows .entry)) o) kind i)) (now (rows .entry)) o (now (rows .exit)) r ⌝ }
 {
     if kind == 2 {
         return down(rows, o, i);
@@ -35,7 +45,7 @@ fn one_place(shelving: bool, rows: &mut [u32], o: Rest, kind: u32, i: usize) -> 
         return up(shelving, rows, o, i);
     }
     if kind == 6 {
-        return pass(rows, o, i);
+        return pass(rows, o, logging, i);
     }
     leave(rows, o, i)
 }
@@ -104,11 +114,12 @@ fn two_places(
     let Offer::At(k) = a else {
         return RestStep::plain(Said::Refused(a.number()), o);
     };
-    one_place(has_shelf(wrapper, side), rows, o, kind, k)
+    one_place(has_shelf(wrapper, side), has_log(wrapper), rows, o, kind, k)
 }
 
 // Kind 1: unused i and j must be 0.
 fn entering(
+    wrapper: u32,
     rows: &[u32],
     o: Rest,
     marks: &[[bool; Sides::MARKS]; Sides::COUNT],
@@ -117,13 +128,13 @@ fn entering(
     words: &[u32],
 ) -> RestStep
     requires { ⌜ (Sane (now rows) o) × (length (now marks) ≡ length allSides) ⌝ }
-    ensures { λ r. ⌜ ((c : Setting) (sh : ShelvesBy) (n : ℕ) → LocalIs c (now (marks .entry)) sh (asked 1 n i j (now (words .entry))) (now (rows .entry)) o (now (rows .entry)) r) ⌝ }
+    ensures { λ r. ⌜ ((side : ℕ) (ns ps : List ℕ) (sh : ShelvesBy) (n : ℕ) → LocalIs (settingOf wrapper side ns ps) (now (marks .entry)) sh (asked 1 n i j (now (words .entry))) (now (rows .entry)) o (now (rows .entry)) r) ⌝ }
 {
     let a = no_place_offer(i, j, words);
     let Offer::At(n) = a else {
         return RestStep::plain(Said::Refused(a.number()), o);
     };
-    enter(rows, o, marks, &words[..n])
+    enter(rows, o, has_log(wrapper), marks, &words[..n])
 }
 
 // Kinds 1 to 7.
@@ -144,7 +155,7 @@ pub(crate) fn own_step(
     ensures { λ r. ⌜ ((sh : ShelvesBy) (n : ℕ) → LocalIs (settingOf wrapper side (now (nodes .entry)) (now (pool .entry))) (now (marks .entry)) sh (asked kind n i j (now (words .entry))) (now (rows .entry)) o (now (rows .exit)) r) ⌝ }
 {
     if kind == 1 {
-        return entering(rows, o, marks, i, j, words);
+        return entering(wrapper, rows, o, marks, i, j, words);
     }
     let a = wordless(words, i);
     let Offer::At(k) = a else {

@@ -7,7 +7,7 @@ use lib.ListN.{length, take, drop, replicate, length-append, length-replicate}
 use lib.Seq.{take-append-seam, drop-at}
 use Rattle.model.specs.Side.{State}
 use Rattle.model.specs.Load.{Composition}
-use Rattle.model.specs.Step.{silent, enters, leaves, Step, Answer, labelled, refusal, step}
+use Rattle.model.specs.Step.{silent, enters, leaves, logs, Step, Answer, labelled, refusal, step}
 use Rattle.model.specs.Answer.{valueBy}
 use Rattle.model.specs.Runs.{answers}
 use Rattle.format.specs.Words.{answerWords, allAnswerWords, answerOf, answersOf}
@@ -23,6 +23,7 @@ pub answer-length : (a : Answer) → length (answerWords a) ≡ 4 + (length (val
 answer-length (labelled silent n v) = omega (arith, length-append v (replicate (16 - length v) 0), length-replicate {A = ℕ} (16 - length v) 0)
 answer-length (labelled enters n v) = omega (arith, length-append v (replicate (16 - length v) 0), length-replicate {A = ℕ} (16 - length v) 0)
 answer-length (labelled leaves n v) = omega (arith, length-append v (replicate (16 - length v) 0), length-replicate {A = ℕ} (16 - length v) 0)
+answer-length (labelled logs n v) = omega (arith, length-append v (replicate (16 - length v) 0), length-replicate {A = ℕ} (16 - length v) 0)
 answer-length (refusal k n) = refl
 
 pub all-length : (xs : List Answer) → 20 * length xs ≤ length (allAnswerWords xs)
@@ -37,6 +38,7 @@ answer-back : (a : Answer) (rest : List ℕ) → answerOf (answerWords a ++ rest
 answer-back (labelled silent n v) rest = ap (labelled silent n) (value-back v rest (16 - length v))
 answer-back (labelled enters n v) rest = ap (labelled enters n) (value-back v rest (16 - length v))
 answer-back (labelled leaves n v) rest = ap (labelled leaves n) (value-back v rest (16 - length v))
+answer-back (labelled logs n v) rest = ap (labelled logs n) (value-back v rest (16 - length v))
 answer-back (refusal k n) rest = refl
 
 pub words-answers : (xs : List Answer) (rest : List ℕ) → length (allAnswerWords xs) ≡ 20 * length xs → answersOf (length xs) (allAnswerWords xs ++ rest) ≡ xs

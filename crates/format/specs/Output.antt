@@ -4,7 +4,7 @@ use mathlib.Core.List.{List, [], _∷_, _++_}
 use Prim.Native.Nat.{ℕ, zero, suc, _+_, _/_, _%_}
 use lib.Dec.{ltb}
 use Rattle.model.specs.Load.{Refused, refused, ok, load}
-use Rattle.model.specs.Step.{silent, enters, leaves, Answer, labelled, refusal}
+use Rattle.model.specs.Step.{silent, enters, leaves, logs, Answer, labelled, refusal}
 use Rattle.model.specs.Runs.{answers}
 use Rattle.format.specs.Lines.{tab, newline, Input, fault, whole, reading}
 
@@ -21,7 +21,7 @@ abbrev pub fields : List ℕ → List ℕ
 fields [] = []
 fields (n ∷ ns) = tab ∷ (decimal n ++ fields ns)
 
--- line, in, out, tau, no, refused, ok
+-- line, in, out, log, tau, no, refused, ok
 abbrev pub wordLine : List ℕ
 wordLine = 108 ∷ 105 ∷ 110 ∷ 101 ∷ []
 
@@ -30,6 +30,9 @@ wordIn = 105 ∷ 110 ∷ []
 
 abbrev pub wordOut : List ℕ
 wordOut = 111 ∷ 117 ∷ 116 ∷ []
+
+abbrev pub wordLog : List ℕ
+wordLog = 108 ∷ 111 ∷ 103 ∷ []
 
 abbrev pub wordTau : List ℕ
 wordTau = 116 ∷ 97 ∷ 117 ∷ []
@@ -43,11 +46,12 @@ wordRefused = 114 ∷ 101 ∷ 102 ∷ 117 ∷ 115 ∷ 101 ∷ 100 ∷ []
 abbrev pub wordOk : List ℕ
 wordOk = 111 ∷ 107 ∷ []
 
--- what a step's answer says: `in` or `out` with the side and the value words, `tau`, or `no` and the number
+-- what a step's answer says: `in`, `out` or `log` with the side and the value words, `tau`, or `no` and the number
 abbrev pub saying : Answer → List ℕ
 saying (labelled silent n v) = wordTau
 saying (labelled enters n v) = wordIn ++ (decimal n ++ fields v)
 saying (labelled leaves n v) = wordOut ++ (decimal n ++ fields v)
+saying (labelled logs n v) = wordLog ++ (decimal n ++ fields v)
 saying (refusal k n) = wordNo ++ fields (k ∷ [])
 
 -- a line for each answer: its index, and what it says

@@ -6,7 +6,7 @@ use lib.Dec.{ltb}
 use lib.ListN.{length, getD, take, drop}
 use Rattle.model.specs.Basics.{choose}
 use Rattle.model.specs.Load.{Composition, Refused, Loaded, refused, ok, load}
-use Rattle.model.specs.Step.{silent, enters, leaves, Step, Answer, labelled, refusal}
+use Rattle.model.specs.Step.{silent, enters, leaves, logs, Step, Answer, labelled, refusal}
 use Rattle.model.specs.Answer.{Said, label, number, Given, given}
 use Rattle.model.specs.Runs.{answers}
 
@@ -42,11 +42,12 @@ abbrev pub allStepWords : List Step → List ℕ
 allStepWords [] = []
 allStepWords (x ∷ xs) = stepWords x ++ allStepWords xs
 
--- what an answer says, in two words: 0 silent, 1 in, 2 out, 3 refused; and the refusal's number
+-- what an answer says, in two words: 0 silent, 1 in, 2 out, 3 refused, 4 log; and the refusal's number
 abbrev pub saidWords : Said → List ℕ
 saidWords (label silent) = 0 ∷ 0 ∷ []
 saidWords (label enters) = 1 ∷ 0 ∷ []
 saidWords (label leaves) = 2 ∷ 0 ∷ []
+saidWords (label logs) = 4 ∷ 0 ∷ []
 saidWords (number k) = 3 ∷ k ∷ []
 
 -- an answer in 20 words: what it says, its side, its value's length, and 16 words, zero past the length
@@ -65,7 +66,9 @@ abbrev pub saidIn : (word k : ℕ) → Said
 saidIn zero k = label silent
 saidIn (suc zero) k = label enters
 saidIn (suc (suc zero)) k = label leaves
-saidIn (suc (suc (suc w))) k = number k
+saidIn (suc (suc (suc zero))) k = number k
+saidIn (suc (suc (suc (suc zero)))) k = label logs
+saidIn (suc (suc (suc (suc (suc w))))) k = number k
 
 -- an answer of side n that says so, with the value words v
 abbrev pub answerBy : Said → (n : ℕ) → (v : List ℕ) → Answer

@@ -36,7 +36,7 @@ use Rattle.dispatch.specs.Stepping.{settingOf, OwnReady}
 use Rattle.dispatch.specs.Sharing.{shelvesIn, shelvedOf, Shelves, sidesIn, stateIn, Lent, AtSide, markedBy, MarkedAt}
 use Rattle.dispatch.proofs.AllSides.{shelves-of}
 use Rattle.dispatch.proofs.InState as there
-use Rattle.wrappers.proofs.Described.{has-in}
+use Rattle.model.proofs.Formed.Invariant.{which}
 use Rattle.loading.specs.declared.Outcome.{Outcome}
 use Rattle.loading.specs.declared.Outcome.the-variants.{Ok, Refused}
 use Rattle.loading.specs.Loading.{refusalOf, refusalIn}
@@ -139,7 +139,7 @@ module _ (b : Composition) (s : State) (a : Outcome) (e : refusalOf a ≡ refusa
     loads = ok-loads (load b) a e z
 
     pub tables-pass : TablesPass b
-    tables-pass = λ n h. ok-taken b loads .sides n (has-in (b .wrapper) n h) h .passes
+    tables-pass = λ n h. ok-taken b loads .sides n (which (b .wrapper) n h) h .passes
 
     pub ready-formed : (r : Bool) → r ≡ fitsArrays s & wfState b (viewState s) → r ≡ fitsArrays s & ready b (viewState s)
     unfolding ready _&_

@@ -21,7 +21,7 @@ use Rattle.model.proofs.Formed.Growing.{core-ok}
 use Rattle.model.proofs.Formed.Invariant.{core-short}
 use Rattle.model.proofs.Formed.Starts.{start-side}
 use Rattle.scopes.proofs.ScopeBound.{passes-checked}
-use Rattle.wrappers.proofs.Described.{has-in}
+use Rattle.model.proofs.Formed.Invariant.{which}
 use Rattle.sides.specs.declared.Rest.{Rest}
 use Rattle.sides.specs.Layout.{viewBoxes}
 use Rattle.sides.specs.Stored.{boxPut}
@@ -43,7 +43,7 @@ number-in i h =
 
 -- a side that the wrapper has: its number, and its place
 pub has-number : (w i : ℕ) → hasSide (described w) i ≡ true → (0 < i) × (i ≤ length allSides)
-has-number w i h = number-in i (has-in w i h)
+has-number w i h = number-in i (which w i h)
 
 pub has-place : (w i : ℕ) → hasSide (described w) i ≡ true → i - 1 < length allSides
 has-place w i h = let n = has-number w i h in omega (arith, n .0, n .1)

@@ -12,8 +12,9 @@ use Rattle.calculus.specs.Congruence.{_≋_}
 use Rattle.calculus.specs.Transitions.{Label, tau, send, recv, Participants, lone, joint, In, names, lnames}
 use Rattle.calculus.specs.Transitions.{Step as Trans}
 use Rattle.calculus.specs.Named.{Code, cnil, cpar, cbox, cnew, cout, cinp, named, shape, withPat, public, proc}
-use Rattle.calculus.specs.Wrappers.{W1, W2, midName}
+use Rattle.calculus.specs.Wrappers.{W1, W2, L, midName}
 use Rattle.calculus.specs.Tree.{process}
+use Rattle.model.specs.Basics.{has}
 use Rattle.model.specs.Values.{isTuple}
 use Rattle.model.specs.Table.{Table, Term, inp}
 use Rattle.model.specs.Table.{term as termAt}
@@ -23,7 +24,7 @@ use Rattle.model.specs.Unfolding.{particlesIn, boxesIn, newNamesIn}
 use Rattle.model.specs.Wrapper.{Wrapper, Route, shelves}
 use Rattle.model.specs.Load.{Composition, wrapperOf, table, load, ok}
 use Rattle.model.specs.WellFormed.{envAt, ready}
-use Rattle.model.specs.Step.{Step, silent, enters, leaves, Answer, labelled, refusal, step, known}
+use Rattle.model.specs.Step.{Step, silent, enters, leaves, logs, Answer, labelled, refusal, step, known}
 use Rattle.model.specs.Process.{vwords, valOf, patOf, codeOf, envOf, Mark, part, boxed, lobby, shelf, enterer, passer, taker, confOf, knownOf}
 
 -- THE PLACE OF A STEP: who takes part in its transition, by kind, side, i and j
@@ -53,11 +54,12 @@ someName f (x ∷ l) = f x || someName f l
 abbrev pub foreign : Val ℕ → Bool
 foreign v = someName (λ n. not (enterable n)) (names v)
 
--- the label of an answer: τ; an input on the side's inlet; an output on its outlet; its value is known by its words
+-- the label of an answer: τ; an input on the side's inlet; an output on its outlet, or on a channel of copies; its value is known by its words
 pub data Says (w : Wrapper) : Answer → Label → Type 0 where
   says-tau : {side : ℕ} → Says w (labelled silent side []) tau
   says-in : {side : ℕ} {ws : List ℕ} {v : Val ℕ} → ws ≡ vwords v → T (not (foreign v)) → Says w (labelled enters side ws) (recv (w .inlet side) (plain parent) v)
   says-out : {side : ℕ} {ws : List ℕ} {v : Val ℕ} → ws ≡ vwords v → T (not (foreign v)) → Says w (labelled leaves side ws) (send (w .outlet side) (plain parent) v)
+  says-log : {side c : ℕ} {ws : List ℕ} {v : Val ℕ} → has c (w .copies) ≡ true → ws ≡ vwords v → T (not (foreign v)) → Says w (labelled logs side ws) (send c (plain parent) v)
 
 -- a step asks for a label: kind 1 with the label's value, kind 7 for an output, the other kinds for τ
 pub data Asks : Step → Label → Type 0 where
@@ -88,6 +90,7 @@ unfoldable pub LoadAgrees : Type 0
 LoadAgrees = (b : Composition) (s : State) → load b ≡ ok s →
     (b .wrapper ≡ 1 → processOf b s ≋ W1 tt (handler (table b 1)))
     × (b .wrapper ≡ 2 → processOf b s ≋ W2 tt (handler (table b 1)) (handler (table b 2)))
+    × (b .wrapper ≡ 3 → processOf b s ≋ L tt (handler (table b 1)))
 
 -- SOUND: a label is given only where the calculus has that transition at that place, and the next state is where it leads
 
@@ -127,7 +130,10 @@ shelves? w side x = shelves w side && eqb x midName
 
 -- 17: a limit that the state after would pass
 pub data Over (b : Composition) (s : State) : Step → Type 0 where
-  lobby-full : {k : Step} → (k .kind ≡ 1) ⊎ (k .kind ≡ 8) → 16 ≤ length (side s (k .side) .core .lobby) → Over b s k
+  -- a message comes, at enter with its copies; at pass the copies alone come
+  enter-full : {k : Step} → k .kind ≡ 1 → 16 ≤ length (side s (k .side) .core .lobby) + length (wrapperOf b .copies) → Over b s k
+  pass-full : {k : Step} → k .kind ≡ 6 → 17 ≤ length (side s (k .side) .core .lobby) + length (wrapperOf b .copies) → Over b s k
+  take-full : {k : Step} → k .kind ≡ 8 → 16 ≤ length (side s (k .side) .core .lobby) → Over b s k
   down-full : {k : Step} → k .kind ≡ 2 → 32 ≤ length (partsOf s (k .side)) → Over b s k
   up-full : {k : Step} {x : ℕ} {v : List ℕ} → k .kind ≡ 3 → getElem? (partsOf s (k .side)) (k .i) ≡ some (output 0 x toParent v)
       → T (not (shelves? (wrapperOf b) (k .side) x)) → 16 ≤ length (side s (k .side) .core .lobby) → Over b s k

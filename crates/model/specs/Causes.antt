@@ -95,12 +95,20 @@ pub data Can (b : Composition) (s : State) (x : Step) : Type 0 where
   can-leave : {m : Message} → x .kind ≡ 7 → getElem? (lobbyOf s x) (x .i) ≡ some m → m .status ≡ leaving → Can b s x
   can-take : x .kind ≡ 8 → hasTaken (coreOf s x) 1 (x .i) ≡ false → Can b s x
 
+-- the filter and the logging wrapper have side 1 alone
+abbrev pub Alone : Composition → Type 0
+Alone b = (b .wrapper ≡ 1) ⊎ (b .wrapper ≡ 3)
+
+-- how many copies leave of a message that enters or passes: one, under the logging wrapper
+abbrev pub copyCount : Composition → ℕ
+copyCount b = cond (eqb (b .wrapper) 3) 1 0
+
 -- from box 0 of side 1 on channel 2 under the pipeline an output goes to the shelf
 abbrev pub ToShelf : Composition → Step → ℕ → Type 0
 ToShelf b x ch = (b .wrapper ≡ 2) × (x .side ≡ 1) × (ch ≡ 2)
 
 -- 10: tables that load refuses, or a state not well formed for them; no such kind, side or position; unused i or j not 0; value
--- words in kinds 2 to 8; kind 8 under the filter or from side 1
+-- words in kinds 2 to 8; kind 8 under the filter or the logging wrapper, or from side 1
 pub data Row10 (b : Composition) (s : State) (x : Step) : Type 0 where
   tables : {r : Refused} → load b ≡ refused r → Row10 b s x
   state : wfState b s ≡ false → Row10 b s x
@@ -114,7 +122,7 @@ pub data Row10 (b : Composition) (s : State) (x : Step) : Type 0 where
   unused-i : Kind (1 ∷ []) x → (x .i ≡ 0 → ⊥) → Row10 b s x
   unused-j : Kind (1 ∷ 2 ∷ 3 ∷ 6 ∷ 7 ∷ 8 ∷ []) x → (x .j ≡ 0 → ⊥) → Row10 b s x
   value-words : Kind (2 ∷ 3 ∷ 4 ∷ 5 ∷ 6 ∷ 7 ∷ 8 ∷ []) x → (x .words ≡ [] → ⊥) → Row10 b s x
-  kind-8-filter : x .kind ≡ 8 → b .wrapper ≡ 1 → Row10 b s x
+  kind-8-alone : x .kind ≡ 8 → Alone b → Row10 b s x
   kind-8-side-1 : x .kind ≡ 8 → x .side ≡ 1 → Row10 b s x
 
 -- 11: entered value malformed, empty or over 16 words, or a word not a tuple, public name or minted number with serial up to 255
@@ -130,7 +138,10 @@ pub data Row17 (b : Composition) (s : State) (x : Step) : Type 0 where
   particles-meet : (m : Meeting b s x) → 32 + gone (m .again) < length (particlesOf s x) + particlesIn (m .body) → Row17 b s x
   boxes : (m : Meeting b s x) → 16 < length (boxesOf s x) + boxesIn (m .body) → Row17 b s x
   minted : (m : Meeting b s x) → 256 < coreOf s x .contents .minted + newNamesIn (m .body) → Row17 b s x
-  lobby : Kind (1 ∷ 8 ∷ []) x → 16 < length (lobbyOf s x) + 1 → Row17 b s x
+  -- a message comes, at enter with its copies; at pass the copies alone come
+  lobby-enter : x .kind ≡ 1 → 16 < length (lobbyOf s x) + 1 + copyCount b → Row17 b s x
+  lobby-pass : x .kind ≡ 6 → 16 < length (lobbyOf s x) + copyCount b → Row17 b s x
+  lobby-take : x .kind ≡ 8 → 16 < length (lobbyOf s x) + 1 → Row17 b s x
   lobby-up : {ch : ℕ} {v : List ℕ} → x .kind ≡ 3 → getElem? (particlesOf s x) (x .i) ≡ some (output 0 ch toParent v) → (ToShelf b x ch → ⊥)
       → 16 < length (lobbyOf s x) + 1 → Row17 b s x
   shelf : {ch : ℕ} {v : List ℕ} → x .kind ≡ 3 → getElem? (particlesOf s x) (x .i) ≡ some (output 0 ch toParent v) → ToShelf b x ch
@@ -215,12 +226,12 @@ pub data TableCause (t : Table) : (number node : ℕ) → Type 0 where
   start-minted : 256 < newNamesIn (term t 0) → TableCause t 7 0
 
 pub data LoadCause (b : Composition) : (number side node : ℕ) → Type 0 where
-  -- wrapper not 1 or 2, with side 0
-  wrapper : (b .wrapper ≡ 1 → ⊥) → (b .wrapper ≡ 2 → ⊥) → LoadCause b 1 0 0
+  -- wrapper not 1, 2 or 3, with side 0
+  wrapper : (b .wrapper ≡ 1 → ⊥) → (b .wrapper ≡ 2 → ⊥) → (b .wrapper ≡ 3 → ⊥) → LoadCause b 1 0 0
   of-table : {n k p : ℕ} → hasSide (wrapperOf b) n ≡ true → TableCause (table b n) k p → LoadCause b k n p
-  -- under the filter, side 2's slices not empty
-  filter-nodes : b .wrapper ≡ 1 → (table b 2 .nodes ≡ [] → ⊥) → LoadCause b 1 2 0
-  filter-pool : b .wrapper ≡ 1 → (table b 2 .pool ≡ [] → ⊥) → LoadCause b 1 2 0
+  -- under the filter and the logging wrapper, side 2's slices not empty
+  alone-nodes : Alone b → (table b 2 .nodes ≡ [] → ⊥) → LoadCause b 1 2 0
+  alone-pool : Alone b → (table b 2 .pool ≡ [] → ⊥) → LoadCause b 1 2 0
 
 -- wrapper, then side 1 wholly, then side 2; within a side the lowest number; and of that the lowest node
 abbrev pub Before : (n k p n′ k′ p′ : ℕ) → Type 0

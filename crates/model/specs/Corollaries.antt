@@ -57,8 +57,8 @@ PremiseNeeded = (s s' : State) × (load sending ≡ ok s) × (load idle ≡ ok s
 -- LISTING A
 
 -- the copier of document 004: !in^up y. out^up <y y>
-abbrev pub copies : Proc (Unit {0}) []
-copies = inp replicated tt inName parent var (out tt (inr outName) (plain parent) (tup (vcons (nm (inl tt)) (vcons (nm (inl tt)) vnil))))
+abbrev pub copierProcess : Proc (Unit {0}) []
+copierProcess = inp replicated tt inName parent var (out tt (inr outName) (plain parent) (tup (vcons (nm (inl tt)) (vcons (nm (inl tt)) vnil))))
 
 -- in^up 20, four silent ones, out^up <20 20>
 abbrev pub labelsA : List Label
@@ -66,4 +66,4 @@ labelsA = recv 0 (plain parent) (nm 20) ∷ tau ∷ tau ∷ tau ∷ tau ∷ send
 
 -- from W1 round the copier, listing A is a sequence of published transitions
 unfoldable pub ListingA : Type 0
-ListingA = (s : State) × (s' : State) × (load copier ≡ ok s) × (processOf copier s ≋ W1 tt copies) × Path copier (knownOf s) s labelsA s'
+ListingA = (s : State) × (s' : State) × (load copier ≡ ok s) × (processOf copier s ≋ W1 tt copierProcess) × Path copier (knownOf s) s labelsA s'

@@ -68,6 +68,9 @@ putLeft l o = record { core = o .core; left = l }
 abbrev pub alone : Composition
 alone = filter nothingAtAll []
 
+abbrev pub recorded : Composition
+recorded = record { wrapper = 3; tables = alone .tables }
+
 abbrev pub joined : Composition
 joined = pipeline nothingAtAll [] nothingAtAll []
 
@@ -291,7 +294,7 @@ takenRows =
     ∷ unformed joined (both (on 1 (putShelf ((20 ∷ []) ∷ []))) (on 1 (putTaken (takenOnly 0))))
     ∷ []
 
--- the filter's side 2 and shelf are empty; and so is side 2's shelf under the pipeline
+-- the filter's and the logging wrapper's side 2 and shelf are empty; and so is side 2's shelf under the pipeline
 abbrev pub emptyRows : List Row
 emptyRows =
     unformed alone (on 1 (putShelf ((20 ∷ []) ∷ [])))
@@ -304,9 +307,15 @@ emptyRows =
     ∷ unformed alone (on 2 (putTaken (takenOnly 0)))
     ∷ unformed alone (both (on 1 (putMinted 1)) (on 2 (putLeft (leftAt 0))))
     ∷ unformed joined (on 2 (putShelf ((20 ∷ []) ∷ [])))
+    ∷ unformed recorded (on 1 (putShelf ((20 ∷ []) ∷ [])))
+    ∷ unformed recorded (on 1 (putTaken (takenOnly 0)))
+    ∷ unformed recorded (on 2 (putParticles (plain ∷ [])))
+    ∷ unformed recorded (on 2 (putBoxes (box 0 0 ∷ [])))
+    ∷ unformed recorded (on 2 (putLobby (message down 0 ∷ [])))
     ∷ []
 
--- from the section on a side's state: a lobby message is down on `in` or `mid`, arrived on any channel, or leaving on `out`
+-- from the section on a side's state: a lobby message is down on `in` or `mid`, arrived on any channel, or leaving on `out`; under the logging
+-- wrapper on `log` too (document 02, request 2.1)
 abbrev pub lobbyRows : List Row
 lobbyRows =
     formed alone (on 1 (putLobby (message down 0 ∷ [])))
@@ -317,6 +326,14 @@ lobbyRows =
     ∷ unformed alone (on 1 (putLobby (message leaving 0 ∷ [])))
     ∷ formed alone (on 1 (putLobby (message leaving 1 ∷ [])))
     ∷ unformed alone (on 1 (putLobby (message leaving 2 ∷ [])))
+    ∷ unformed alone (on 1 (putLobby (message leaving 3 ∷ [])))
+    ∷ unformed joined (on 1 (putLobby (message leaving 3 ∷ [])))
+    ∷ unformed joined (on 2 (putLobby (message leaving 3 ∷ [])))
+    ∷ formed recorded (on 1 (putLobby (message leaving 3 ∷ message leaving 1 ∷ message down 0 ∷ message arrived 3 ∷ message arrived 2 ∷ [])))
+    ∷ unformed recorded (on 1 (putLobby (message leaving 0 ∷ [])))
+    ∷ unformed recorded (on 1 (putLobby (message leaving 2 ∷ [])))
+    ∷ unformed recorded (on 1 (putLobby (message leaving 4 ∷ [])))
+    ∷ unformed recorded (on 1 (putLobby (message down 3 ∷ [])))
     ∷ []
 
 -- a state has two sides, each with 512 marks of names that left and 64 taken marks, on a side that the wrapper lacks too

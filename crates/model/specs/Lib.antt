@@ -18,5 +18,6 @@ pub mod Wrapped
 pub mod Causes
 pub mod Trials
 pub mod MoreTrials
+pub mod LoggingTrials
 pub mod FormedStates
 pub mod Corollaries

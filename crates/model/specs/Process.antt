@@ -8,7 +8,7 @@ use lib.Dec.{ltb, eqb}
 use Rattle.calculus.specs.Syntax.{Val, Vals, nm, tup, vnil, vcons, ITag, Tag, plain, receivedParent, receivedChild, Mode, once, replicated, Proc}
 use Rattle.calculus.specs.Syntax.{within as iwithin, parent as iparent, child as ichild, out as pout}
 use Rattle.calculus.specs.Named.{NPat, NPats, any, named, parts, pno, pand, Code, cnil, cpar, cbox, cnew, cout, cinp, proc}
-use Rattle.calculus.specs.Wrappers.{inName, outName, midName, envIn, envOut, forward}
+use Rattle.calculus.specs.Wrappers.{inName, outName, midName, envIn, envOut, forward, forwardWith}
 use Rattle.calculus.specs.Tree.{Place, Item, Conf}
 use Rattle.model.specs.Basics.{oneOf, every}
 use Rattle.model.specs.Values.{isPublic, isMinted, isTuple, arity, distinct, Env, value}
@@ -187,6 +187,10 @@ abbrev pub numbered : {A B : Type 0} → (ℕ → A → B) → ℕ → List A �
 numbered f i [] = []
 numbered f i (x ∷ xs) = f i x ∷ numbered f (suc i) xs
 
+-- the environment's name of the channel on which a message leaves: the side's outlet for `out`
+abbrev pub leavesAs : Wrapper → (side chan : ℕ) → ℕ
+leavesAs w side c = cond (eqb c outName) (w .outlet side) c
+
 module _ {M : Type 0} (mk : Mark → M) where
   -- a particle in its box: an output as it stands, an input under its environment
   abbrev pub partItem : Table → (side i : ℕ) → Particle → Item M
@@ -198,7 +202,7 @@ module _ {M : Type 0} (mk : Mark → M) where
   abbrev pub msgProc : Wrapper → (side i : ℕ) → Status → (chan : ℕ) → (val : List ℕ) → Proc M []
   msgProc w side i down c v = pout (mk (lobby side i)) c (plain (ichild (ownName side))) (valOf v)
   msgProc w side i arrived c v = pout (mk (lobby side i)) c (receivedChild (ownName side)) (valOf v)
-  msgProc w side i leaving c v = pout (mk (lobby side i)) (w .outlet side) (plain iparent) (valOf v)
+  msgProc w side i leaving c v = pout (mk (lobby side i)) (leavesAs w side c) (plain iparent) (valOf v)
 
   abbrev pub msgItem : Wrapper → (side i : ℕ) → Message → Item M
   msgItem w side i m = record { site = 0; what = msgProc w side i (m .status) (m .chan) (m .val) }
@@ -215,12 +219,12 @@ module _ {M : Type 0} (mk : Mark → M) where
   abbrev pub sideItems : Wrapper → (side : ℕ) → Table → Core → List (Item M)
   sideItems w side T s = numbered (msgItem w side) 0 (s .lobby) ++ numbered (partItem T side) 0 (s .contents .particles)
 
-  -- the wrapper's own inputs: in from the environment, out from the handler, mid from a source to a receiver
+  -- the wrapper's own inputs: in from the environment and out from the handler, with their copies; mid from a source to a receiver
   abbrev pub enters : Wrapper → ℕ → Item M
-  enters w side = record { site = 0; what = forward [] (mk (enterer side)) (mk inert) (w .inlet side) iparent inName (ichild (ownName side)) }
+  enters w side = record { site = 0; what = forwardWith [] (mk (enterer side)) (mk inert) (w .copies) (w .inlet side) iparent inName (ichild (ownName side)) }
 
   abbrev pub passes : Wrapper → ℕ → Item M
-  passes w side = record { site = 0; what = forward [] (mk (passer side)) (mk inert) outName (ichild (ownName side)) (w .outlet side) iparent }
+  passes w side = record { site = 0; what = forwardWith [] (mk (passer side)) (mk inert) (w .copies) outName (ichild (ownName side)) (w .outlet side) iparent }
 
   abbrev pub takes : Route → Item M
   takes r = record { site = 0; what = forward [] (mk (taker (r .source) (r .receiver))) (mk inert) midName (ichild (ownName (r .source))) midName (ichild (ownName (r .receiver))) }

@@ -11,27 +11,29 @@ use Rattle.calculus.specs.Congruence.{_≋_}
 use Rattle.calculus.specs.Transitions.{Label, tau, send, recv, Participants, lnames}
 use Rattle.calculus.specs.Transitions.{Step as Trans}
 use Rattle.calculus.specs.Marks.{Published}
+use Rattle.calculus.specs.Wrappers.{logName}
 use Rattle.calculus.specs.Tree.{process}
 use Rattle.model.specs.Side.{State}
 use Rattle.model.specs.Wrapper.{hasSide}
 use Rattle.model.specs.Load.{Composition, wrapperOf}
 use Rattle.model.specs.WellFormed.{ready}
-use Rattle.model.specs.Step.{Step, refusal, step}
+use Rattle.model.specs.Step.{Step, labelled, logs, refusal, step}
 use Rattle.model.specs.Runs.{afterAll}
 use Rattle.model.specs.Process.{Mark, confOf, knownOf}
 use Rattle.model.specs.Agreement.{At, Asks, Says, processOf, answerSide, Excused, Rename, renamed, Written}
 
--- PURITY (document 004, Propositions 2 and 4)
+-- PURITY (document 004, Propositions 2 to 4)
 
 -- a side that the wrapper has
 abbrev pub HasSide : Composition → ℕ → Type 0
 HasSide b side = T (hasSide (wrapperOf b) side)
 
--- τ, an input from the environment on a side's inlet, an output to it on a side's outlet
+-- τ, an input from the environment on a side's inlet, an output to it on a side's outlet, or, under wrapper 3 alone, on `log`
 pub data PureLabel (b : Composition) : Label → Type 0 where
   pure-tau : PureLabel b tau
   pure-in : (side : ℕ) {v : Val ℕ} → HasSide b side → PureLabel b (recv (wrapperOf b .inlet side) (plain parent) v)
   pure-out : (side : ℕ) {v : Val ℕ} → HasSide b side → PureLabel b (send (wrapperOf b .outlet side) (plain parent) v)
+  pure-log : {v : Val ℕ} → b .wrapper ≡ 3 → PureLabel b (send logName (plain parent) v)
 
 -- every transition of a state's process has such a label
 unfoldable pub Pure : Type 0
@@ -40,6 +42,10 @@ Pure = (b : Composition) (s : State) (l : Label) (w : Participants Mark) (R : Pr
 -- and so has every published transition of it
 unfoldable pub PurePublished : Type 0
 PurePublished = (b : Composition) (s : State) (l : Label) (Q : Proc (Unit {0}) []) → ready b s ≡ true → Published (knownOf s) (processOf b s) l Q → PureLabel b l
+
+-- and no step of another wrapper than 3 is labelled log, in any state (document 02, request 2.1)
+unfoldable pub LogAlone : Type 0
+LogAlone = (b : Composition) (s : State) (k : Step) (side : ℕ) (v : List ℕ) → step b s k .answer ≡ labelled logs side v → b .wrapper ≡ 3
 
 -- COMPLETE FOR PUBLISHED TRANSITIONS
 

@@ -12,7 +12,7 @@ use Rattle.model.specs.Side.{State, Side, side}
 use Rattle.model.specs.Wrapper.{Wrapper, hasSide}
 use Rattle.model.specs.Load.{Composition, wrapperOf, Refused, load, refused, ok, table}
 use Rattle.model.specs.WellFormed.{ready}
-use Rattle.model.specs.Step.{Step, silent, enters, leaves, marked, Answer, labelled, refusal, step, answerTo, afterStep}
+use Rattle.model.specs.Step.{Step, silent, enters, leaves, logs, marked, Answer, labelled, refusal, step, answerTo, afterStep}
 
 -- a step with a side of the group, and those of a list in their order
 abbrev pub isOf : (group : List ℕ) → Step → Bool
@@ -49,11 +49,12 @@ unfoldable pub afterAll : Composition → State → List Step → State
 afterAll b s [] = s
 afterAll b s (x ∷ xs) = afterAll b (step b s x .after) xs
 
--- the value of an out label of a side of the group
+-- the value of an out or log label of a side of the group
 abbrev pub leftBy : (group : List ℕ) → Answer → List ℕ
 leftBy g (labelled silent n v) = []
 leftBy g (labelled enters n v) = []
 leftBy g (labelled leaves n v) = cond (has n g) v []
+leftBy g (labelled logs n v) = cond (has n g) v []
 leftBy g (refusal k n) = []
 
 -- the minted names among some words left earlier
@@ -87,7 +88,7 @@ RefusedWhole =
     ((b : Composition) (s : State) (x : Step) → (ready b s ≡ false) ⊎ (hasSide (wrapperOf b) (x .side) ≡ false) → (step b s x .answer ≡ refusal 10 (x .side)) × (step b s x .after ≡ s))
     × ((b : Composition) (x : Step) → (answerTo b none x ≡ refusal 10 (x .side)) × (afterStep b none x ≡ none))
 
--- side n's left marks after a step: those before it, and the minted names of its own out label, and nothing else
+-- side n's left marks after a step: those before it, and the minted names of its own out or log label, and nothing else
 unfoldable pub LeftMarks : Type 0
 LeftMarks = (b : Composition) (s : State) (x : Step) (n w : ℕ) → isMinted w ≡ true
     → marked (side (step b s x .after) n .left) w ≡ (marked (side s n .left) w || has w (leftBy (n ∷ []) (step b s x .answer)))

@@ -1,6 +1,6 @@
 -- The eight steps.
 use mathlib.Core.Bool.{Bool, true, false, not, cond}
-use mathlib.Core.List.{List, [], _∷_, _++_}
+use mathlib.Core.List.{List, [], _∷_, _++_, map}
 use mathlib.Core.Option.{Option, none, some}
 use Prim.Native.Nat.{ℕ, zero, suc, _+_, _-_, _*_}
 use lib.Dec.{leb, ltb, eqb}
@@ -22,8 +22,9 @@ pub record Step : Type 0 where
   pub j : ℕ
   pub words : List ℕ
 
+-- `logs` is the label log, of wrapper 3 alone
 pub data Label : Type 0 where
-  silent enters leaves : Label
+  silent enters leaves logs : Label
 
 -- what a step that is not refused does: its label with the label's value, and the side's core after it
 pub record Moved : Type 0 where
@@ -44,12 +45,16 @@ withLobby s l = record { contents = s .contents; lobby = l; shelf = s .shelf; ta
 abbrev pub withParticles : Contents → List Particle → Contents
 withParticles u p = record { particles = p; boxes = u .boxes; minted = u .minted }
 
--- 1 Enter: a down message on `in` is added to the lobby. `known` are the minted names that have left
-unfoldable pub enter : (known : ℕ → Bool) → Core → List ℕ → Res Moved
-enter known s ws =
+-- a leaving copy of a value on each channel of a list
+abbrev pub copied : (copies : List ℕ) → List ℕ → List Message
+copied cs v = map (λ c. record { status = leaving; chan = c; val = v }) cs
+
+-- 1 Enter: copies that leave, then a down message on `in`, are added to the lobby. `known` are the minted names that have left
+unfoldable pub enter : (copies : List ℕ) → (known : ℕ → Bool) → Core → List ℕ → Res Moved
+enter cs known s ws =
     need (isValue ws) 11
     (need (every (λ w. not (isMinted w) or known w) ws) 12
-    (done (record { label = enters; val = ws; core = withLobby s (s .lobby ++ (record { status = down; chan = 0; val = ws } ∷ [])) })))
+    (done (record { label = enters; val = ws; core = withLobby s (s .lobby ++ (copied cs ws ++ (record { status = down; chan = 0; val = ws } ∷ []))) })))
 
 abbrev pub isDown : Status → Bool
 isDown down = true
@@ -166,19 +171,23 @@ meetParticles c s i j (input b n vs) p = refuse 13
 unfoldable pub meet : Setting → Core → ℕ → ℕ → Res Moved
 meet c s i j = pick (s .contents .particles) i λ p. pick (s .contents .particles) j λ q. meetParticles c s i j p q
 
--- 6 Pass: lobby i, arrived on `out`, becomes leaving
-unfoldable pub pass : Core → ℕ → Res Moved
-pass s i =
+-- 6 Pass: lobby i, arrived on `out`, becomes leaving; copies that leave are added last
+unfoldable pub pass : (copies : List ℕ) → Core → ℕ → Res Moved
+pass cs s i =
     pick (s .lobby) i λ m.
     need (isArrived (m .status) & eqb (m .chan) 1) 13
-    (silently (withLobby s (set (s .lobby) i (record { status = leaving; chan = 1; val = m .val }))))
+    (silently (withLobby s (set (s .lobby) i (record { status = leaving; chan = 1; val = m .val }) ++ copied cs (m .val))))
 
--- 7 Leave: lobby i, leaving, is removed. Label out, with its value
+-- the label of a message that leaves on a channel: out for `out`, log for the other
+abbrev pub leavingOn : ℕ → Label
+leavingOn c = cond (eqb c 1) leaves logs
+
+-- 7 Leave: lobby i, leaving, is removed. Label out or log, with its value
 unfoldable pub leave : Core → ℕ → Res Moved
 leave s i =
     pick (s .lobby) i λ m.
     need (isLeaving (m .status)) 13
-    (done (record { label = leaves; val = m .val; core = withLobby s (remove (s .lobby) i) }))
+    (done (record { label = leavingOn (m .chan); val = m .val; core = withLobby s (remove (s .lobby) i) }))
 
 -- 8 Take: shelf i of a source, not yet taken, is marked and added to the taker's lobby as down on `mid`
 unfoldable pub takes : (source : ℕ) → (shelf : List (List ℕ)) → Core → ℕ → Res Moved
@@ -202,13 +211,13 @@ inner c s x =
     (need (eqb (x .j) 0) 10
     (choose (eqb (x .kind) 2) (goDown s (x .i))
     (choose (eqb (x .kind) 3) (up c s (x .i))
-    (choose (eqb (x .kind) 6) (pass s (x .i))
+    (choose (eqb (x .kind) 6) (pass (c .wrapper .copies) s (x .i))
     (choose (eqb (x .kind) 7) (leave s (x .i)) (refuse 10))))))))
 
 -- kinds 1 to 8: of the rest a side sees which minted names may enter, and the shelves that it may take from
 unfoldable pub local : Setting → (known : ℕ → Bool) → (shelf : ℕ → List (List ℕ)) → Core → Step → Res Moved
 local c known sh s x =
-    choose (eqb (x .kind) 1) (need (eqb (x .i) 0 & eqb (x .j) 0) 10 (enter known s (x .words)))
+    choose (eqb (x .kind) 1) (need (eqb (x .i) 0 & eqb (x .j) 0) 10 (enter (c .wrapper .copies) known s (x .words)))
     (choose (eqb (x .kind) 8) (need (eqb (length (x .words)) 0) 10 (bind (routeTo (c .wrapper .routes) (c .side) (x .j)) λ r. takes (r .source) (sh (r .source)) s (x .i)))
     (inner c s x))
 
@@ -237,11 +246,12 @@ abbrev pub markAll : List Bool → List ℕ → List Bool
 markAll l [] = l
 markAll l (w ∷ ws) = markAll (mark1 l w) ws
 
--- a side's marks after a label: names that leave by its outlet are marked
+-- a side's marks after a label: names that leave by its outlet, or on `log`, are marked
 abbrev pub marks : Label → List ℕ → List Bool → List Bool
 marks silent v l = l
 marks enters v l = l
 marks leaves v l = markAll l v
+marks logs v l = markAll l v
 
 -- 12: a minted name may enter once it has left by an outlet
 abbrev pub known : State → ℕ → Bool

@@ -7,7 +7,7 @@ use Rattle.calculus.specs.Congruence.{_≋_}
 use Rattle.calculus.specs.Transitions.{Label, mem}
 use Rattle.calculus.specs.Marks.{Published, Seq, grownBy}
 use Rattle.calculus.specs.Purity.{EachLabel}
-use Rattle.calculus.specs.Wrappers.{W1, W2}
+use Rattle.calculus.specs.Wrappers.{W1, W2, L}
 use Rattle.model.specs.Side.{State}
 use Rattle.model.specs.Load.{Composition, table, load, ok}
 use Rattle.model.specs.Step.{Step}
@@ -22,6 +22,7 @@ use Rattle.model.specs.Published.{PureLabel, Offered, SaysAll}
 pub data Wraps (b : Composition) : Proc (Unit {0}) [] → Type 0 where
   as-filter : b .wrapper ≡ 1 → Wraps b (W1 tt (handler (table b 1)))
   as-pipeline : b .wrapper ≡ 2 → Wraps b (W2 tt (handler (table b 1)) (handler (table b 2)))
+  as-logging : b .wrapper ≡ 3 → Wraps b (L tt (handler (table b 1)))
 
 -- from a load that succeeds, every run's labels are a sequence of published transitions of the wrapper itself, to the process of
 -- the state after it
@@ -41,7 +42,7 @@ unfoldable pub WrapperComplete : Type 0
 WrapperComplete = (b : Composition) (s : State) (ks : List Step) (ls : List Label) (A : List ℕ) (Q R : Proc (Unit {0}) []) (l : Label)
     → Led b s ks ls A Q → Published A Q l R → Written l → Offered b (afterAll b s ks) l R
 
--- and its label is τ, an input on a side's inlet or an output on a side's outlet
+-- and its label is τ, an input on a side's inlet, an output on a side's outlet or, under wrapper 3, on `log`
 unfoldable pub WrapperPure : Type 0
 WrapperPure = (b : Composition) (s : State) (ks : List Step) (ls : List Label) (A : List ℕ) (Q R : Proc (Unit {0}) []) (l : Label)
     → Led b s ks ls A Q → Published A Q l R → PureLabel b l

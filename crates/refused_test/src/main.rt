@@ -185,7 +185,7 @@ fn filtered_line(good: bool, name: &[u8], nodes: &[u32], pool: &[u32], s: State)
     line(good, name, 1, nodes, pool, n, p, s);
 }
 
-// Wrappers; a state of the filter and one of the pipeline under the other wrapper.
+// Wrappers; a state of the filter and one of the pipeline under the other wrappers. One of the filter at its start suits the logging wrapper.
 fn wrappers() {
     let nodes = SOUND;
     let pool = WORDS;
@@ -197,12 +197,16 @@ fn wrappers() {
     let s = sends();
     piped_line(true, b"pipeline", n, p, s);
     line(false, b"wrapper 0", 0, n, p, n, p, s);
-    line(false, b"wrapper 3", 3, n, p, n, p, s);
+    line(false, b"wrapper 4", 4, n, p, n, p, s);
     filtered_line(true, b"filter", n, p, f);
     line(false, b"filter with nodes for side 2", 1, n, p, n, no, f);
     line(false, b"filter with words for side 2", 1, n, p, no, p, f);
     filtered_line(false, b"filter, state of the pipeline", n, p, s);
     piped_line(false, b"pipeline, state of the filter", n, p, f);
+    line(true, b"logging, state of the filter", 3, n, p, no, no, f);
+    line(false, b"logging with nodes for side 2", 3, n, p, n, no, f);
+    line(false, b"logging with words for side 2", 3, n, p, no, p, f);
+    line(false, b"logging, state of the pipeline", 3, n, p, no, no, s);
 }
 
 // States that suit their tables, under others.

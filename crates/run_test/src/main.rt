@@ -102,11 +102,11 @@ fn lent_words(pool: &[u32], steps: &[u32]) {
 // A wrapper that is none, a pool that is too short on side 2, and how these stand to a list that breaks off and to lent words
 // that are too few.
 fn refused<'a>(pool: &'a [u32], short: &'a [u32], steps: &[u32]) {
-    lent_60(3, pool, pool, steps, 13);
+    lent_60(4, pool, pool, steps, 13);
     lent_60(2, pool, short, steps, 13);
-    lent_60(3, pool, pool, steps, 0);
-    lent_39(3, pool, pool, steps, 13);
-    lent_39(3, pool, pool, steps, 12);
+    lent_60(4, pool, pool, steps, 0);
+    lent_39(4, pool, pool, steps, 13);
+    lent_39(4, pool, pool, steps, 12);
 }
 
 fn parts() {

@@ -15,7 +15,7 @@ use Rattle.model.specs.Load.{Composition, wrapperOf, start, startOf, ok, load}
 use Rattle.model.specs.Load.{table as tableOf}
 use Rattle.tables.specs.Nodes as slices
 use Rattle.wrappers.specs.Compositions.{composition}
-use Rattle.wrappers.proofs.Described.{has-in}
+use Rattle.model.proofs.Formed.Invariant.{which}
 use Rattle.sides.specs.declared.Rest.{Rest}
 use Rattle.sides.specs.Sides.{Nothing}
 use Rattle.loading.specs.Starting.{Startable, StartIs}
@@ -50,7 +50,7 @@ module _ {A : Type 0} (now : A → List ℕ) (w : ℕ) (ns ps : List A) (k n : �
       sym (ap₂ slices.table (map-at now ns k u [] a) (map-at now ps k v [] c))
 
   pub can-begin : Taken b → hasSide (described w) n ≡ true → Startable n t
-  can-begin h has = subst (λ (x : Table). Startable n x) (ap (tableOf b) same ∙ table-is) (h .sides n (has-in w n has) has)
+  can-begin h has = subst (λ (x : Table). Startable n x) (ap (tableOf b) same ∙ table-is) (h .sides n (which w n has) has)
 
   pub begins-at : (l : List ℕ) (r : Rest) → BeginIs (described w) n t l r → BeginIs (wrapperOf b) (k + 1) (tableOf b (k + 1)) l r
   begins-at l r h =

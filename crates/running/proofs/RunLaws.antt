@@ -74,6 +74,7 @@ two-said : (y : Said) → saidWords (saidOf y) ≡ getD (saidWords (saidOf y)) 0
 two-said said.Silent = refl
 two-said said.In = refl
 two-said said.Out = refl
+two-said said.Log = refl
 two-said (said.Refused n) = refl
 
 -- its first four words, before zeros

@@ -35,7 +35,7 @@ fn narrow(n: usize) -> u32
     }
 }
 
-// What an answer says, as the first of its words: 0 silent, 1 in, 2 out, 3 refused.
+// What an answer says, as the first of its words: 0 silent, 1 in, 2 out, 3 refused, 4 log.
 fn label_word(said: Said) -> u32
     ensures { λ r. ⌜ r ≡ getD (saidWords (saidOf said)) 0 0 ⌝ }
 {
@@ -43,6 +43,7 @@ fn label_word(said: Said) -> u32
         Said::Silent => 0,
         Said::In => 1,
         Said::Out => 2,
+        Said::Log => 4,
         Said::Refused(_) => 3,
     }
 }
@@ -55,6 +56,7 @@ fn number_word(said: Said) -> u32
         Said::Silent => 0,
         Said::In => 0,
         Said::Out => 0,
+        Said::Log => 0,
         Said::Refused(n) => n,
     }
 }

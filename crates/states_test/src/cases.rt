@@ -7,7 +7,7 @@ use wrappers::has_shelf;
 
 // Where: 0 on every side, 1 where the side may have a shelf, 2 where it may not. Whether it is allowed. What is put, by its number in
 // the crate `test_states` (changes.rt); how much or which.
-const ROWS: [[usize; 4]; 47] = [
+const ROWS: [[usize; 4]; 55] = [
     [0, 1, 19, 1], // 0: an output in a box: there are boxes 0 and 1
     [0, 0, 19, 2],
     [0, 1, 20, 63], // 2: the last of eight values; fields that are not read
@@ -49,12 +49,20 @@ const ROWS: [[usize; 4]; 47] = [
     [0, 1, 31, 1], // 38: under the filter
     [0, 0, 31, 2],
     [0, 0, 31, 256],
-    [0, 0, 0, 1], // 41: the filter's side 2
+    [0, 0, 0, 1], // 41: side 2 of the filter and of the logging wrapper
     [0, 0, 4, 1],
     [0, 0, 5, 1],
     [0, 0, 7, 1],
     [0, 0, 9, 1],
     [0, 0, 31, 0],
+    [0, 0, 30, 3], // 47: leaving on log under the filter and the pipeline
+    [0, 1, 30, 1], // 48: under the logging wrapper: leaving on out and on log, and on no other; log is no other status's
+    [0, 1, 30, 3],
+    [0, 0, 30, 0],
+    [0, 0, 30, 2],
+    [0, 0, 30, 4],
+    [0, 1, 29, 3],
+    [0, 0, 28, 3],
 ];
 
 // Whether a row is for a side.
@@ -69,7 +77,7 @@ fn is_for(at: usize, start: Start, side: u32) -> bool {
 
 // The lines of a part of the list.
 pub fn cases(start: Start, side: u32, from: usize, to: usize)
-    requires { ⌜ to ≤ 47 ⌝ }
+    requires { ⌜ to ≤ 55 ⌝ }
 {
     let mut k = from;
     while k < to {

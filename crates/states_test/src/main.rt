@@ -15,12 +15,12 @@
 //               25, 6); particle 31 of 32
 //   wfBoxes     box 1 parent 1; box 15 of 16; box name by `names_test`
 //   wfContents  no particles, boxes 0
-//   wfMessage   down on 1 and a minted name; arrived on 2 on side 1 of the pipeline; leaving on 2 and a minted name;
-//               message 15 of 16
+//   wfMessage   down on 1 and a minted name; arrived on 2 on side 1 of the pipeline; leaving on 2 and a minted name, and on 3 but under
+//               the logging wrapper; message 15 of 16
 //   wfCore      shelf 1 on side 2 and under the filter; shelf 31 of 32
 //   wfLeft      left 1 and 258 (the filter's: 2 and 256)
 //   wfTaken     taken on side 1; on side 2 at a place past the shelf's length, and at 32 and 63, places of side 2's shelf
-//   isNoSide    filter 2: particles, boxes, messages, shelf, minted, left, taken
+//   isNoSide    filter 2 and logging 2: particles, boxes, messages, shelf, minted, left, taken
 mod cases; // one thing put anew
 mod inputs; // waiting inputs
 
@@ -79,6 +79,20 @@ fn filter() {
     taken_case(false, Start::Filter, 2, 0, 0);
 }
 
+// A message that leaves on log, under the others and under the logging wrapper; its side 1 but for that as the filter's, its side 2 empty.
+fn logging() {
+    cases(Start::Pipeline, 1, 47, 48);
+    cases(Start::Pipeline, 2, 47, 48);
+    cases(Start::Filter, 1, 47, 48);
+    untouched(Start::Logging);
+    cases(Start::Logging, 1, 48, 55);
+    cases(Start::Logging, 1, 28, 32);
+    cases(Start::Logging, 1, 38, 41);
+    taken_case(false, Start::Logging, 1, 0, 0);
+    cases(Start::Logging, 2, 41, 47);
+    taken_case(false, Start::Logging, 2, 0, 0);
+}
+
 fn main() {
     untouched(Start::Pipeline);
     untouched(Start::Filter);
@@ -88,4 +102,5 @@ fn main() {
     taken_marks();
     filter();
     taken_marks_past_32();
+    logging();
 }

@@ -3,7 +3,7 @@ use mathlib.Core.Path.{_≡_, refl, ap, _∙_}
 use mathlib.Core.Bool.{Bool, true, false, not}
 use mathlib.Core.List.{List, [], _∷_, _++_}
 use mathlib.Core.Option.{some}
-use Prim.Native.Nat.{ℕ, zero, suc, _<_, _≤_}
+use Prim.Native.Nat.{ℕ, zero, suc, _+_, _<_, _≤_}
 use native.Mathlib.Omega.{arith}
 use borrow.Author.Tests.{le-leb, eq-eqb, ne-eqb}
 use lib.Dec.{eqb}
@@ -14,8 +14,9 @@ use Rattle.model.specs.Side.{Tag, fromParent, fromChild, Particle, output, inpu
 use Rattle.model.specs.Unfolding.{addParticle}
 use Rattle.model.specs.Load.{Setting}
 use Rattle.model.specs.Wrapper.{shelves}
-use Rattle.model.specs.Step.{Moved, silent, enters, leaves, silently, withContents, withLobby, withParticles, isDown, isArrived, isLeaving, isToParent, isToChild}
+use Rattle.model.specs.Step.{Moved, silent, enters, leavingOn, copied, silently, withContents, withLobby, withParticles, isDown, isArrived, isLeaving, isToParent, isToChild}
 use Rattle.model.specs.Step.{enter, goDown, upFrom, upParticle, up, descendParticle, descend, pass, leave, short, settled}
+use Rattle.model.proofs.Formed.Keeping.{length-copied}
 use Rattle.model.proofs.Basics.Tests.{both, every-append, every-one, every-remove, every-set, length-remove}
 use Rattle.steps.proofs.Settling.{pick-past, pick-at, need-true, need-false, choose-true, choose-false, no-left, no-right, Within, limits-in, over-particles, over-lobby, over-shelf, settled-refused, settled-full, settled-within}
 
@@ -23,8 +24,8 @@ use Rattle.steps.proofs.Settling.{pick-past, pick-at, need-true, need-f
 abbrev pub downCore : Core → ℕ → Message → Core
 downCore s i m = withLobby (withContents s (addParticle (s .contents) (output 0 (m .chan) fromParent (m .val)))) (remove (s .lobby) i)
 
-abbrev pub passCore : Core → ℕ → Message → Core
-passCore s i m = withLobby s (set (s .lobby) i (record { status = leaving; chan = 1; val = m .val }))
+abbrev pub passCore : (copies : List ℕ) → Core → ℕ → Message → Core
+passCore cs s i m = withLobby s (set (s .lobby) i (record { status = leaving; chan = 1; val = m .val }) ++ copied cs (m .val))
 
 abbrev pub shelfCore : Core → ℕ → List ℕ → Core
 shelfCore s i v = record { contents = withParticles (s .contents) (remove (s .contents .particles) i); lobby = s .lobby; shelf = s .shelf ++ (v ∷ []); taken = s .taken }
@@ -35,8 +36,8 @@ lobbyCore s i ch v = withLobby (withContents s (withParticles (s .contents) (rem
 abbrev pub putCore : Core → ℕ → Particle → Core
 putCore s i p = withContents s (withParticles (s .contents) (set (s .contents .particles) i p))
 
-abbrev pub enterCore : Core → List ℕ → Core
-enterCore s v = withLobby s (s .lobby ++ (record { status = down; chan = 0; val = v } ∷ []))
+abbrev pub enterCore : (copies : List ℕ) → Core → List ℕ → Core
+enterCore cs s v = withLobby s (s .lobby ++ (copied cs v ++ (record { status = down; chan = 0; val = v } ∷ [])))
 
 abbrev pub quiet : Core → Moved
 quiet s = record { label = silent; val = []; core = s }
@@ -71,40 +72,50 @@ module _ (s : Core) (sh : every short (s .contents .particles) ≡ true) (few : 
       settled-within _ (quiet (downCore s i m)) (down-at i m e ∙ need-true _ _ _ t) (down-short m l)
       (record { particles = omega (arith, length-append (s .contents .particles) (output 0 (m .chan) fromParent (m .val) ∷ [])); boxes = w .boxes; minted = w .minted; lobby = omega (arith, length-remove (s .lobby) i); shelf = w .shelf })
 
-  -- pass
-  pub pass-10 : (i : ℕ) → length (s .lobby) ≤ i → settled (pass s i) ≡ refuse 10
-  unfolding pass
-  pass-10 i h = settled-refused _ _ (pick-past (s .lobby) i _ h)
+  -- pass, with copies on these channels
+  module _ (cs : List ℕ) where
+    pub pass-10 : (i : ℕ) → length (s .lobby) ≤ i → settled (pass cs s i) ≡ refuse 10
+    unfolding pass
+    pass-10 i h = settled-refused _ _ (pick-past (s .lobby) i _ h)
 
-  pass-at : (i : ℕ) (m : Message) → getElem? (s .lobby) i ≡ some m → pass s i ≡ need (isArrived (m .status) & eqb (m .chan) 1) 13 (silently (passCore s i m))
-  unfolding pass
-  pass-at i m e = pick-at (s .lobby) i m _ e
+    pass-at : (i : ℕ) (m : Message) → getElem? (s .lobby) i ≡ some m → pass cs s i ≡ need (isArrived (m .status) & eqb (m .chan) 1) 13 (silently (passCore cs s i m))
+    unfolding pass
+    pass-at i m e = pick-at (s .lobby) i m _ e
 
-  pub pass-13 : (i : ℕ) (m : Message) → getElem? (s .lobby) i ≡ some m → isArrived (m .status) & eqb (m .chan) 1 ≡ false → settled (pass s i) ≡ refuse 13
-  pass-13 i m e t = settled-refused _ _ (pass-at i m e ∙ need-false _ _ _ t)
+    pub pass-13 : (i : ℕ) (m : Message) → getElem? (s .lobby) i ≡ some m → isArrived (m .status) & eqb (m .chan) 1 ≡ false → settled (pass cs s i) ≡ refuse 13
+    pass-13 i m e t = settled-refused _ _ (pass-at i m e ∙ need-false _ _ _ t)
 
-  pub pass-done : (i : ℕ) (m : Message) → getElem? (s .lobby) i ≡ some m → isArrived (m .status) ≡ true → m .chan ≡ 1 → settled (pass s i) ≡ done (quiet (passCore s i m))
-  pass-done i m e t c =
-      let w = in-limits in
-      settled-within _ (quiet (passCore s i m)) (pass-at i m e ∙ need-true _ _ _ (both _ _ t (eq-eqb _ _ c))) sh
-      (record { particles = w .particles; boxes = w .boxes; minted = w .minted; lobby = omega (arith, length-set (s .lobby) i (record { status = leaving; chan = 1; val = m .val })); shelf = w .shelf })
+    pass-length : (i : ℕ) (m : Message) → length (passCore cs s i m .lobby) ≡ length (s .lobby) + length cs
+    pass-length i m =
+        let t : Message = record { status = leaving; chan = 1; val = m .val } in
+        omega (arith, length-append (set (s .lobby) i t) (copied cs (m .val)), length-set (s .lobby) i t, length-copied cs (m .val))
+
+    pub pass-17 : (i : ℕ) (m : Message) → getElem? (s .lobby) i ≡ some m → isArrived (m .status) ≡ true → m .chan ≡ 1 → 16 < length (s .lobby) + length cs → settled (pass cs s i) ≡ refuse 17
+    pass-17 i m e t c h =
+        settled-full _ (quiet (passCore cs s i m)) (pass-at i m e ∙ need-true _ _ _ (both _ _ t (eq-eqb _ _ c))) sh (over-lobby (passCore cs s i m) (omega (arith, pass-length i m)))
+
+    pub pass-done : (i : ℕ) (m : Message) → getElem? (s .lobby) i ≡ some m → isArrived (m .status) ≡ true → m .chan ≡ 1 → length (s .lobby) + length cs ≤ 16 → settled (pass cs s i) ≡ done (quiet (passCore cs s i m))
+    pass-done i m e t c h =
+        let w = in-limits in
+        settled-within _ (quiet (passCore cs s i m)) (pass-at i m e ∙ need-true _ _ _ (both _ _ t (eq-eqb _ _ c))) sh
+        (record { particles = w .particles; boxes = w .boxes; minted = w .minted; lobby = omega (arith, pass-length i m); shelf = w .shelf })
 
   -- leave
   pub leave-10 : (i : ℕ) → length (s .lobby) ≤ i → settled (leave s i) ≡ refuse 10
   unfolding leave
   leave-10 i h = settled-refused _ _ (pick-past (s .lobby) i _ h)
 
-  leave-at : (i : ℕ) (m : Message) → getElem? (s .lobby) i ≡ some m → leave s i ≡ need (isLeaving (m .status)) 13 (done (record { label = leaves; val = m .val; core = withLobby s (remove (s .lobby) i) }))
+  leave-at : (i : ℕ) (m : Message) → getElem? (s .lobby) i ≡ some m → leave s i ≡ need (isLeaving (m .status)) 13 (done (record { label = leavingOn (m .chan); val = m .val; core = withLobby s (remove (s .lobby) i) }))
   unfolding leave
   leave-at i m e = pick-at (s .lobby) i m _ e
 
   pub leave-13 : (i : ℕ) (m : Message) → getElem? (s .lobby) i ≡ some m → isLeaving (m .status) ≡ false → settled (leave s i) ≡ refuse 13
   leave-13 i m e t = settled-refused _ _ (leave-at i m e ∙ need-false _ _ _ t)
 
-  pub leave-done : (i : ℕ) (m : Message) → getElem? (s .lobby) i ≡ some m → isLeaving (m .status) ≡ true → settled (leave s i) ≡ done (record { label = leaves; val = m .val; core = withLobby s (remove (s .lobby) i) })
+  pub leave-done : (i : ℕ) (m : Message) → getElem? (s .lobby) i ≡ some m → isLeaving (m .status) ≡ true → settled (leave s i) ≡ done (record { label = leavingOn (m .chan); val = m .val; core = withLobby s (remove (s .lobby) i) })
   leave-done i m e t =
       let w = in-limits in
-      settled-within _ (record { label = leaves; val = m .val; core = withLobby s (remove (s .lobby) i) }) (leave-at i m e ∙ need-true _ _ _ t) sh
+      settled-within _ (record { label = leavingOn (m .chan); val = m .val; core = withLobby s (remove (s .lobby) i) }) (leave-at i m e ∙ need-true _ _ _ t) sh
       (record { particles = w .particles; boxes = w .boxes; minted = w .minted; lobby = omega (arith, length-remove (s .lobby) i); shelf = w .shelf })
 
   -- up
@@ -224,27 +235,32 @@ module _ (s : Core) (sh : every short (s .contents .particles) ≡ true) (few : 
     descend-done h p t l =
         settled-within _ (quiet (putCore s i (output j ch fromParent v))) (descend-is h p t) (put-short i j ch fromParent v l) (put-within i (output j ch fromParent v))
 
-  -- enter
-  module _ (known : ℕ → Bool) (ws : List ℕ) where
-    pub enter-11 : isValue ws ≡ false → settled (enter known s ws) ≡ refuse 11
+  -- enter, with copies on these channels
+  module _ (cs : List ℕ) (known : ℕ → Bool) (ws : List ℕ) where
+    pub enter-11 : isValue ws ≡ false → settled (enter cs known s ws) ≡ refuse 11
     unfolding enter
     enter-11 e = settled-refused _ _ (need-false _ _ _ e)
 
-    pub enter-12 : isValue ws ≡ true → every (λ w. not (isMinted w) or known w) ws ≡ false → settled (enter known s ws) ≡ refuse 12
+    pub enter-12 : isValue ws ≡ true → every (λ w. not (isMinted w) or known w) ws ≡ false → settled (enter cs known s ws) ≡ refuse 12
     unfolding enter
     enter-12 e t = settled-refused _ _ (need-true _ _ _ e ∙ need-false _ _ _ t)
 
-    enter-is : isValue ws ≡ true → every (λ w. not (isMinted w) or known w) ws ≡ true → enter known s ws ≡ done (record { label = enters; val = ws; core = enterCore s ws })
+    abbrev pub entered : Moved
+    entered = record { label = enters; val = ws; core = enterCore cs s ws }
+
+    enter-is : isValue ws ≡ true → every (λ w. not (isMinted w) or known w) ws ≡ true → enter cs known s ws ≡ done entered
     unfolding enter
     enter-is e t = need-true _ _ _ e ∙ need-true _ _ _ t
 
-    pub enter-17 : isValue ws ≡ true → every (λ w. not (isMinted w) or known w) ws ≡ true → 16 ≤ length (s .lobby) → settled (enter known s ws) ≡ refuse 17
-    enter-17 e t h =
-        settled-full _ (record { label = enters; val = ws; core = enterCore s ws }) (enter-is e t) sh
-        (over-lobby (enterCore s ws) (omega (arith, length-append (s .lobby) (record { status = down; chan = 0; val = ws } ∷ []))))
+    enter-length : length (enterCore cs s ws .lobby) ≡ length (s .lobby) + (length cs + 1)
+    enter-length =
+        let M : List Message = record { status = down; chan = 0; val = ws } ∷ [] in
+        omega (arith, length-append (s .lobby) (copied cs ws ++ M), length-append (copied cs ws) M, length-copied cs ws)
 
-    pub enter-done : isValue ws ≡ true → every (λ w. not (isMinted w) or known w) ws ≡ true → length (s .lobby) < 16 → settled (enter known s ws) ≡ done (record { label = enters; val = ws; core = enterCore s ws })
+    pub enter-17 : isValue ws ≡ true → every (λ w. not (isMinted w) or known w) ws ≡ true → 16 < length (s .lobby) + (length cs + 1) → settled (enter cs known s ws) ≡ refuse 17
+    enter-17 e t h = settled-full _ entered (enter-is e t) sh (over-lobby (enterCore cs s ws) (omega (arith, enter-length)))
+
+    pub enter-done : isValue ws ≡ true → every (λ w. not (isMinted w) or known w) ws ≡ true → length (s .lobby) + (length cs + 1) ≤ 16 → settled (enter cs known s ws) ≡ done entered
     enter-done e t h =
         let w = in-limits in
-        settled-within _ (record { label = enters; val = ws; core = enterCore s ws }) (enter-is e t) sh
-        (record { particles = w .particles; boxes = w .boxes; minted = w .minted; lobby = omega (arith, length-append (s .lobby) (record { status = down; chan = 0; val = ws } ∷ [])); shelf = w .shelf })
+        settled-within _ entered (enter-is e t) sh (record { particles = w .particles; boxes = w .boxes; minted = w .minted; lobby = omega (arith, enter-length); shelf = w .shelf })

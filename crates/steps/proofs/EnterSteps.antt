@@ -1,8 +1,8 @@
 -- Enter and take, and the marks of left names: a law for each way that the code goes.
-use mathlib.Core.Path.{_≡_, refl, sym, ap, subst, _∙_}
+use mathlib.Core.Path.{_≡_, refl, sym, ap, ap₂, subst, _∙_}
 use mathlib.Core.Logic.{⊎-elim}
 use mathlib.Core.Bool.{Bool, true, false, _||_}
-use mathlib.Core.List.{List, [], _∷_, _++_}
+use mathlib.Core.List.{List, [], _∷_, _++_, append-assoc}
 use mathlib.Core.Option.{some}
 use Prim.Native.Nat.{ℕ, zero, suc, _+_, _<_, _≤_}
 use native.Mathlib.Numerals.{add-one}
@@ -14,10 +14,12 @@ use lib.Seq.{take-all}
 use Rattle.model.specs.Basics.{_&_, _or_, refuse, every, oneOf}
 use Rattle.model.specs.Values.{isValue, isMinted}
 use Rattle.model.specs.Side.{down, takenAt}
-use Rattle.model.specs.Step.{enter, enters, takes, markOf, settled}
+use Rattle.model.specs.Side.{Message as MMessage}
+use Rattle.model.specs.Step.{copied, takes, markOf, settled}
 use Rattle.model.proofs.Basics.Tests.{fst, snd, both, or-cases}
 use Rattle.values.specs.declared.Value.{Value}
 use Rattle.values.specs.Env.{viewValue, Stores}
+use Rattle.wrappers.specs.Copies.{logIf}
 use Rattle.sides.specs.declared.Status.the-variants.{Down}
 use Rattle.sides.specs.declared.Message.{Message}
 use Rattle.sides.specs.declared.Lobby.{Lobby}
@@ -35,7 +37,7 @@ use Rattle.steps.proofs.CoreSteps as core
 use Rattle.steps.specs.declared.RestStep.{RestStep}
 use Rattle.steps.specs.StepIs.{StepIs, Sane}
 use Rattle.steps.specs.declared.Offer.{Offer}
-use Rattle.steps.specs.Asked.{Says, OfferIs, OfferIf, EnterAt, Source, TakeAt, knownBy, mayEnter}
+use Rattle.steps.specs.Asked.{Says, OfferIs, OfferIf, copyFits, enterBy, EnterAt, Source, TakeAt, knownBy, mayEnter}
 use Rattle.steps.proofs.TakeCore as source
 use Rattle.steps.proofs.Held.{Full, side-rows, side-lobby, side-shelf, side-again, same-core, lobby-n, quiet-is, said-is, offer-last}
 
@@ -97,45 +99,53 @@ module _ (ms : List (List Bool)) (ws : List ℕ) (k : ℕ) where
   pub may-all : length ws ≤ k → every (mayEnter ms) (take k ws) ≡ true → true ≡ every (mayEnter ms) ws
   may-all h p = sym (ap (every (mayEnter ms)) (sym (take-all k ws h)) ∙ p)
 
--- ENTER
-module _ (l : List ℕ) (o : Rest) (ms : List (List Bool)) (ws : List ℕ) (ok : Sane l o) where
-  pub enter-no-value : isValue ws ≡ false → settled (enter (knownBy ms) (coreOf l o) ws) ≡ refuse 11
-  enter-no-value e = core.enter-11 (coreOf l o) (ok .short-outputs) (ok .few) (knownBy ms) ws e
+-- ENTER, where the side is logged or not
+module _ (l : List ℕ) (o : Rest) (b : Bool) (ms : List (List Bool)) (ws : List ℕ) (ok : Sane l o) where
+  pub enter-no-value : isValue ws ≡ false → enterBy b ms l o ws ≡ refuse 11
+  enter-no-value e = core.enter-11 (coreOf l o) (ok .short-outputs) (ok .few) (logIf b) (knownBy ms) ws e
 
-  pub enter-unknown : isValue ws ≡ true → every (mayEnter ms) ws ≡ false → settled (enter (knownBy ms) (coreOf l o) ws) ≡ refuse 12
-  enter-unknown e f = core.enter-12 (coreOf l o) (ok .short-outputs) (ok .few) (knownBy ms) ws e f
+  pub enter-unknown : isValue ws ≡ true → every (mayEnter ms) ws ≡ false → enterBy b ms l o ws ≡ refuse 12
+  enter-unknown e f = core.enter-12 (coreOf l o) (ok .short-outputs) (ok .few) (logIf b) (knownBy ms) ws e f
 
   module _ (full : Full o) where
-    enter-full : isValue ws ≡ true → every (mayEnter ms) ws ≡ true → 16 ≤ o .lobby .len → settled (enter (knownBy ms) (coreOf l o) ws) ≡ refuse 17
-    enter-full e f n = core.enter-17 (coreOf l o) (ok .short-outputs) (ok .few) (knownBy ms) ws e f (rw (lobby-n l o ok full) n)
+    enter-full : isValue ws ≡ true → every (mayEnter ms) ws ≡ true → 16 < o .lobby .len + (length (logIf b) + 1) → enterBy b ms l o ws ≡ refuse 17
+    enter-full e f n = core.enter-17 (coreOf l o) (ok .short-outputs) (ok .few) (logIf b) (knownBy ms) ws e f (rw (lobby-n l o ok full) n)
 
     few-words : isValue ws ≡ true → length ws ≤ 16
     unfolding isValue
     few-words p = leb-true (length ws) 16 (fst _ _ p)
 
-    pub enter-last : isValue ws ≡ true → every (mayEnter ms) ws ≡ true → (a : Offer) → OfferIf (o .lobby .len < 16) (length ws) 17 a →
-        OfferIs (settled (enter (knownBy ms) (coreOf l o) ws)) (length ws) (EnterAt o ms ws) a
-    enter-last e f a w =
-        offer-last _ (length ws) (EnterAt o ms ws) (o .lobby .len < 16) 17 a w (λ room. record { shape = e; names = f; short = few-words e; room = room })
-        (λ none. enter-full e f (omega (arith, none)))
+    pub enter-last : isValue ws ≡ true → every (mayEnter ms) ws ≡ true → (n : ℕ) (a : Offer) → n ≡ length (logIf b) → OfferIf (o .lobby .len + (n + 1) ≤ 16) (length ws) 17 a →
+        OfferIs (enterBy b ms l o ws) (length ws) (EnterAt b o ms ws) a
+    enter-last e f n a same w =
+        offer-last _ (length ws) (EnterAt b o ms ws) (o .lobby .len + (n + 1) ≤ 16) 17 a w (λ room. record { shape = e; names = f; short = few-words e; room = omega (arith, room, same) })
+        (λ none. enter-full e f (omega (arith, none, same)))
 
-    pub enter-did : (k : ℕ) (r : RestStep) (v : Value) (m : Message) (y : Lobby) (t : Rest) (n : ℕ) → k ≡ length ws → EnterAt o ms ws k → Stores (take k ws) v →
+    pub enter-did : (k : ℕ) (r : RestStep) (v : Value) (m : Message) (z y : Lobby) (t : Rest) (n j : ℕ) → k ≡ length ws → EnterAt b o ms ws k → Stores (take k ws) v →
         m ≡ record { status = Down; channel = 0; value = v } →
-        LobbyIs (viewLobby (o .lobby) ++ (viewMessage m ∷ [])) n (fitsLobby (o .lobby) & fitsMessage m) y →
+        LobbyIs (viewLobby (o .lobby) ++ copied (logIf b) (viewValue v)) n (fitsLobby (o .lobby) & copyFits v) z →
+        LobbyIs (viewLobby z ++ (viewMessage m ∷ [])) j (fitsLobby z & fitsMessage m) y →
         t ≡ putLobby o y →
         r ≡ record { said = said.In; value = v; rest = t } →
-        StepIs (settled (enter (knownBy ms) (coreOf l o) ws)) l o l r
-    enter-did k r v m y t n same a st me ys te re =
+        StepIs (enterBy b ms l o ws) l o l r
+    enter-did k r v m z y t n j same a st me zs ys te re =
         let stored : Stores ws v = subst (λ (s : List ℕ). Stores s v) (take-all k ws (omega (arith, same))) st in
         let few : length ws ≤ 16 = omega (arith, same, a .short) in
         let vw : viewValue v ≡ ws = stored .words ∙ take-all 16 ws few in
         let len : v .len ≤ 16 = omega (arith, stored .count) in
+        let kept = value-fits v len in
         let fits : fitsSide l (putLobby o y) ≡ true =
-        side-again l l o (putLobby o y) (ok .arrays) refl (side-rows l o (ok .arrays)) (ys .fits (both _ _ (side-lobby l o (ok .arrays)) (ap fitsMessage me ∙ value-fits v len))) (side-shelf l o (ok .arrays)) in
-        let d = core.enter-done (coreOf l o) (ok .short-outputs) (ok .few) (knownBy ms) ws (a .shape) (a .names) (rw (lobby-n l o ok full) (a .room)) in
+        side-again l l o (putLobby o y) (ok .arrays) refl (side-rows l o (ok .arrays)) (ys .fits (both _ _ (zs .fits (both _ _ (side-lobby l o (ok .arrays)) kept)) (ap fitsMessage me ∙ kept))) (side-shelf l o (ok .arrays)) in
+        let room = subst (λ (c : ℕ). c + (length (logIf b) + 1) ≤ 16) (sym (lobby-n l o ok full)) (a .room) in
+        let d = core.enter-done (coreOf l o) (ok .short-outputs) (ok .few) (logIf b) (knownBy ms) ws (a .shape) (a .names) room in
+        let L : List MMessage = viewLobby (o .lobby) in
+        let lobby-is : viewLobby y ≡ L ++ (copied (logIf b) ws ++ (record { status = down; chan = 0; val = ws } ∷ [])) =
+        ys .view ∙ ap₂ (λ (u : List MMessage) (g : Message). u ++ (viewMessage g ∷ [])) (zs .view) me
+        ∙ ap (λ (u : List ℕ). (L ++ copied (logIf b) u) ++ (record { status = down; chan = 0; val = u } ∷ [])) vw
+        ∙ append-assoc L (copied (logIf b) ws) (record { status = down; chan = 0; val = ws } ∷ []) in
         rw re
-        (said-is _ (record { label = enters; val = ws; core = core.enterCore (coreOf l o) ws }) l l o (putLobby o y) (record { said = said.In; value = v; rest = t }) d refl vw len te
-        (rw (ys .view, me, vw)) refl fits)
+        (said-is _ (core.entered (coreOf l o) (ok .short-outputs) (ok .few) (logIf b) (knownBy ms) ws) l l o (putLobby o y) (record { said = said.In; value = v; rest = t }) d refl vw len te
+        (same-core (o .minted) (o .taken) refl refl lobby-is refl) refl fits)
 
 -- TAKE, from the shelf of the words h, which has n values
 module _ (l : List ℕ) (o : Rest) (m : ℕ) (h : List ℕ) (n i : ℕ) (ok : Sane l o) (full : Full o) (s : Source m h n) where
@@ -164,10 +174,10 @@ module _ (l : List ℕ) (o : Rest) (m : ℕ) (h : List ℕ) (n i : ℕ) (ok : Sa
     take-full : getD (o .taken) (takenAt m i) false ≡ false → 16 ≤ o .lobby .len → settled (takes m (viewShelf h n) (coreOf l o) i) ≡ refuse 17
     take-full t q = source.take-17 (coreOf l o) (ok .short-outputs) (ok .few) m (viewShelf h n) i _ held t (rw (lobby-n l o ok full) q)
 
-    pub take-last : getD (o .taken) (takenAt m i) false ≡ false → (a : Offer) → OfferIf (o .lobby .len < 16) i 17 a →
+    pub take-last : getD (o .taken) (takenAt m i) false ≡ false → (a : Offer) → OfferIf (o .lobby .len + 1 ≤ 16) i 17 a →
         OfferIs (settled (takes m (viewShelf h n) (coreOf l o) i)) i (TakeAt o m n) a
     take-last t a w =
-        offer-last _ i (TakeAt o m n) (o .lobby .len < 16) 17 a w (λ room. record { held = p; fresh = t; room = room })
+        offer-last _ i (TakeAt o m n) (o .lobby .len + 1 ≤ 16) 17 a w (λ room. record { held = p; fresh = t; room = omega (arith, room) })
         (λ none. take-full t (omega (arith, none)))
 
 pub take-did : (l : List ℕ) (o : Rest) (m : ℕ) (h : List ℕ) (n i k : ℕ) → k ≡ i → (ok : Sane l o) (full : Full o) (s : Source m h n)

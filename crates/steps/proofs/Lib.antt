@@ -1,6 +1,7 @@
 pub mod Settling
 pub mod CoreSteps
 pub mod Held
+pub mod CopyLaws
 pub mod TakeCore
 pub mod LobbySteps
 pub mod ParticleSteps

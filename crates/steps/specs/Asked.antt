@@ -2,7 +2,7 @@
 use mathlib.Core.Path.{_≡_}
 use mathlib.Core.Bool.{Bool, true, false, not, cond}
 use mathlib.Core.List.{List, []}
-use Prim.Native.Nat.{ℕ, _<_, _≤_}
+use Prim.Native.Nat.{ℕ, _+_, _<_, _≤_}
 use lib.Dec.{eqb}
 use lib.ListN.{length, getD}
 use Rattle.model.specs.Basics.{_&_, _or_, Res, refuse, every, oneOf}
@@ -10,10 +10,13 @@ use Rattle.model.specs.Values.{isValue, isMinted}
 use Rattle.model.specs.Wrapper.{allSides, shelves, filter, pipeline}
 use Rattle.model.specs.Load.{Setting}
 use Rattle.model.specs.Side.{takenAt}
-use Rattle.model.specs.Step.{Moved, isDown, isArrived, isLeaving, isToParent, isToChild, upFrom, marked, settled}
+use Rattle.model.specs.Step.{Moved, isDown, isArrived, isLeaving, isToParent, isToChild, upFrom, enter, marked, settled}
+use Rattle.values.specs.declared.Value.{Value}
 use Rattle.values.specs.Env.{Stores}
+use Rattle.wrappers.specs.Copies.{logIf}
 use Rattle.sides.specs.declared.Message.{Message}
-use Rattle.sides.specs.Views.{viewStatus}
+use Rattle.sides.specs.declared.Status.the-variants.{Leaving}
+use Rattle.sides.specs.Views.{viewStatus, fitsMessage}
 use Rattle.sides.specs.declared.Rest.{Rest}
 use Rattle.sides.specs.Layout.{rowAt, placesOf, tagIn, viewPlace, boxesOf, viewBox, fitsShelf}
 use Rattle.sides.specs.Sides.{coreOf}
@@ -49,11 +52,16 @@ pub record DownAt (o : Rest) (i : ℕ) : Type 0 where
   pub status : (d : Message) → isDown (viewStatus (getD (o .lobby .msgs) i d .status)) ≡ true
   pub room : o .particles < 32
 
--- lobby i has arrived on `out`
-pub record PassAt (o : Rest) (i : ℕ) : Type 0 where
+-- a copy of the value fits its array
+abbrev pub copyFits : Value → Bool
+copyFits v = fitsMessage (record { status = Leaving; channel = 3; value = v })
+
+-- lobby i has arrived on `out`, and there is room for its copies
+pub record PassAt (logging : Bool) (o : Rest) (i : ℕ) : Type 0 where
   pub held : i < o .lobby .len
   pub status : (d : Message) → isArrived (viewStatus (getD (o .lobby .msgs) i d .status)) ≡ true
   pub chan : (d : Message) → getD (o .lobby .msgs) i d .channel ≡ 1
+  pub room : o .lobby .len + length (logIf logging) ≤ 16
 
 -- lobby i is leaving
 pub record LeaveAt (o : Rest) (i : ℕ) : Type 0 where
@@ -102,12 +110,16 @@ knownBy ms w = oneOf (λ l. marked l w) ms
 abbrev pub mayEnter : List (List Bool) → ℕ → Bool
 mayEnter ms w = not (isMinted w) or knownBy ms w
 
--- the k words ws are a value that may enter, and there is room for a message
-pub record EnterAt (o : Rest) (ms : List (List Bool)) (ws : List ℕ) (k : ℕ) : Type 0 where
+-- what the model makes of the words ws as they enter
+abbrev pub enterBy : (logging : Bool) → List (List Bool) → List ℕ → Rest → (ws : List ℕ) → Res Moved
+enterBy logging ms l o ws = settled (enter (logIf logging) (knownBy ms) (coreOf l o) ws)
+
+-- the k words ws are a value that may enter, and there is room for a message and its copies
+pub record EnterAt (logging : Bool) (o : Rest) (ms : List (List Bool)) (ws : List ℕ) (k : ℕ) : Type 0 where
   pub shape : isValue ws ≡ true
   pub names : every (mayEnter ms) ws ≡ true
   pub short : k ≤ 16
-  pub room : o .lobby .len < 16
+  pub room : o .lobby .len + (length (logIf logging) + 1) ≤ 16
 
 -- the words l of a source have n values on their shelf
 pub record Source (source : ℕ) (l : List ℕ) (n : ℕ) : Type 0 where

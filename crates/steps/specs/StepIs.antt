@@ -7,7 +7,7 @@ use lib.Dec.{ltb}
 use lib.ListN.{length}
 use Rattle.model.specs.Basics.{Res, refuse, done, every}
 use Rattle.model.specs.Side.{limits, Particle, output, input}
-use Rattle.model.specs.Step.{Label, silent, enters, leaves, Moved, short}
+use Rattle.model.specs.Step.{Label, silent, enters, leaves, logs, Moved, short}
 use Rattle.values.specs.Env.{viewValue}
 use Rattle.sides.specs.declared.Rest.{Rest}
 use Rattle.sides.specs.Layout.{viewRows, viewBoxes}
@@ -20,6 +20,7 @@ use Rattle.steps.specs.declared.RestStep.{RestStep}
 abbrev pub labelOf : Said → Res Label
 labelOf said.In = done enters
 labelOf said.Out = done leaves
+labelOf said.Log = done logs
 labelOf said.Silent = done silent
 labelOf (said.Refused n) = refuse n
 

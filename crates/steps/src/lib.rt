@@ -5,6 +5,7 @@ ghost use Rattle.steps.specs.Asked.{Says, numberOf};
 use sides::Rest;
 use values::Value;
 
+mod copies;
 mod enter_step;
 mod left_marks;
 mod lobby_steps;
@@ -25,6 +26,7 @@ pub use take_step::take;
 pub enum Said {
     In,
     Out,
+    Log,
     Silent,
     Refused(u32),
 }

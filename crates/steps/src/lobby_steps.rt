@@ -1,13 +1,18 @@
 // Down, pass and leave: the steps that act on a lobby message.
 ghost use mathlib.Core.Path.{_≡_};
-ghost use Rattle.model.specs.Step.{isDown, isArrived, isLeaving, goDown, pass, leave, settled};
+ghost use Rattle.model.specs.Basics.{done};
+ghost use Rattle.model.specs.Step.{isDown, isArrived, isLeaving, goDown, pass, leavingOn, leave, settled};
+ghost use Rattle.wrappers.specs.Copies.{logIf};
 ghost use Rattle.sides.specs.Views.{viewStatus};
 ghost use Rattle.sides.specs.Sides.{coreOf};
 ghost use Rattle.steps.specs.Asked.{OfferIs, DownAt, PassAt, LeaveAt};
-ghost use Rattle.steps.specs.StepIs.{Sane, StepIs};
+ghost use Rattle.steps.specs.StepIs.{labelOf, Sane, StepIs};
 use crate::Offer;
 use crate::RestStep;
 use crate::Said;
+use crate::copies::copies;
+use crate::copies::with_copies;
+use crate::room::lobby_offer;
 use sides::Message;
 use sides::Output;
 use sides::Rest;
@@ -88,10 +93,10 @@ pub fn down(rows: &mut [u32], o: Rest, i: usize) -> RestStep
     RestStep::plain(Said::Silent, o.with_particles(n).with_lobby(l.without(k)))
 }
 
-// Whether lobby i has arrived on `out`.
-fn pass_offer(rows: &[u32], o: Rest, i: usize) -> Offer
+// Whether lobby i has arrived on `out`, with room for its copies.
+fn pass_offer(rows: &[u32], o: Rest, logging: bool, i: usize) -> Offer
     requires { ⌜ Sane (now rows) o ⌝ }
-    ensures { λ r. ⌜ OfferIs (settled (pass (coreOf (now (rows .entry)) o) i)) i (PassAt o) r ⌝ }
+    ensures { λ r. ⌜ OfferIs (settled (pass (logIf logging) (coreOf (now (rows .entry)) o) i)) i (PassAt logging o) r ⌝ }
 {
     let l = o.lobby;
     if l.len <= i {
@@ -105,15 +110,15 @@ fn pass_offer(rows: &[u32], o: Rest, i: usize) -> Offer
     if m.channel != 1 {
         return Offer::Refused(13);
     }
-    Offer::At(i)
+    lobby_offer(l.len, copies(logging), i)
 }
 
-// Pass: lobby i, arrived on `out`, becomes leaving. No word changes.
-pub fn pass(rows: &[u32], o: Rest, i: usize) -> RestStep
+// Pass: lobby i, arrived on `out`, becomes leaving, and copies that leave are added last. No word changes.
+pub fn pass(rows: &[u32], o: Rest, logging: bool, i: usize) -> RestStep
     requires { ⌜ Sane (now rows) o ⌝ }
-    ensures { λ r. ⌜ StepIs (settled (pass (coreOf (now (rows .entry)) o) i)) (now (rows .entry)) o (now (rows .entry)) r ⌝ }
+    ensures { λ r. ⌜ StepIs (settled (pass (logIf logging) (coreOf (now (rows .entry)) o) i)) (now (rows .entry)) o (now (rows .entry)) r ⌝ }
 {
-    let a = pass_offer(rows, o, i);
+    let a = pass_offer(rows, o, logging, i);
     let Offer::At(k) = a else {
         return RestStep::plain(Said::Refused(a.number()), o);
     };
@@ -121,7 +126,10 @@ pub fn pass(rows: &[u32], o: Rest, i: usize) -> RestStep
     let m = l.msgs[k];
     let v = m.value;
     let n = Message::new(Status::Leaving, 1, v);
-    RestStep::plain(Said::Silent, o.with_lobby(l.replaced(k, n)))
+    RestStep::plain(
+        Said::Silent,
+        o.with_lobby(with_copies(l.replaced(k, n), logging, v)),
+    )
 }
 
 // Whether lobby i is leaving.
@@ -141,6 +149,13 @@ fn leave_offer(rows: &[u32], o: Rest, i: usize) -> Offer
     Offer::At(i)
 }
 
+// What is said of a message that leaves on a channel: out for `out`, log for the other.
+fn leaving_on(channel: u32) -> Said
+    ensures { λ r. ⌜ labelOf r ≡ done (leavingOn channel) ⌝ }
+{
+    if channel == 1 { Said::Out } else { Said::Log }
+}
+
 // Leave: lobby i, leaving, is removed and said with its value. No word changes; the marks of left names follow from the label.
 pub fn leave(rows: &[u32], o: Rest, i: usize) -> RestStep
     requires { ⌜ Sane (now rows) o ⌝ }
@@ -152,11 +167,8 @@ pub fn leave(rows: &[u32], o: Rest, i: usize) -> RestStep
     };
     let l = o.lobby;
     let m = l.msgs[k];
+    let said = leaving_on(m.channel);
     let value = m.value;
     let rest = o.with_lobby(l.without(k));
-    RestStep {
-        said: Said::Out,
-        value,
-        rest,
-    }
+    RestStep { said, value, rest }
 }

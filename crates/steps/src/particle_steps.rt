@@ -69,7 +69,7 @@ fn to_lobby(rows: &mut [u32], o: Rest, i: usize) -> RestStep
     ensures { λ r. ⌜ ((c : Setting) → goesToShelf c (channelIn (now (rows .entry)) i) ≡ false → StepIs (upBy c (now (rows .entry)) o i 0 (channelIn (now (rows .entry)) i)) (now (rows .entry)) o (now (rows .exit)) r) ⌝ }
 {
     let l = o.lobby;
-    let a = lobby_offer(l.len, i);
+    let a = lobby_offer(l.len, 1, i);
     let Offer::At(k) = a else {
         return RestStep::plain(Said::Refused(a.number()), o);
     };

@@ -1,15 +1,15 @@
-// Room for one more in the lobby and on the shelf: 17.
-ghost use Prim.Native.Nat.{_<_, _≤_};
+// Room in the lobby and on the shelf: 17.
+ghost use Prim.Native.Nat.{_+_, _<_, _≤_};
 ghost use Rattle.steps.specs.Asked.{OfferIf};
 use crate::Offer;
 use sides::Side;
 
-// Whether a lobby of n messages has room for one more. The answer is k, the position or the value length of what is to be added.
-pub(crate) fn lobby_offer(n: usize, k: usize) -> Offer
-    requires { ⌜ n ≤ 16 ⌝ }
-    ensures { λ r. ⌜ OfferIf (n < 16) k 17 r ⌝ }
+// Whether a lobby of n messages has room for so many more. The answer is k, the position or the value length of what is to be added.
+pub(crate) fn lobby_offer(n: usize, more: usize, k: usize) -> Offer
+    requires { ⌜ (n ≤ 16) × (more ≤ 2) ⌝ }
+    ensures { λ r. ⌜ OfferIf (n + more ≤ 16) k 17 r ⌝ }
 {
-    if !Side::lobby_within(n + 1) {
+    if !Side::lobby_within(n + more) {
         return Offer::Refused(17);
     }
     Offer::At(k)

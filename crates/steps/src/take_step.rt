@@ -46,7 +46,7 @@ fn take_offer(
         return Offer::Refused(13);
     }
     let l = o.lobby;
-    lobby_offer(l.len, i)
+    lobby_offer(l.len, 1, i)
 }
 
 // Take: shelf i of the source, whose words are lent too, is marked and added to the lobby as down on `mid`. No word changes.

@@ -89,6 +89,10 @@ fn wrapper_name(wrapper: u32) {
         write(b" pipeline");
         return;
     }
+    if wrapper == 3 {
+        write(b" logging");
+        return;
+    }
     write(b" wrapper");
     word(wrapper);
 }

@@ -64,6 +64,16 @@ fn absent_piped(nodes: &[u32], pool: &[u32]) {
     line(b"one on both sides", 2, nodes, nodes, pool, s, 4294967295);
 }
 
+// So has the logging wrapper's side 1: a message that leaves as a copy is not stranded.
+fn absent_logged(nodes: &[u32], pool: &[u32]) {
+    let none = &nodes[..0];
+    let s = stranded_on_1(3, nodes, none, pool);
+    line(b"one on side 1", 3, nodes, none, pool, s, 1);
+    line(b"one on side 1", 3, nodes, none, pool, s, 2);
+    let t = after(3, nodes, none, pool, s, 1, 1, 0);
+    line(b"one on side 1, enter", 3, nodes, none, pool, t, 1);
+}
+
 // Side 1's message on `in` is up.
 pub fn stranded_on_1<'a>(
     wrapper: u32,
@@ -89,4 +99,6 @@ pub fn lines(nodes: &[u32], pool: &[u32]) {
     one_side(2, nodes, nodes, pool, 2);
     absent_filtered(nodes, pool);
     absent_piped(nodes, pool);
+    one_side(3, nodes, none, pool, 1);
+    absent_logged(nodes, pool);
 }

@@ -15,6 +15,7 @@ fn say(said: Said) {
     match said {
         Said::In => write(b" in"),
         Said::Out => write(b" out"),
+        Said::Log => write(b" log"),
         Said::Silent => write(b" tau"),
         Said::Refused(n) => {
             write(b" no");
@@ -74,6 +75,16 @@ fn piped(nodes: &[u32], pool: &[u32], s: State) {
     line(b"loaded", 2, nodes, nodes, pool, s, 4294967295);
 }
 
+// The logging wrapper has side 1, and no state of the pipeline.
+fn logged(nodes: &[u32], pool: &[u32]) {
+    let none = &nodes[..0];
+    let s = start(3, nodes, none, pool);
+    line(b"loaded", 3, nodes, none, pool, s, 1);
+    line(b"loaded", 3, nodes, none, pool, s, 0);
+    line(b"loaded", 3, nodes, none, pool, s, 2);
+    line(b"loaded with a side 2", 3, nodes, nodes, pool, s, 1);
+}
+
 // A state that is not well formed, tables that load refuses, and no wrapper: a side that is there, and one that is not.
 fn unready<'a>(nodes: &'a [u32], pool: &[u32], unknown: &'a [u32], s: State) {
     let t = with_minted(s, 1, 257);
@@ -81,8 +92,8 @@ fn unready<'a>(nodes: &'a [u32], pool: &[u32], unknown: &'a [u32], s: State) {
     line(b"257 names minted on side 2", 2, nodes, nodes, pool, t, 7);
     line(b"unknown kind on side 2", 2, nodes, unknown, pool, s, 1);
     line(b"unknown kind on side 2", 2, nodes, unknown, pool, s, 7);
-    line(b"no wrapper", 3, nodes, nodes, pool, s, 1);
-    line(b"no wrapper", 3, nodes, nodes, pool, s, 7);
+    line(b"no wrapper", 4, nodes, nodes, pool, s, 1);
+    line(b"no wrapper", 4, nodes, nodes, pool, s, 7);
 }
 
 // Sides that the wrappers have and lack, then states and tables that no step is made with.
@@ -90,5 +101,6 @@ pub fn lines<'a>(nodes: &'a [u32], pool: &[u32], unknown: &'a [u32]) {
     let s = start(2, nodes, nodes, pool);
     filtered(nodes, pool);
     piped(nodes, pool, s);
+    logged(nodes, pool);
     unready(nodes, pool, unknown, s);
 }

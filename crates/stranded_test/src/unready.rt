@@ -28,7 +28,7 @@ fn wrappers(nodes: &[u32], pool: &[u32], s: State) {
     let none = &nodes[..0];
     let f = stranded_on_1(1, nodes, none, pool);
     line(b"no wrapper", 0, nodes, nodes, pool, s, 1);
-    line(b"no wrapper", 3, nodes, nodes, pool, s, 2);
+    line(b"no wrapper", 4, nodes, nodes, pool, s, 2);
     line(b"tables for side 2", 1, nodes, nodes, pool, f, 1);
     line(b"state of the pipeline", 1, nodes, none, pool, s, 1);
     line(b"state of the filter", 2, nodes, nodes, pool, f, 1);

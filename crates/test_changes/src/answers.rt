@@ -14,6 +14,7 @@ fn say(said: Said) {
     match said {
         Said::In => write(b" in"),
         Said::Out => write(b" out"),
+        Said::Log => write(b" log"),
         Said::Silent => write(b" tau"),
         Said::Refused(n) => {
             write(b" no");

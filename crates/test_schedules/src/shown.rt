@@ -41,6 +41,8 @@ fn label(l: u32, refusal: u32) {
         write(b" in");
     } else if l == 2 {
         write(b" out");
+    } else if l == 4 {
+        write(b" log");
     } else {
         write(b" no");
         word(refusal);

@@ -25,11 +25,46 @@ fn wrapped<'n, 'p>(
     lines(name, &out, written(r), first, second);
 }
 
-// Under the filter.
-fn filtered(name: &[u8], nodes: &[u32], pool: &[u32], steps: &[u32], first: usize, second: usize) {
+// Under a wrapper of side 1 alone.
+fn alone(
+    name: &[u8],
+    wrapper: u32,
+    nodes: &[u32],
+    pool: &[u32],
+    steps: &[u32],
+    first: usize,
+    second: usize,
+) {
     let none = &nodes[..0];
     let empty = &pool[..0];
-    wrapped(name, 1, nodes, pool, none, empty, steps, first, second);
+    wrapped(
+        name,
+        wrapper,
+        nodes,
+        pool,
+        none,
+        empty,
+        steps,
+        first,
+        second,
+    );
+}
+
+// Under the filter.
+fn filtered(name: &[u8], nodes: &[u32], pool: &[u32], steps: &[u32], first: usize, second: usize) {
+    alone(name, 1, nodes, pool, steps, first, second);
+}
+
+// Under the logging wrapper, with the first n words of the steps.
+fn logged_part(name: &[u8], nodes: &[u32], pool: &[u32], steps: &[u32], n: usize) {
+    if n <= steps.len() {
+        alone(name, 3, nodes, pool, &steps[0..n], 1000, 1000);
+    }
+}
+
+// Under the logging wrapper, with the first n words of a list as steps.
+pub fn logged_list(name: &[u8], nodes: &[u32], pool: &[u32], list: &[u32; 4400], n: usize) {
+    logged_part(name, nodes, pool, list, n);
 }
 
 // The same with the first m words of the nodes and the first n of the steps.

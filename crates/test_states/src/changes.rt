@@ -58,5 +58,6 @@ pub(crate) fn base(start: Start) -> Change {
         Start::Pipeline => nothing(),
         Start::Filter => nothing(),
         Start::AllMinted => thing(1, 39, 0),
+        Start::Logging => nothing(),
     }
 }

@@ -111,7 +111,7 @@ fn count_if(lent: bool, n: usize) -> usize
     if lent { n } else { 0 }
 }
 
-// The handler under the pipeline on both sides, or under the filter on side 1.
+// The handler under the pipeline on both sides, or under another wrapper on side 1.
 fn loaded(wrapper: u32) -> LoadAnswer {
     let t = table();
     let nodes = t.nodes;
@@ -176,7 +176,7 @@ pub(crate) fn own_entered(wrapper: u32, s: State, side: u32, a: Change, b: Chang
 }
 
 // Steps: kind, side, two places, name.
-const STEPS: [[u32; 5]; 25] = [
+const STEPS: [[u32; 5]; 34] = [
     [3, 1, 3, 0, 0], // 0: side 1 under the pipeline: a value on the shelf, a name that left and entered again, an output from a child box, one in it
     [3, 1, 1, 0, 0],
     [6, 1, 0, 0, 0],
@@ -202,11 +202,20 @@ const STEPS: [[u32; 5]; 25] = [
     [7, 1, 1, 0, 0],
     [1, 1, 0, 0, 65536],
     [3, 1, 1, 0, 0],
+    [1, 1, 0, 0, 20], // 25: under the logging wrapper: the same, the name that left in a copy; copies stand in the lobby
+    [2, 1, 1, 0, 0],
+    [5, 1, 7, 0, 0],
+    [3, 1, 3, 0, 0],
+    [3, 1, 1, 0, 0],
+    [6, 1, 2, 0, 0],
+    [7, 1, 3, 0, 0],
+    [1, 1, 0, 0, 65536],
+    [3, 1, 1, 0, 0],
 ];
 
 // The state after step k of the list; the name is for `enter`, kind 1.
 fn next(wrapper: u32, s: State, k: usize) -> State
-    requires { ⌜ k < 25 ⌝ }
+    requires { ⌜ k < 34 ⌝ }
 {
     let row = STEPS[k];
     let n = count_if(row[0] == 1, 1);
@@ -220,7 +229,7 @@ fn next(wrapper: u32, s: State, k: usize) -> State
 
 // The state that load gives, after a part of the list.
 pub(crate) fn after(wrapper: u32, from: usize, to: usize) -> State
-    requires { ⌜ to ≤ 25 ⌝ }
+    requires { ⌜ to ≤ 34 ⌝ }
 {
     let a = loaded(wrapper);
     let mut s = a.state;

@@ -15,9 +15,10 @@ pub use lines::value_case;
 pub use starts::wrapper_of;
 
 // The state to start from: under the pipeline, side 1 having minted one name and side 2 two; under the filter, with two names minted;
-// under the pipeline, with 256 names minted on each side.
+// under the pipeline, with 256 names minted on each side; under the logging wrapper, as under the filter.
 pub enum Start {
     Pipeline,
     Filter,
     AllMinted,
+    Logging,
 }

@@ -23,10 +23,10 @@ fn head(good: bool, start: Start, side: u32) {
     } else {
         write(b"broken");
     }
-    if wrapper_of(start) == 2 {
-        write(b" pipeline");
-    } else {
-        write(b" filter");
+    match wrapper_of(start) {
+        1 => write(b" filter"),
+        2 => write(b" pipeline"),
+        _ => write(b" logging"),
     }
     word(side);
 }

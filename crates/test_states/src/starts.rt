@@ -13,6 +13,7 @@ pub fn wrapper_of(start: Start) -> u32
         Start::Pipeline => 2,
         Start::Filter => 1,
         Start::AllMinted => 2,
+        Start::Logging => 3,
     }
 }
 
@@ -22,5 +23,6 @@ pub(crate) fn started(start: Start) -> State {
         Start::Pipeline => after(2, 0, 16),
         Start::Filter => after(1, 16, 25),
         Start::AllMinted => after(2, 0, 16),
+        Start::Logging => after(3, 25, 34),
     }
 }

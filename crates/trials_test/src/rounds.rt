@@ -2,6 +2,7 @@
 use test_schedules::lists::narrow;
 use test_schedules::steps::arrive;
 use test_schedules::steps::down;
+use test_schedules::steps::enter_word;
 use test_schedules::steps::take;
 use test_schedules::steps::up;
 
@@ -41,6 +42,17 @@ pub fn threes(list: &mut [u32; 4400], at: usize, n: usize) -> usize {
     let mut k: usize = 0;
     while k < n {
         end = three(list, end);
+        k += 1;
+    }
+    end
+}
+
+// The name 20 enters on side 1, n times.
+pub fn enters(list: &mut [u32; 4400], at: usize, n: usize) -> usize {
+    let mut end = at;
+    let mut k: usize = 0;
+    while k < n {
+        end = enter_word(list, end, 1, 20);
         k += 1;
     }
     end

@@ -1,6 +1,6 @@
 -- Laws of boxes, messages, shelves and marks: one for each way that the code goes.
 use mathlib.Core.Path.{_≡_, refl, ap, _∙_}
-use mathlib.Core.Bool.{Bool, true, false, not}
+use mathlib.Core.Bool.{Bool, true, false, not, _||_}
 use mathlib.Core.List.{List, [], _∷_}
 use Prim.Native.Nat.{ℕ, suc, _+_, _/_, _%_, _<_, _≤_}
 use native.Mathlib.Numerals.{add-one}
@@ -8,9 +8,10 @@ use native.Mathlib.Omega.{arith}
 use borrow.Author.Tests.{lt-ltb, le-ltb, ne-eqb}
 use lib.Dec.{ltb, eqb}
 use lib.ListN.{length}
-use Rattle.model.specs.Basics.{_&_, _or_, every}
+use Rattle.model.specs.Basics.{_&_, _or_, every, has}
 use Rattle.model.specs.Side.{Box, Status, down, arrived, leaving}
 use Rattle.model.specs.WellFormed.{Counts, countOf, held, wfValue, wfBoxes, wfMessage, wfLeft, wfTaken}
+use Rattle.wrappers.specs.Copies.{logIf}
 use Rattle.sides.specs.Views.{viewStatus}
 use Rattle.sides.specs.declared.Status as dec
 use Rattle.sides.specs.declared.Status.the-variants.{Down, Arrived, Leaving}
@@ -38,33 +39,49 @@ module _ (k : Counts) where
       box-orphan h = rw (ne-eqb i 0 n, le-ltb (x .parent) i h)
 
 -- MESSAGES
-module _ (shelved : Bool) (s : dec.Status) (c : ℕ) where
-  pub down-in : s ≡ Down → c ≡ 0 → eqb c 0 ≡ channelFits shelved (viewStatus s) c
+module _ (shelved : Bool) (cs : List ℕ) (s : dec.Status) (c : ℕ) where
+  pub down-in : s ≡ Down → c ≡ 0 → eqb c 0 ≡ channelFits shelved cs (viewStatus s) c
   unfolding channelFits _or_
   down-in e h = rw (e, h)
 
-  pub down-mid : s ≡ Down → (c ≡ 0 → ⊥) → eqb c 2 ≡ channelFits shelved (viewStatus s) c
+  pub down-mid : s ≡ Down → (c ≡ 0 → ⊥) → eqb c 2 ≡ channelFits shelved cs (viewStatus s) c
   unfolding channelFits _or_
   down-mid e h = rw (e, ne-eqb c 0 h)
 
-  pub arrived-mid : s ≡ Arrived → shelved ≡ true → not (eqb c 2) ≡ channelFits shelved (viewStatus s) c
+  pub arrived-mid : s ≡ Arrived → shelved ≡ true → not (eqb c 2) ≡ channelFits shelved cs (viewStatus s) c
   unfolding channelFits _&_
   arrived-mid e h = rw (e, h)
 
-  pub arrived-any : s ≡ Arrived → shelved ≡ false → true ≡ channelFits shelved (viewStatus s) c
+  pub arrived-any : s ≡ Arrived → shelved ≡ false → true ≡ channelFits shelved cs (viewStatus s) c
   unfolding channelFits _&_
   arrived-any e h = rw (e, h)
 
-  pub leaving-out : s ≡ Leaving → eqb c 1 ≡ channelFits shelved (viewStatus s) c
-  unfolding channelFits
-  leaving-out e = rw e
+  pub leaving-out : s ≡ Leaving → c ≡ 1 → eqb c 1 ≡ channelFits shelved cs (viewStatus s) c
+  unfolding channelFits _or_
+  leaving-out e h = rw (e, h)
 
-pub message-is : (shelved : Bool) (k : Counts) (s : Status) (c : ℕ) (v : List ℕ) →
-    wfValue k v & (held k c & channelFits shelved s c) ≡ wfMessage shelved k (record { status = s; chan = c; val = v })
+  pub leaving-copy : s ≡ Leaving → (c ≡ 1 → ⊥) → (r : Bool) → r ≡ has c cs → r ≡ channelFits shelved cs (viewStatus s) c
+  unfolding channelFits _or_
+  leaving-copy e h r p = rw (e, ne-eqb c 1 h) p
+
+pub message-is : (shelved : Bool) (cs : List ℕ) (k : Counts) (s : Status) (c : ℕ) (v : List ℕ) →
+    wfValue k v & (held k c & channelFits shelved cs s c) ≡ wfMessage shelved cs k (record { status = s; chan = c; val = v })
 unfolding wfMessage channelFits
-message-is shelved k down c v = refl
-message-is shelved k arrived c v = refl
-message-is shelved k leaving c v = refl
+message-is shelved cs k down c v = refl
+message-is shelved cs k arrived c v = refl
+message-is shelved cs k leaving c v = refl
+
+-- a channel of copies, by whether there are any
+module _ (b : Bool) (c : ℕ) where
+  pub copied-log : b ≡ true → eqb c 3 ≡ has c (logIf b)
+  copied-log e = rw e (last (eqb c 3))
+    where
+      last : (x : Bool) → x ≡ x || false
+      last true = refl
+      last false = refl
+
+  pub copied-none : b ≡ false → false ≡ has c (logIf b)
+  copied-none e = rw e
 
 -- A SHELF where there is one, and where there is none
 module _ (k : Counts) (vs : List (List ℕ)) where

@@ -61,12 +61,13 @@ within-arrays words o full =
       shelf = few viewPlace (shelfOf words) (o .shelved) 32 (shelf-count words);
     }
 
-pub core-is : (c : Setting) (k : Counts) (s : Core) (b : Bool) → b ≡ shelves (c .wrapper) (c .side) → Within s →
-    leb (s .contents .minted) 256 & (wfContents (c .table) k (s .contents) & (every (wfMessage b k) (s .lobby) & shelfAllowed b k (s .shelf))) ≡ wfCore c k s
+pub core-is : (c : Setting) (k : Counts) (s : Core) (b : Bool) (cs : List ℕ) → b ≡ shelves (c .wrapper) (c .side) → c .wrapper .copies ≡ cs → Within s →
+    leb (s .contents .minted) 256 & (wfContents (c .table) k (s .contents) & (every (wfMessage b cs k) (s .lobby) & shelfAllowed b k (s .shelf))) ≡ wfCore c k s
 unfolding wfCore limits shelfAllowed _&_
-core-is c k s b e w =
+core-is c k s b cs e g w =
     rw (
       ← e,
+      g,
       le-leb (length (s .contents .particles)) 32 (w .particles),
       le-leb (length (s .contents .boxes)) 16 (w .boxes),
       le-leb (length (s .lobby)) 16 (w .lobby),

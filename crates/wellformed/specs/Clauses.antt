@@ -5,7 +5,7 @@ use mathlib.Core.List.{List, [], _∷_, map}
 use Prim.Native.Nat.{ℕ, suc, _+_, _*_, _/_, _%_, _<_}
 use lib.Dec.{leb, ltb, eqb}
 use lib.ListN.{length, getD}
-use Rattle.model.specs.Basics.{_&_, _or_, implies, every}
+use Rattle.model.specs.Basics.{_&_, _or_, implies, every, has}
 use Rattle.model.specs.Table.{Table, term, scope, kind, count}
 use Rattle.model.specs.Side.{Box, Status, down, arrived, leaving, Side}
 use Rattle.model.specs.Unfolding.{defined}
@@ -35,10 +35,10 @@ unfoldable pub takenAt : (taker : Bool) (h : Counts) → ℕ → Bool → Bool
 takenAt t h i x = implies x (t & ltb (i % 32) (countOf h (suc (i / 32))))
 
 -- where a message of a status may stand
-unfoldable pub channelFits : Bool → Status → ℕ → Bool
-channelFits shelved down c = eqb c 0 or eqb c 2
-channelFits shelved arrived c = not (shelved & eqb c 2)
-channelFits shelved leaving c = eqb c 1
+unfoldable pub channelFits : (shelved : Bool) (copies : List ℕ) → Status → ℕ → Bool
+channelFits shelved cs down c = eqb c 0 or eqb c 2
+channelFits shelved cs arrived c = not (shelved & eqb c 2)
+channelFits shelved cs leaving c = eqb c 1 or has c cs
 
 -- row i of a side's words is within its places
 pub record RowFits (words : List ℕ) (i : ℕ) : Type 0 where

@@ -23,6 +23,7 @@ use sides::Rest;
 use sides::Side;
 use sides::rows_fit;
 use sides::shelf_fits;
+use wrappers::has_log;
 use wrappers::has_shelf;
 use wrappers::has_side;
 use wrappers::takes_any;
@@ -81,10 +82,11 @@ fn core_ok(
     ensures { λ r. ⌜ r ≡ wfCore (settingOf wrapper side (table (now (nodes .entry)) (now (pool .entry)))) (now (counts .entry)) (coreOf (now (words .entry)) o) ⌝ }
 {
     let shelved = has_shelf(wrapper, side);
+    let logging = has_log(wrapper);
     let l = o.lobby;
     if Side::minted_within(o.minted) {
         if contents_ok(nodes, pool, counts, words, o.particles, o.boxes) {
-            if lobby_ok(shelved, counts, l) {
+            if lobby_ok(shelved, logging, counts, l) {
                 return shelf_ok(shelved, counts, words, o.shelved);
             }
             return false;

@@ -1,14 +1,17 @@
 -- The wrappers' descriptions at their numbers: a law for each way that the code goes.
 use mathlib.Core.Path.{_≡_, refl, sym, ap, _∙_}
-use mathlib.Core.Bool.{Bool, true, false, cond, _||_, false≢true}
+use mathlib.Core.Bool.{Bool, true, false, cond, _||_}
+use mathlib.Core.List.{List, []}
 use Prim.Native.Nat.{ℕ, _<_, _≤_}
 use native.Mathlib.Omega.{arith}
 use borrow.Author.Tests.{eq-eqb, ne-eqb, eqb-true, eqb-false}
 use lib.Dec.{eqb}
 use lib.ListN.{length}
-use Rattle.model.specs.Basics.{_&_, _or_, choose, refuse, done, has}
-use Rattle.model.specs.Wrapper.{allSides, filter, isWrapper, described, hasSide, shelves, takesAny}
+use Rattle.model.specs.Basics.{_&_, _or_, choose, refuse, done, oneOf, has}
+use Rattle.model.specs.Wrapper.{Route, allSides, filter, pipeline, logging, noWrapper, isWrapper, described, hasSide, shelves, takesAny}
 use Rattle.model.specs.Step.{routeTo}
+use Rattle.model.proofs.Basics.Sides.{described-by}
+use Rattle.wrappers.specs.Copies.{logIf}
 use Rattle.wrappers.specs.declared.Source.the-variants.{Side, Nowhere}
 use Rattle.wrappers.specs.Routes.{sourceBy, sourceFor}
 
@@ -29,39 +32,55 @@ module _ (w : ℕ) where
   unfolding _or_
   one-wrapper e = rw e refl
 
-  pub two-wrapper : (w ≡ 1 → ⊥) → eqb w 2 ≡ isWrapper w
+  pub two-wrapper : w ≡ 2 → true ≡ isWrapper w
   unfolding _or_
-  two-wrapper a = rw (ne-eqb w 1 a) refl
+  two-wrapper e = rw e refl
+
+  pub three-wrapper : (w ≡ 1 → ⊥) → (w ≡ 2 → ⊥) → eqb w 3 ≡ isWrapper w
+  unfolding _or_
+  three-wrapper a b = rw (ne-eqb w 1 a, ne-eqb w 2 b) refl
+
+  -- wrapper 3 alone has copies
+  pub log-at : eqb w 3 ≡ has 3 (described w .copies)
+  log-at = by (eqb w 3) refl
+    where
+      none : (x y : Bool) → has 3 (cond x filter (cond y pipeline noWrapper) .copies) ≡ false
+      none true y = refl
+      none false true = refl
+      none false false = refl
+
+      by : (x : Bool) → eqb w 3 ≡ x → eqb w 3 ≡ has 3 (described w .copies)
+      by true e = e ∙ sym (ap (λ (v : ℕ). has 3 (described v .copies)) (eqb-true w 3 e))
+      by false e = e ∙ sym (rw e (none (eqb w 1) (eqb w 2)))
 
   -- a number other than 2 describes no routes
   module _ (b : w ≡ 2 → ⊥) (n : ℕ) where
-    pub no-shelf : false ≡ shelves (described w) n
-    no-shelf = rw (ne-eqb w 2 b) (by (eqb w 1))
+    no-routes : described w .routes ≡ []
+    no-routes = rw (ne-eqb w 2 b) (by (eqb w 1) (eqb w 3))
       where
-        by : (x : Bool) → false ≡ shelves (cond x filter (described 0)) n
-        by true = refl
-        by false = refl
+        by : (x y : Bool) → cond x filter (cond y logging noWrapper) .routes ≡ []
+        by true y = refl
+        by false true = refl
+        by false false = refl
+
+    pub no-shelf : false ≡ shelves (described w) n
+    no-shelf = ap (λ (rs : List Route). oneOf (λ r. eqb (r .source) n) rs) (sym no-routes)
 
     pub no-taker : false ≡ takesAny (described w) n
-    no-taker = rw (ne-eqb w 2 b) (by (eqb w 1))
-      where
-        by : (x : Bool) → false ≡ takesAny (cond x filter (described 0)) n
-        by true = refl
-        by false = refl
+    no-taker = ap (λ (rs : List Route). oneOf (λ r. eqb (r .receiver) n) rs) (sym no-routes)
 
     pub no-source : (j : ℕ) → Nowhere ≡ sourceFor (described w) n j
     unfolding routeTo
-    no-source j = rw (ne-eqb w 2 b) (by (eqb w 1))
-      where
-        by : (x : Bool) → Nowhere ≡ sourceFor (cond x filter (described 0)) n j
-        by true = refl
-        by false = refl
+    no-source j = ap (λ (rs : List Route). sourceBy (routeTo rs n j)) (sym no-routes)
 
-    pub no-sides : (w ≡ 1 → ⊥) → false ≡ hasSide (described w) n
-    no-sides a = rw (ne-eqb w 1 a, ne-eqb w 2 b) refl
+    pub no-sides : (w ≡ 1 → ⊥) → (w ≡ 3 → ⊥) → false ≡ hasSide (described w) n
+    no-sides a c = rw (ne-eqb w 1 a, ne-eqb w 2 b, ne-eqb w 3 c) refl
 
   pub filter-side : w ≡ 1 → (n : ℕ) → eqb n 1 ≡ hasSide (described w) n
   filter-side e n = rw e (alone (eqb n 1))
+
+  pub logged-side : w ≡ 3 → (n : ℕ) → eqb n 1 ≡ hasSide (described w) n
+  logged-side e n = rw e (alone (eqb n 1))
 
   module _ (e : w ≡ 2) (n : ℕ) where
     pub first-side : n ≡ 1 → true ≡ hasSide (described w) n
@@ -106,15 +125,6 @@ source-in w n j m p = by (eqb w 2) refl
     by true e = let z : m ≡ 1 = first-only m (eqb 2 n & eqb 0 j) (p ∙ pipe-source w n j (eqb-true w 2 e)) in (omega arith, omega arith)
     by false e = let y : Side m ≡ Nowhere = p ∙ sym (no-source w (eqb-false w 2 e) n j) in let z : _≡_ {A = ℕ} 0 1 = cc in absurd (omega arith)
 
--- a side that a wrapper has is one of the sides
-pub has-in : (w n : ℕ) → hasSide (described w) n ≡ true → has n allSides ≡ true
-has-in w n p = by (eqb w 1) refl (eqb w 2) refl
-  where
-    one : (x y : Bool) → x || false ≡ true → x || (y || false) ≡ true
-    one true y q = refl
-    one false y q = absurd (false≢true q)
-
-    by : (x : Bool) → eqb w 1 ≡ x → (y : Bool) → eqb w 2 ≡ y → has n allSides ≡ true
-    by true e y f = one (eqb n 1) (eqb n 2) (sym (ap (λ (v : ℕ). hasSide (described v) n) (eqb-true w 1 e)) ∙ p)
-    by false e true f = sym (ap (λ (v : ℕ). hasSide (described v) n) (eqb-true w 2 f)) ∙ p
-    by false e false f = absurd (false≢true (no-sides w (eqb-false w 2 f) n (eqb-false w 1 e) ∙ p))
+-- the channels of copies, by whether there are any
+pub copies-are : (w : ℕ) (b : Bool) → b ≡ has 3 (described w .copies) → described w .copies ≡ logIf b
+copies-are w b e = described-by (λ d. d .copies ≡ logIf (has 3 (d .copies))) refl refl refl refl w ∙ ap logIf (sym e)

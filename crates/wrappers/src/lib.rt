@@ -1,6 +1,7 @@
-// The wrappers by their numbers, 1 the filter and 2 the pipeline: which sides they have, and who takes from whose shelf. The code
-// asks this crate and nothing else about a wrapper.
+// The wrappers by their numbers, 1 the filter, 2 the pipeline and 3 the logging wrapper: which sides they have, who takes from whose
+// shelf, and whether copies leave. The code asks this crate and nothing else about a wrapper.
 ghost use mathlib.Core.Path.{_≡_};
+ghost use Rattle.model.specs.Basics.{has};
 ghost use Rattle.model.specs.Wrapper.{isWrapper, described, hasSide, shelves, takesAny};
 ghost use Rattle.wrappers.specs.Routes.{sourceFor};
 
@@ -14,7 +15,10 @@ pub enum Source {
 pub fn is_wrapper(w: u32) -> bool
     ensures { λ r. ⌜ r ≡ isWrapper w ⌝ }
 {
-    if w == 1 { true } else { w == 2 }
+    if w == 1 {
+        return true;
+    }
+    if w == 2 { true } else { w == 3 }
 }
 
 // Whether the wrapper has a side n.
@@ -30,7 +34,14 @@ pub fn has_side(w: u32, n: u32) -> bool
         }
         return n == 2;
     }
-    false
+    if w == 3 { n == 1 } else { false }
+}
+
+// Whether copies of what enters and passes leave on `log`.
+pub fn has_log(w: u32) -> bool
+    ensures { λ r. ⌜ r ≡ has 3 (described w .copies) ⌝ }
+{
+    w == 3
 }
 
 // Whether somebody takes from side n, so that what it sends up on `mid` goes to its shelf.

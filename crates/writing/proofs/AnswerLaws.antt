@@ -9,11 +9,11 @@ use borrow.Author.Tests.{le-leb, lt-leb}
 use lib.ListN.{length, take, drop, replicate, length-append, length-replicate, length-take, take-append-drop}
 use lib.Seq.{take-at, drop-at, drop-drop}
 use Rattle.model.specs.Basics.{choose}
-use Rattle.model.specs.Step.{silent, enters, leaves, Answer, labelled, refusal}
+use Rattle.model.specs.Step.{silent, enters, leaves, logs, Answer, labelled, refusal}
 use Rattle.model.specs.Answer.{valueBy}
 use Rattle.format.specs.Lines.{newline}
 use Rattle.format.specs.Words.{answerWords, allAnswerWords}
-use Rattle.format.specs.Output.{decimal, fields, wordIn, wordOut, wordOk, saying, answerLines}
+use Rattle.format.specs.Output.{decimal, fields, wordIn, wordOut, wordLog, wordOk, saying, answerLines}
 use Rattle.writing.specs.Words.{valueIn, sayingIn, lineIn, answerAt, linesIn, answeredIn}
 
 -- THE LINES AS THE CODE WRITES THEM
@@ -50,6 +50,7 @@ answer-length : (a : Answer) → length (answerWords a) ≡ 4 + (length (valueBy
 answer-length (labelled silent n v) = omega (arith, length-append v (replicate (16 - length v) 0), length-replicate {A = ℕ} (16 - length v) 0)
 answer-length (labelled enters n v) = omega (arith, length-append v (replicate (16 - length v) 0), length-replicate {A = ℕ} (16 - length v) 0)
 answer-length (labelled leaves n v) = omega (arith, length-append v (replicate (16 - length v) 0), length-replicate {A = ℕ} (16 - length v) 0)
+answer-length (labelled logs n v) = omega (arith, length-append v (replicate (16 - length v) 0), length-replicate {A = ℕ} (16 - length v) 0)
 answer-length (refusal k n) = refl
 
 all-length : (xs : List Answer) → 20 * length xs ≤ length (allAnswerWords xs)
@@ -66,6 +67,7 @@ unfolding sayingIn valueIn
 says (labelled silent n v) e = refl
 says (labelled enters n v) e = ap (λ (l : List ℕ). wordIn ++ (decimal n ++ fields l)) (value-back v (omega (arith, answer-length (labelled enters n v))))
 says (labelled leaves n v) e = ap (λ (l : List ℕ). wordOut ++ (decimal n ++ fields l)) (value-back v (omega (arith, answer-length (labelled leaves n v))))
+says (labelled logs n v) e = ap (λ (l : List ℕ). wordLog ++ (decimal n ++ fields l)) (value-back v (omega (arith, answer-length (labelled logs n v))))
 says (refusal k n) e = refl
 
 -- the line of the first answer, and the lines of the others

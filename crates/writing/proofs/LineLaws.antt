@@ -7,7 +7,7 @@ use borrow.Author.Tests.{eq-eqb, ne-eqb}
 use lib.ListN.{length, take, drop, getD, length-drop}
 use lib.Seq.{length-take-le}
 use Rattle.format.specs.Lines.{tab, newline}
-use Rattle.format.specs.Output.{decimal, fields, wordIn, wordOut, wordTau, wordNo}
+use Rattle.format.specs.Output.{decimal, fields, wordIn, wordOut, wordLog, wordTau, wordNo}
 use Rattle.writing.specs.Words.{valueIn, sayingIn, lineIn}
 
 -- the side and the value words, as the code reads them
@@ -17,7 +17,7 @@ value-in ws side n s e =
     let i : 4 + n - 4 ≡ min (getD ws 3 0) 16 = omega arith in
     rw (s, i)
 
--- by the first word: silent, in, out, and any other
+-- by the first word: silent, in, out, log, and any other
 pub says-silent : (ws : List ℕ) → getD ws 0 0 ≡ 0 → wordTau ≡ sayingIn ws
 unfolding sayingIn
 says-silent ws e = simp (eq-eqb _ _ e)
@@ -30,9 +30,13 @@ pub says-leaves : (ws : List ℕ) → getD ws 0 0 ≡ 2 → wordOut ++ valueIn w
 unfolding sayingIn
 says-leaves ws e = rw e
 
-pub says-refused : (ws : List ℕ) (n : ℕ) → (getD ws 0 0 ≡ 0 → ⊥) → (getD ws 0 0 ≡ 1 → ⊥) → (getD ws 0 0 ≡ 2 → ⊥) → n ≡ getD ws 1 0 → wordNo ++ fields (n ∷ []) ≡ sayingIn ws
+pub says-logs : (ws : List ℕ) → getD ws 0 0 ≡ 4 → wordLog ++ valueIn ws ≡ sayingIn ws
 unfolding sayingIn
-says-refused ws n a b c e = simp (e, ne-eqb _ _ a, ne-eqb _ _ b, ne-eqb _ _ c)
+says-logs ws e = rw e
+
+pub says-refused : (ws : List ℕ) (n : ℕ) → (getD ws 0 0 ≡ 0 → ⊥) → (getD ws 0 0 ≡ 1 → ⊥) → (getD ws 0 0 ≡ 2 → ⊥) → (getD ws 0 0 ≡ 4 → ⊥) → n ≡ getD ws 1 0 → wordNo ++ fields (n ∷ []) ≡ sayingIn ws
+unfolding sayingIn
+says-refused ws n a b c d e = simp (e, ne-eqb _ _ a, ne-eqb _ _ b, ne-eqb _ _ c, ne-eqb _ _ d)
 
 -- the words of the answer with an index
 pub part-at : (answers : List ℕ) (from : ℕ) → take (from + 20 - from) (drop from answers) ≡ take 20 (drop from answers)

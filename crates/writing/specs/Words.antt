@@ -6,18 +6,19 @@ use lib.Dec.{leb, eqb}
 use lib.ListN.{getD, take, drop}
 use Rattle.model.specs.Basics.{choose}
 use Rattle.format.specs.Lines.{tab, newline}
-use Rattle.format.specs.Output.{decimal, fields, wordIn, wordOut, wordTau, wordNo, wordOk}
+use Rattle.format.specs.Output.{decimal, fields, wordIn, wordOut, wordLog, wordTau, wordNo, wordOk}
 
 -- the side and the value words
 unfoldable pub valueIn : List ℕ → List ℕ
 valueIn ws = decimal (getD ws 2 0) ++ fields (take (min (getD ws 3 0) 16) (drop 4 ws))
 
--- `tau`, `in` or `out` with the side and the value words, or `no` and the number
+-- `tau`, `in`, `out` or `log` with the side and the value words, or `no` and the number
 unfoldable pub sayingIn : List ℕ → List ℕ
 sayingIn ws =
     cond (eqb (getD ws 0 0) 0) wordTau
     (cond (eqb (getD ws 0 0) 1) (wordIn ++ valueIn ws)
-    (cond (eqb (getD ws 0 0) 2) (wordOut ++ valueIn ws) (wordNo ++ fields (getD ws 1 0 ∷ []))))
+    (cond (eqb (getD ws 0 0) 2) (wordOut ++ valueIn ws)
+    (cond (eqb (getD ws 0 0) 4) (wordLog ++ valueIn ws) (wordNo ++ fields (getD ws 1 0 ∷ [])))))
 
 -- the line of an answer: its index, and what it says
 unfoldable pub lineIn : (index : ℕ) → List ℕ → List ℕ

@@ -54,6 +54,10 @@ fn put_saying(out: &mut [u8], at: usize, words: &[u32]) -> usize
         let p = put(out, at, b"out");
         return put_value(out, p, words);
     }
+    if said == 4 {
+        let p = put(out, at, b"log");
+        return put_value(out, p, words);
+    }
     let p = put(out, at, b"no");
     put_field(out, p, wide(words[1]))
 }

@@ -1,13 +1,15 @@
-//! `corpus N PATH` writes a corpus of N runs into a file (or into `corpus.txt`
-//! of a directory): the fixed runs first, then generated ones. For each run
+//! `corpus N PATH` writes a corpus into a file (or into `corpus.txt` of a
+//! directory): N runs that do not ask for the logging wrapper, the fixed ones
+//! first, then generated ones; then a quarter as many of it. For each run
 //! there is a line `run`, its index, the number of input bytes and the number
 //! of output bytes; then the input, then the output, each followed by a newline
 //! of its own. What is printed names the fixed runs and counts what came up.
 
 use reference::generator::damage::fill;
-use reference::generator::generate;
 use reference::generator::tally::Tally;
+use reference::generator::{generate_logged, generate_unlogged};
 use reference::lines::{read_script, BYTE_LIMIT};
+use reference::steps::Label;
 use reference::Outcome;
 use std::collections::BTreeSet;
 use std::io::{self, Write};
@@ -84,7 +86,9 @@ impl Run {
                 let show =
                     |(step, answer): (&reference::steps::Step, &reference::steps::Answer)| {
                         let number = answer.outcome.as_ref().map_or_else(|r| r.number(), |_| 0);
-                        format!("kind {} answer {number}", step.kind.min(9))
+                        let logs = matches!(answer.outcome, Ok(Label::Log(_)));
+                        let log = if logs { " log" } else { "" };
+                        format!("kind {} answer {number}{log}", step.kind.min(9))
                     };
                 pairs.map(show).collect()
             }
@@ -92,10 +96,10 @@ impl Run {
     }
 }
 
-/// The first generated runs that have a new label or number, then those that
+/// Of the runs that `generate` gives the first that have a new label or number, then those that
 /// show something new, then the first short ones; in the order of their seeds.
 /// What the runs before them have is not new, and no input comes twice.
-fn choose(count: usize, before: &[Run]) -> Vec<Run> {
+fn choose(generate: fn(u64) -> Vec<u8>, count: usize, before: &[Run]) -> Vec<Run> {
     let mut tally = Tally::default();
     let mut shown = BTreeSet::new();
     let mut inputs = BTreeSet::new();
@@ -133,14 +137,15 @@ fn write_corpus(count: usize, mut path: PathBuf) -> io::Result<String> {
         path.push("corpus.txt");
     }
     let mut report = String::new();
-    let mut runs = Vec::new();
-    for (index, (name, input)) in fixed_inputs().into_iter().enumerate().take(count) {
-        let run = Run::of(input);
-        let first = run.output.lines().next().unwrap_or_default();
-        report.push_str(&format!("run {index}: {name}: {first}\n"));
-        runs.push(run);
-    }
-    runs.extend(choose(count - runs.len(), &runs));
+    let mut runs = part(fixed_inputs(), generate_unlogged, count, 0, &mut report);
+    let logged = part(
+        listings(LOGGED),
+        generate_logged,
+        count / 4,
+        count,
+        &mut report,
+    );
+    runs.extend(logged);
     let mut bytes = Vec::new();
     let mut tally = Tally::default();
     for (index, run) in runs.iter().enumerate() {
@@ -159,7 +164,27 @@ fn write_corpus(count: usize, mut path: PathBuf) -> io::Result<String> {
     Ok(format!("{report}{counts}{totals}, missing: {missing:?}"))
 }
 
-/// The fixed inputs.
+/// So many runs from an index on: the fixed inputs, which the report names, and
+/// generated ones.
+fn part(
+    fixed: Vec<Fixed>,
+    generate: fn(u64) -> Vec<u8>,
+    count: usize,
+    from: usize,
+    report: &mut String,
+) -> Vec<Run> {
+    let mut runs = Vec::new();
+    for (index, (name, input)) in (from..from + count).zip(fixed) {
+        let run = Run::of(input);
+        let first = run.output.lines().next().unwrap_or_default();
+        report.push_str(&format!("run {index}: {name}: {first}\n"));
+        runs.push(run);
+    }
+    runs.extend(choose(generate, count - runs.len(), &runs));
+    runs
+}
+
+/// The fixed inputs of the filter and the pipeline.
 fn fixed_inputs() -> Vec<Fixed> {
     [
         listings(TRIALS),
@@ -299,6 +324,44 @@ fn nodes(count: usize) -> String {
     }
     text + " | N 1 0 0 0 0 0"
 }
+
+/// Runs of the logging wrapper.
+const LOGGED: &[(&str, &str)] = &[
+    (
+        "logged, listing A's handler: a copy before the down message, a copy behind the leaving one",
+        "W 3 | N 1 6 0 1 0 1 | N 1 4 1 1 1 0 | V 1 10 | V 1 4000002 | V 1 10 | V 1 10 | \
+         S 1 1 0 0 20 | S 2 1 0 0 | S 7 1 1 0 | S 7 1 0 0 | S 2 1 0 0 | S 5 1 1 0 | S 3 1 1 0 | \
+         S 6 1 0 0 | S 7 1 0 0 | S 7 1 0 0 | S 7 1 0 0",
+    ),
+    (
+        "logged, a minted name leaves in a copy and comes back",
+        "W 3 | N 1 3 9 1 0 0 | N 1 4 1 1 0 0 | V 1 9 | S 3 1 0 0 | S 6 1 0 0 | S 1 1 0 0 65536 | \
+         S 7 1 1 0 | S 1 1 0 0 65536 | S 7 1 0 0",
+    ),
+    (
+        "logged, what comes up on log or mid does not pass",
+        "W 3 | N 1 1 1 2 0 0 | N 1 4 3 1 0 0 | N 1 4 2 1 0 0 | V 1 20 | S 3 1 0 0 | S 3 1 0 0 | \
+         S 6 1 0 0 | S 7 1 0 0 | S 6 1 1 0 | S 7 1 1 0",
+    ),
+    (
+        "logged, the lobby full by copies at enter",
+        "W 3 | N 1 0 0 0 0 0 | S 1 1 0 0 20 | S 1 1 0 0 20 | S 1 1 0 0 20 | S 1 1 0 0 20 | \
+         S 1 1 0 0 20 | S 1 1 0 0 20 | S 1 1 0 0 20 | S 1 1 0 0 20 | S 1 1 0 0 20 | S 7 1 0 0 | \
+         S 1 1 0 0 20 | S 7 1 1 0 | S 1 1 0 0 20",
+    ),
+    (
+        "logged, the lobby full by a copy at pass",
+        "W 3 | N 1 1 1 2 0 0 | N 1 4 1 1 0 0 | N 1 4 1 1 1 0 | V 1 20 | V 1 21 | S 3 1 0 0 | \
+         S 3 1 0 0 | S 1 1 0 0 22 | S 1 1 0 0 22 | S 1 1 0 0 22 | S 1 1 0 0 22 | S 1 1 0 0 22 | \
+         S 1 1 0 0 22 | S 1 1 0 0 22 | S 6 1 0 0 | S 7 1 0 0 | S 7 1 2 0 | S 6 1 0 0 | S 6 1 1 0 | \
+         S 7 1 15 0 | S 7 1 0 0",
+    ),
+    ("logged, no side 2", "W 3 | N 1 0 0 0 0 0 | S 8 1 0 0 | S 8 2 0 0 | S 1 2 0 0 20"),
+    ("logged, side 2's node", "W 3 | N 1 0 0 0 0 0 | N 2 0 0 0 0 0"),
+    ("logged, side 2's pool word", "W 3 | N 1 0 0 0 0 0 | V 2 7"),
+    ("logged, side 1 before side 2", "W 3 | N 1 9 9 9 9 9 | N 2 0 0 0 0 0"),
+    ("wrapper 4", "W 4 | N 1 9 9 9 9 9"),
+];
 
 /// Lines that may look odd and are not at fault.
 const SOUND_LINES: &[(&str, &str)] = &[
@@ -664,7 +727,7 @@ mod tests {
     #[test]
     fn fixed_runs_have_every_label_and_number() {
         let mut tally = Tally::default();
-        for (_, input) in fixed_inputs() {
+        for (_, input) in [fixed_inputs(), listings(LOGGED)].concat() {
             tally.add(&reference::outcome(&input));
         }
         assert!(tally.missing().is_empty(), "{:?}", tally.missing());
@@ -686,7 +749,7 @@ mod tests {
 
     #[test]
     fn fixed_inputs_are_all_different() {
-        let fixed = fixed_inputs();
+        let fixed = [fixed_inputs(), listings(LOGGED)].concat();
         let inputs: BTreeSet<_> = fixed.iter().map(|(_, input)| input).collect();
         assert_eq!(inputs.len(), fixed.len());
     }

@@ -2,16 +2,16 @@
 //! that break the rules of the text.
 
 use super::sketch::{boxed, input, new, output, parallel, tuple, Sketch, PARENT};
-use super::{handlers, lay_out};
+use super::{handlers, lay_out, sides_of};
 use crate::lines::{Script, BYTE_LIMIT};
 use crate::random::Random;
 use crate::terms::{TUPLE_WORD, WILDCARD_WORD};
 
 /// Damages the tables of a script, a little or at a limit.
 pub fn damage_tables(random: &mut Random, script: &mut Script) {
-    let place = random.below(script.wrapper as usize);
+    let place = random.below(sides_of(script));
     match random.below(22) {
-        0 => script.wrapper = random.pick(&[0, 3, 4, u32::MAX]),
+        0 => script.wrapper = random.pick(&[0, 5, 4, u32::MAX]),
         1 | 20 | 21 => change_sizes(random, script, place),
         2 => add_other_side(random, script),
         3 | 4 => set_field(random, script, place, |_| 0, &[7, 8, 63, u32::MAX]),
@@ -147,7 +147,8 @@ fn padded(count: usize) -> Sketch {
     handler
 }
 
-/// Gives the filter something on side 2, or the pipeline nothing there.
+/// Gives a wrapper of one handler something on side 2, or the pipeline nothing
+/// there.
 fn add_other_side(random: &mut Random, script: &mut Script) {
     if script.wrapper == 2 {
         script.nodes[1].clear();

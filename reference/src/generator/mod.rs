@@ -16,10 +16,28 @@ use crate::steps::Step;
 use schedule::{Scheduler, Style};
 use sketch::Sketch;
 
-/// The input for a seed.
+/// The input for a seed; every fourth is of the logging wrapper.
 pub fn generate(seed: u64) -> Vec<u8> {
+    if seed % 4 == 3 {
+        generate_logged(seed)
+    } else {
+        generate_unlogged(seed)
+    }
+}
+
+/// The input for a seed under the filter or the pipeline.
+pub fn generate_unlogged(seed: u64) -> Vec<u8> {
+    generate_with(seed, false)
+}
+
+/// The input for a seed under the logging wrapper.
+pub fn generate_logged(seed: u64) -> Vec<u8> {
+    generate_with(seed, true)
+}
+
+fn generate_with(seed: u64, logged: bool) -> Vec<u8> {
     let mut random = Random::new(seed);
-    let script = random_script(&mut random);
+    let script = random_script(&mut random, logged);
     let mut text = print_script(&script).into_bytes();
     if random.percent(8) {
         text = rewrite_lines(&mut random, &text);
@@ -31,14 +49,16 @@ pub fn generate(seed: u64) -> Vec<u8> {
 }
 
 /// Tables, perhaps damaged, and a schedule for them.
-fn random_script(random: &mut Random) -> Script {
-    let mut script = random_tables(random);
+fn random_script(random: &mut Random, logged: bool) -> Script {
+    let mut script = random_tables(random, logged);
     if random.percent(22) {
         damage::damage_tables(random, &mut script);
     }
     let mut style = Style::random(random);
-    if random.percent(5) {
-        style = busy_script(random, &mut script);
+    if logged && random.percent(40) {
+        style = Style::crowded(random);
+    } else if random.percent(5) {
+        style = busy_script(random, &mut script, logged);
     } else if random.percent(6) {
         style.length = random.between(300, 1_024);
     }
@@ -47,26 +67,40 @@ fn random_script(random: &mut Random) -> Script {
 }
 
 /// Makes the script a long one whose handlers fill the shelf or the mint.
-fn busy_script(random: &mut Random, script: &mut Script) -> Style {
-    let shelf = random.percent(60);
-    script.wrapper = if shelf { 2 } else { script.wrapper.clamp(1, 2) };
-    for place in 0..script.wrapper as usize {
+fn busy_script(random: &mut Random, script: &mut Script, logged: bool) -> Style {
+    let shelf = random.percent(60) && !logged;
+    script.wrapper = match (logged, shelf) {
+        (true, _) => 3,
+        (false, true) => 2,
+        (false, false) => script.wrapper.clamp(1, 2),
+    };
+    for place in 0..sides_of(script) {
         let handler = handlers::busy_handler(random, place as u32 + 1, shelf);
         lay_out(random, script, place, &handler);
     }
-    if script.wrapper == 1 {
+    if sides_of(script) == 1 {
         (script.nodes[1], script.pools[1]) = (vec![], vec![]);
     }
     Style::busy(random)
 }
 
-/// Sound tables for one wrapper or the other.
-fn random_tables(random: &mut Random) -> Script {
+/// How many handlers the wrapper of a script has.
+pub fn sides_of(script: &Script) -> usize {
+    if script.wrapper == 2 {
+        2
+    } else {
+        1
+    }
+}
+
+/// Sound tables for the logging wrapper, or for one of the others.
+fn random_tables(random: &mut Random, logged: bool) -> Script {
+    let unlogged = random.between(1, 2) as u32;
     let mut script = Script {
-        wrapper: random.between(1, 2) as u32,
+        wrapper: if logged { 3 } else { unlogged },
         ..Script::default()
     };
-    for place in 0..script.wrapper as usize {
+    for place in 0..sides_of(&script) {
         let handler = handlers::random_handler(random, place as u32 + 1);
         lay_out(random, &mut script, place, &handler);
     }

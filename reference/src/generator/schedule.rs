@@ -2,7 +2,7 @@
 //! changes nothing, so trying is free.
 
 use crate::random::Random;
-use crate::state::{Act, BoxEntry, Origin, OutputTag, Particle, State};
+use crate::state::{Act, BoxEntry, Origin, OutputTag, Particle, State, Wrapper};
 use crate::steps::{tags_fit, Refusal, Step};
 use crate::terms::{Direction, Name, TUPLE_WORD, WILDCARD_WORD};
 
@@ -38,6 +38,17 @@ impl Style {
             weights,
             refused: random.pick(&[0, 5, 15, 30]),
             wild: random.pick(&[0, 2, 5, 20]),
+        }
+    }
+
+    /// A style in which little leaves, so that the lobby stays nearly full and
+    /// a copy is what does not fit.
+    pub fn crowded(random: &mut Random) -> Style {
+        Style {
+            length: random.pick(&[40, 60, 90, 140]),
+            weights: [40, 12, 30, 6, 24, 24, 5, 1],
+            refused: random.pick(&[15, 30, 45]),
+            wild: 2,
         }
     }
 
@@ -198,6 +209,7 @@ fn refused_step(random: &mut Random, tried: &mut State, side: u32) -> Option<Ste
         _ => {
             let kinds: &[u32] = match number {
                 13 => &[2, 3, 4, 5, 6, 7, 8],
+                17 if tried.wrapper == Wrapper::Logging => &[1, 2, 3, 5, 6, 6],
                 17 => &[1, 2, 3, 5, 5, 8],
                 _ => &[5],
             };

@@ -7,7 +7,7 @@ use std::collections::BTreeMap;
 /// Something worth counting in an output.
 #[derive(Clone, Copy, Debug, PartialEq, Eq, PartialOrd, Ord)]
 pub enum Feature {
-    /// A label: `in`, `out` or `tau`.
+    /// A label: `in`, `out`, `log` or `tau`.
     Label(&'static str),
     /// A load refusal's number.
     Load(u32),
@@ -21,7 +21,7 @@ pub enum Feature {
 
 /// Every feature that a set of inputs should reach.
 pub fn all_features() -> Vec<Feature> {
-    let mut all: Vec<Feature> = ["in", "out", "tau"].map(Feature::Label).to_vec();
+    let mut all: Vec<Feature> = ["in", "out", "log", "tau"].map(Feature::Label).to_vec();
     all.extend((1..=7).map(Feature::Load));
     all.extend((10..=17).map(Feature::Refusal));
     all.extend([Feature::Line, Feature::Loaded]);
@@ -37,6 +37,7 @@ pub fn features(outcome: &Outcome) -> Vec<Feature> {
             let of_answer = |answer: &crate::steps::Answer| match &answer.outcome {
                 Ok(Label::In(_)) => Feature::Label("in"),
                 Ok(Label::Out(_)) => Feature::Label("out"),
+                Ok(Label::Log(_)) => Feature::Label("log"),
                 Ok(Label::Silent) => Feature::Label("tau"),
                 Err(refusal) => Feature::Refusal(refusal.number()),
             };

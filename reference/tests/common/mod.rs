@@ -64,6 +64,12 @@ impl Bench {
         Bench { state }
     }
 
+    /// The handler under the logging wrapper.
+    pub fn logged(handler: Sketch) -> Bench {
+        let state = load(3, &[handler]).expect("a handler that loads");
+        Bench { state }
+    }
+
     /// Two handlers under the pipeline.
     pub fn pipeline(first: Sketch, second: Sketch) -> Bench {
         let state = load(2, &[first, second]).expect("handlers that load");
@@ -87,6 +93,7 @@ impl Bench {
             Ok(Label::Silent) => String::from("tau"),
             Ok(Label::In(value)) => format!("in{}{}", answer.side, words(&value)),
             Ok(Label::Out(value)) => format!("out{}{}", answer.side, words(&value)),
+            Ok(Label::Log(value)) => format!("log{}{}", answer.side, words(&value)),
             Err(refusal) => {
                 assert_eq!(self.state, before);
                 format!("no {}", refusal.number())

@@ -1,6 +1,6 @@
--- Sides by their number.
+-- Sides and wrappers by their number.
 use mathlib.Core.Path.{_≡_, refl, sym, ap, _∙_, subst}
-use mathlib.Core.Bool.{Bool, true, false, false≢true}
+use mathlib.Core.Bool.{Bool, true, false, cond, false≢true}
 use mathlib.Core.List.{List, [], _∷_}
 use Prim.Native.Nat.{ℕ, zero, suc, _≤_}
 use native.Mathlib.Omega.{arith}
@@ -9,6 +9,17 @@ use lib.Dec.{eqb}
 use lib.ListN.{length, getD, set, length-set}
 use lib.Seq.{getD-set-same, getD-set-other}
 use Rattle.model.specs.Side.{State, Side, noSide, side, putSide}
+use Rattle.model.specs.Wrapper.{Wrapper, filter, pipeline, logging, noWrapper, described}
+
+-- what holds of each wrapper holds of every number's
+pub described-by : (P : Wrapper → Type 0) → P filter → P pipeline → P logging → P noWrapper → (w : ℕ) → P (described w)
+described-by P p1 p2 p3 p0 w = go (eqb w 1) (eqb w 2) (eqb w 3)
+  where
+    go : (t u v : Bool) → P (cond t filter (cond u pipeline (cond v logging noWrapper)))
+    go true u v = p1
+    go false true v = p2
+    go false false true = p3
+    go false false false = p0
 
 pub put-same : (s : State) (n : ℕ) (o : Side) → 1 ≤ n → n ≤ length (s .sides) → side (putSide s n o) n ≡ o
 put-same s zero o a l = absurd (omega arith)

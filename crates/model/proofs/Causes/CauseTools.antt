@@ -12,7 +12,7 @@ use lib.ListN.{length, getElem?}
 use Rattle.model.specs.Basics.{_&_, _or_, Res, refuse, done, bind, need, choose, pick, every, has}
 use Rattle.model.specs.Values.{isTuple, isPublic, arity, restOf, firstOf, binds, Fit, matches, extend, word, substitute, Env}
 use Rattle.model.specs.Table.{Term, nil, par, box, new, out, inp}
-use Rattle.model.specs.Wrapper.{described, hasSide}
+use Rattle.model.specs.Wrapper.{filter, pipeline, logging, noWrapper, described, hasSide}
 use Rattle.model.specs.Side.{Core, Particle, Box, limits, output, input}
 use Rattle.model.specs.Unfolding.{tagOf, unfolds}
 use Rattle.model.proofs.Basics.Tests.{fst, snd, or-cases, one-fails}
@@ -124,15 +124,38 @@ over-lobby u l = fails-by (limits u) (λ q. omega (arith, few-lobby-of u q))
 pub over-shelf : (u : Core) → 32 < length (u .shelf) → limits u ≡ false
 over-shelf u l = fails-by (limits u) (λ q. omega (arith, few-shelf-of u q))
 
--- the wrapper and the side of a step: 1 and 1, 2 and 1, 2 and 2
-pub places : (w n : ℕ) → hasSide (described w) n ≡ true → ((w ≡ 1) × (n ≡ 1)) ⊎ (((w ≡ 2) × (n ≡ 1)) ⊎ ((w ≡ 2) × (n ≡ 2)))
-places w n h = go (eqb w 1) (eqb w 2) refl refl h
+-- the wrapper and the side of a step: 1 or 3 and 1, 2 and 1, 2 and 2
+abbrev pub Places : (w n : ℕ) → Type 0
+Places w n = (((w ≡ 1) ⊎ (w ≡ 3)) × (n ≡ 1)) ⊎ (((w ≡ 2) × (n ≡ 1)) ⊎ ((w ≡ 2) × (n ≡ 2)))
+
+pub places : (w n : ℕ) → hasSide (described w) n ≡ true → Places w n
+places w n h = go (eqb w 1) (eqb w 2) (eqb w 3) refl refl refl h
   where
-    go : (t u : Bool) → eqb w 1 ≡ t → eqb w 2 ≡ u → has n (cond t (described 1) (cond u (described 2) (described 0)) .sides) ≡ true → ((w ≡ 1) × (n ≡ 1)) ⊎ (((w ≡ 2) × (n ≡ 1)) ⊎ ((w ≡ 2) × (n ≡ 2)))
-    go true u p q h = inl (eqb-true w 1 p, ⊎-elim (λ q. eqb-true n 1 q) (λ q. absurd (false≢true q)) (or-cases (eqb n 1) false h))
-    go false true p q h = ⊎-elim (λ r. inr (inl (eqb-true w 2 q, eqb-true n 1 r)))
-        (λ r. ⊎-elim (λ t. inr (inr (eqb-true w 2 q, eqb-true n 2 t))) (λ t. absurd (false≢true t)) (or-cases (eqb n 2) false r)) (or-cases (eqb n 1) (has n (2 ∷ [])) h)
-    go false false p q h = absurd (false≢true h)
+    first : has n (1 ∷ []) ≡ true → n ≡ 1
+    first h = ⊎-elim (λ q. eqb-true n 1 q) (λ q. absurd (false≢true q)) (or-cases (eqb n 1) false h)
+
+    go : (t u v : Bool) → eqb w 1 ≡ t → eqb w 2 ≡ u → eqb w 3 ≡ v → has n (cond t filter (cond u pipeline (cond v logging noWrapper)) .sides) ≡ true → Places w n
+    go true u v p q r h = inl (inl (eqb-true w 1 p), first h)
+    go false true v p q r h = ⊎-elim (λ z. inr (inl (eqb-true w 2 q, eqb-true n 1 z)))
+        (λ z. ⊎-elim (λ t. inr (inr (eqb-true w 2 q, eqb-true n 2 t))) (λ t. absurd (false≢true t)) (or-cases (eqb n 2) false z)) (or-cases (eqb n 1) (has n (2 ∷ [])) h)
+    go false false true p q r h = inl (inr (eqb-true w 3 r), first h)
+    go false false false p q r h = absurd (false≢true h)
+
+-- under the filter and the logging wrapper nobody takes
+pub alone-routes : (w : ℕ) → (w ≡ 1) ⊎ (w ≡ 3) → described w .routes ≡ []
+alone-routes w q = ⊎-elim (λ z. ap (λ (n : ℕ). described n .routes) z) (λ z. ap (λ (n : ℕ). described n .routes) z) q
+
+-- how many copies leave
+pub copy-count : (w : ℕ) → length (described w .copies) ≡ cond (eqb w 3) 1 0
+copy-count w = go (eqb w 1) (eqb w 2) (eqb w 3) refl refl refl
+  where
+    go : (t u v : Bool) → eqb w 1 ≡ t → eqb w 2 ≡ u → eqb w 3 ≡ v → length (cond t filter (cond u pipeline (cond v logging noWrapper)) .copies) ≡ cond v 1 0
+    go true u true p q r = let a = eqb-true w 1 p in let c = eqb-true w 3 r in absurd (omega arith)
+    go true u false p q r = refl
+    go false true true p q r = let a = eqb-true w 2 q in let c = eqb-true w 3 r in absurd (omega arith)
+    go false true false p q r = refl
+    go false false true p q r = refl
+    go false false false p q r = refl
 
 -- unfolding adds particles behind those that are there
 pub unfolds-behind : (i : ℕ) (a : Term) (ρ : Env) (b : ℕ) (P Q : List Particle) (B : List Box) (m : ℕ)

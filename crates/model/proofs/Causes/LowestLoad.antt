@@ -14,7 +14,7 @@ use Rattle.model.specs.Checks.{Fault}
 use Rattle.model.specs.Wrapper.{described, hasSide, isWrapper}
 use Rattle.model.specs.Side.{State}
 use Rattle.model.specs.Load.{Composition, wrapperOf, table, Refused, Loaded, refused, ok, sideFault, lackFault, loadSides, load}
-use Rattle.model.specs.Causes.{TableCause, LoadCause, wrapper, of-table, filter-nodes, filter-pool, Before, LowestLoad}
+use Rattle.model.specs.Causes.{Alone, TableCause, LoadCause, wrapper, of-table, alone-nodes, alone-pool, Before, LowestLoad}
 use Rattle.model.proofs.Basics.Tests.{alt, one-fails}
 use Rattle.model.proofs.Causes.CauseTools.{places, neither, fail-left, fail-right, no-words}
 use Rattle.model.proofs.Causes.LoadCauses.{At, Lex, side-cause, side-low}
@@ -59,11 +59,16 @@ module _ (b : Composition) where
       go true e s = sides (res 1) (res 2) s (g e)
       go false e s = f e
 
-  which-one : isWrapper (b .wrapper) ≡ true → (b .wrapper ≡ 1) ⊎ (b .wrapper ≡ 2)
-  which-one q = ⊎-elim (λ z. inl (eqb-true (b .wrapper) 1 z)) (λ z. inr (eqb-true (b .wrapper) 2 z)) (alt _ _ q)
+  which-one : isWrapper (b .wrapper) ≡ true → Alone b ⊎ (b .wrapper ≡ 2)
+  which-one q = ⊎-elim (λ z. inl (inl (eqb-true (b .wrapper) 1 z)))
+      (λ z. ⊎-elim (λ y. inr (eqb-true (b .wrapper) 2 y)) (λ y. inl (inr (eqb-true (b .wrapper) 3 y))) (alt _ _ z)) (alt _ _ q)
+
+  -- what holds of the numbers 1 and 3
+  of-alone : (F : ℕ → Type 0) → F 1 → F 3 → Alone b → F (b .wrapper)
+  of-alone F f g w = ⊎-elim (λ z. subst F (sym z) f) (λ z. subst F (sym z) g) w
 
   has-1 : isWrapper (b .wrapper) ≡ true → hasSide (wrapperOf b) 1 ≡ true
-  has-1 q = ⊎-elim (λ z. subst (λ (w : ℕ). hasSide (described w) 1 ≡ true) (sym z) refl) (λ z. subst (λ (w : ℕ). hasSide (described w) 1 ≡ true) (sym z) refl) (which-one q)
+  has-1 q = ⊎-elim (of-alone (λ w. hasSide (described w) 1 ≡ true) refl refl) (λ z. subst (λ (w : ℕ). hasSide (described w) 1 ≡ true) (sym z) refl) (which-one q)
 
   res-has : (n : ℕ) → hasSide (wrapperOf b) n ≡ true → sideFault n (table b n) ≡ res n
   unfolding choose
@@ -80,22 +85,22 @@ module _ (b : Composition) where
   cause-has : (n : ℕ) → hasSide (wrapperOf b) n ≡ true → At (Is n) (Unit {0}) (res n)
   cause-has n h = subst (At (Is n) (Unit {0})) (res-has n h) (at-map (λ f. TableCause (table b n) (f .number) (f .node)) (Is n) (Unit {0}) (Unit {0}) (sideFault n (table b n)) (side-cause n (table b n)) (λ f c. of-table h c) (λ z. z))
 
-  filter-lacks : b .wrapper ≡ 1 → hasSide (wrapperOf b) 2 ≡ false
-  filter-lacks q = subst (λ (w : ℕ). hasSide (described w) 2 ≡ false) (sym q) refl
+  alone-lacks : Alone b → hasSide (wrapperOf b) 2 ≡ false
+  alone-lacks = of-alone (λ w. hasSide (described w) 2 ≡ false) refl refl
 
-  cause-lacks : b .wrapper ≡ 1 → At (Is 2) (Unit {0}) (res 2)
+  cause-lacks : Alone b → At (Is 2) (Unit {0}) (res 2)
   unfolding lackFault choose
-  cause-lacks w = subst (At (Is 2) (Unit {0})) (res-lacks 2 (filter-lacks w)) (go (eqb (length (table b 2 .nodes)) 0 & eqb (length (table b 2 .pool)) 0) refl)
+  cause-lacks w = subst (At (Is 2) (Unit {0})) (res-lacks 2 (alone-lacks w)) (go (eqb (length (table b 2 .nodes)) 0 & eqb (length (table b 2 .pool)) 0) refl)
     where
       go : (t : Bool) → eqb (length (table b 2 .nodes)) 0 & eqb (length (table b 2 .pool)) 0 ≡ t → At (Is 2) (Unit {0}) (choose t (refuse 0) (done (record { number = 1; node = 0 })))
       go true e = tt
-      go false e = ⊎-elim (λ z. filter-nodes w (λ q. eqb-false (length (table b 2 .nodes)) 0 z (ap length q))) (λ z. filter-pool w (λ q. eqb-false (length (table b 2 .pool)) 0 z (ap length q))) (one-fails _ _ e)
+      go false e = ⊎-elim (λ z. alone-nodes w (λ q. eqb-false (length (table b 2 .nodes)) 0 z (ap length q))) (λ z. alone-pool w (λ q. eqb-false (length (table b 2 .pool)) 0 z (ap length q))) (one-fails _ _ e)
 
   cause-2 : isWrapper (b .wrapper) ≡ true → At (Is 2) (Unit {0}) (res 2)
   cause-2 q = ⊎-elim cause-lacks (λ z. cause-has 2 (subst (λ (w : ℕ). hasSide (described w) 2 ≡ true) (sym z) refl)) (which-one q)
 
   not-wrapper : isWrapper (b .wrapper) ≡ false → LoadCause b 1 0 0
-  not-wrapper q = let z = neither _ _ q in wrapper (eqb-false (b .wrapper) 1 (z .0)) (eqb-false (b .wrapper) 2 (z .1))
+  not-wrapper q = let z = neither _ _ q in let y = neither _ _ (z .1) in wrapper (eqb-false (b .wrapper) 1 (z .0)) (eqb-false (b .wrapper) 2 (y .0)) (eqb-false (b .wrapper) 3 (y .1))
 
   abbrev Cause : Refused → Type 0
   Cause r = LoadCause b (r .number) (r .side) (r .node)
@@ -110,9 +115,9 @@ module _ (b : Composition) where
   low-has : (k n p : ℕ) → hasSide (wrapperOf b) n ≡ true → TableCause (table b n) k p → At (λ f. NotAfter k n p (at-n n f)) ⊥ (res n)
   low-has k n p h c = subst (At (λ f. NotAfter k n p (at-n n f)) ⊥) (res-has n h) (at-map (Lex k p) (λ f. NotAfter k n p (at-n n f)) ⊥ ⊥ (sideFault n (table b n)) (side-low n (table b n) k p c) (λ f z. inr (refl, z)) (λ z. z))
 
-  low-lacks : b .wrapper ≡ 1 → eqb (length (table b 2 .nodes)) 0 & eqb (length (table b 2 .pool)) 0 ≡ false → At (λ f. NotAfter 1 2 0 (at-n 2 f)) ⊥ (res 2)
+  low-lacks : Alone b → eqb (length (table b 2 .nodes)) 0 & eqb (length (table b 2 .pool)) 0 ≡ false → At (λ f. NotAfter 1 2 0 (at-n 2 f)) ⊥ (res 2)
   unfolding lackFault choose
-  low-lacks w q = subst (At (λ f. NotAfter 1 2 0 (at-n 2 f)) ⊥) (res-lacks 2 (filter-lacks w)) (go (eqb (length (table b 2 .nodes)) 0 & eqb (length (table b 2 .pool)) 0) q)
+  low-lacks w q = subst (At (λ f. NotAfter 1 2 0 (at-n 2 f)) ⊥) (res-lacks 2 (alone-lacks w)) (go (eqb (length (table b 2 .nodes)) 0 & eqb (length (table b 2 .pool)) 0) q)
     where
       go : (t : Bool) → t ≡ false → At (λ f. NotAfter 1 2 0 (at-n 2 f)) ⊥ (choose t (refuse 0) (done (record { number = 1; node = 0 })))
       go true e = absurd (false≢true (sym e))
@@ -140,10 +145,10 @@ module _ (b : Composition) where
       go false e = refl
 
   load-low : (k n p : ℕ) → LoadCause b k n p → Lo (NotAfter k n p) ⊥ (load b)
-  load-low k n p (wrapper f g) = two-sides (NotAfter 1 0 0) ⊥ (λ q. inr (refl, inr (refl, omega arith))) (λ q. absurd (⊎-elim f g (which-one q)))
+  load-low k n p (wrapper f g d) = two-sides (NotAfter 1 0 0) ⊥ (λ q. inr (refl, inr (refl, omega arith))) (λ q. absurd (⊎-elim (⊎-elim f d) g (which-one q)))
   load-low k n p (of-table h c) = of-side k n p h c (is-side n h)
-  load-low k n p (filter-nodes w f) = on-2 1 0 (low-lacks w (fail-left _ _ (some-left (table b 2 .nodes) f)))
-  load-low k n p (filter-pool w f) = on-2 1 0 (low-lacks w (fail-right _ _ (some-left (table b 2 .pool) f)))
+  load-low k n p (alone-nodes w f) = on-2 1 0 (low-lacks w (fail-left _ _ (some-left (table b 2 .nodes) f)))
+  load-low k n p (alone-pool w f) = on-2 1 0 (low-lacks w (fail-right _ _ (some-left (table b 2 .pool) f)))
 
   -- the two orders
   not-both : (k n p : ℕ) (r : Refused) → NotAfter k n p r → Before n k p (r .side) (r .number) (r .node) → ⊥

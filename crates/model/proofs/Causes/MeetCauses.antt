@@ -18,7 +18,7 @@ use Rattle.model.specs.Load.{Composition, wrapperOf, table, setting}
 use Rattle.model.specs.WellFormed.{envAt, ready}
 use Rattle.model.specs.Step.{Step, Moved, silent, short, withContents, withParticles, without, tagsFit, meetTerm, meetParticles, meet, inner, local, settled}
 use Rattle.model.specs.Causes.{Meeting, inForce, bindings, unfolded, gone, Fitting, both-within, parent, child, Can, can-enter, can-down, can-up, can-descend, can-meet, can-pass, can-leave}
-use Rattle.model.specs.Causes.{can-take, Row10, no-particle-i, no-particle-j, value-words, malformed, empty, over-16, bad-word, Row17, particles-down, particles-meet, boxes, minted, lobby}
+use Rattle.model.specs.Causes.{can-take, Row10, no-particle-i, no-particle-j, value-words, malformed, empty, over-16, bad-word, Row17, particles-down, particles-meet, boxes, minted, lobby-enter, lobby-pass, lobby-take}
 use Rattle.model.specs.Causes.{lobby-up, shelf, StepCause, by-10, by-11, by-12, by-13, by-14, by-15, by-16, by-17}
 use Rattle.model.proofs.Basics.Tests.{fst, snd, both, some-inj, append-nil, length-gone}
 use Rattle.model.proofs.Basics.Splits.{get-pick, get-length}
@@ -316,7 +316,9 @@ module _ (b : Composition) (s : State) (n i j : ℕ) (ws : List ℕ) (e : ready 
   row-17 (boxes m l) = low-17 m (λ f. over-boxes (withContents core (then-at m f)) (let z = sizes m f .1 in omega arith))
   row-17 (minted m l) = low-17 m (λ f. over-minted (withContents core (then-at m f)) (let z = sizes m f .2 in omega arith))
   row-17 (particles-down q l) = absurd (omega arith)
-  row-17 (lobby q l) = absurd (false≢true q)
+  row-17 (lobby-enter q l) = absurd (omega arith)
+  row-17 (lobby-pass q l) = absurd (omega arith)
+  row-17 (lobby-take q l) = absurd (omega arith)
   row-17 (lobby-up q g t l) = absurd (omega arith)
   row-17 (shelf q g t l) = absurd (omega arith)
 

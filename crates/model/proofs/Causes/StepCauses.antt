@@ -4,29 +4,30 @@ use mathlib.Core.Bool.{Bool, true, false, not, false≢true}
 use mathlib.Core.List.{List, [], _∷_, _++_}
 use mathlib.Core.Logic.{_⊎_, inl, inr, ⊎-elim}
 use mathlib.Core.Option.{some}
-use Prim.Native.Nat.{ℕ, zero, suc, _≤_, _<_}
+use Prim.Native.Nat.{ℕ, zero, suc, _+_, _≤_, _<_}
 use native.Mathlib.Omega.{arith}
 use borrow.Author.Tests.{leb-true, leb-false, eqb-true, eqb-false, eq-eqb, ltb-true, ne-eqb}
 use lib.Dec.{leb, eqb}
-use lib.ListN.{length, getElem?, length-append, length-set}
-use Rattle.model.specs.Basics.{_&_, _or_, Res, refuse, done, choose, every, remove}
+use lib.ListN.{length, set, getElem?, length-append, length-set}
+use Rattle.model.specs.Basics.{_&_, _or_, Res, refuse, done, choose, every, oneOf, remove}
 use Rattle.model.specs.Values.{isMinted, isValue, shaped, items}
 use Rattle.model.specs.Wrapper.{Route, described, hasSide, shelves}
 use Rattle.model.specs.Side.{Core, Tag, within, toParent, fromParent, toChild, fromChild, Particle, output, input, Box, Status, down, arrived, leaving, Message, State, limits, side, hasTaken}
 use Rattle.model.specs.Load.{Composition, wrapperOf, setting, load, isOk, refused, Refused}
 use Rattle.model.specs.WellFormed.{shelfOf, ready, counts, wfParticle, wfMessage, wfValue}
-use Rattle.model.specs.Step.{Step, Moved, short, known, withLobby, withContents, withParticles, isDown, isArrived, isLeaving, isToParent, isToChild, enter, goDown, upFrom, upParticle, up}
+use Rattle.model.specs.Step.{Step, Moved, short, known, copied, withLobby, withContents, withParticles, isDown, isArrived, isLeaving, isToParent, isToChild, enter, goDown, upFrom, upParticle, up}
 use Rattle.model.specs.Step.{descendParticle, descend, pass, leave, takes, routeTo, inner, local}
 use Rattle.model.specs.Causes.{Kind, Can, can-enter, can-down, can-up, can-descend, can-meet, can-pass, can-leave, can-take, ToShelf, Row10, tables, state, no-kind, no-side, no-message}
-use Rattle.model.specs.Causes.{no-particle-i, no-box-j, no-particle-j, no-shelf-place, unused-i, unused-j, value-words, kind-8-filter, kind-8-side-1, Row11, malformed, empty, over-16, bad-word}
-use Rattle.model.specs.Causes.{Row17, particles-down, particles-meet, boxes, minted, lobby, lobby-up, shelf, StepCause, by-10, by-11, by-12, by-13, by-14, by-15, by-16, by-17}
+use Rattle.model.specs.Causes.{no-particle-i, no-box-j, no-particle-j, no-shelf-place, unused-i, unused-j, value-words, kind-8-alone, kind-8-side-1, Row11, malformed, empty, over-16, bad-word}
+use Rattle.model.specs.Causes.{Alone, copyCount, Row17, particles-down, particles-meet, boxes, minted, lobby-enter, lobby-pass, lobby-take, lobby-up, shelf, StepCause, by-10, by-11, by-12, by-13, by-14, by-15, by-16, by-17}
 use Rattle.model.proofs.Basics.Tests.{fst, snd, both, alt, get-every, every-append, every-one, every-remove, every-set, some-inj, length-remove, one-fails}
 use Rattle.model.proofs.Basics.Splits.{get-length}
 use Rattle.model.proofs.Basics.Items.{clash}
 use Rattle.model.proofs.Formed.Growing.{CoreOk}
-use Rattle.model.proofs.Formed.Keeping.{shaped-words}
+use Rattle.model.proofs.Formed.Keeping.{length-copied, shaped-words}
 use Rattle.model.proofs.Formed.Invariant.{core-short, side-ok, loaded, wf}
-use Rattle.model.proofs.Causes.CauseTools.{Caused, need-c, pick-c, bind-c, choose-c, neither, not-false′, not-true′, no-words, some-words, every-fails, limit-cases, over-parts, over-lobby, over-shelf, places}
+use Rattle.model.proofs.Causes.CauseTools.{Caused, need-c, pick-c, bind-c, choose-c, neither, not-false′, not-true′, no-words, some-words, every-fails}
+use Rattle.model.proofs.Causes.CauseTools.{limit-cases, over-parts, over-lobby, over-shelf, alone-routes, copy-count, places}
 
 pub not-loaded : (b : Composition) (r : Refused) → isOk (load b) ≡ true → load b ≡ refused r → ⊥
 not-loaded b r e q = false≢true (rw q at e)
@@ -75,7 +76,7 @@ module _ (b : Composition) (s : State) (n i j : ℕ) (ws : List ℕ) where
     pub i0 : Kind (1 ∷ []) (X k) → i ≡ 0
     pub j0 : Kind (1 ∷ 2 ∷ 3 ∷ 6 ∷ 7 ∷ 8 ∷ []) (X k) → j ≡ 0
     pub words0 : Kind (2 ∷ 3 ∷ 4 ∷ 5 ∷ 6 ∷ 7 ∷ 8 ∷ []) (X k) → ws ≡ []
-    pub taker : k ≡ 8 → (b .wrapper ≡ 1 → ⊥) × (n ≡ 1 → ⊥)
+    pub taker : k ≡ 8 → (Alone b → ⊥) × (n ≡ 1 → ⊥)
 
   module _ (e : ready b s ≡ true) (h : hasSide (wrapperOf b) n ≡ true) where
     pub no-ten : (k : ℕ) → Tens k → Row10 b s (X k) → ⊥
@@ -94,7 +95,7 @@ module _ (b : Composition) (s : State) (n i j : ℕ) (ws : List ℕ) where
     no-ten k t (unused-i q z) = z (t .i0 q)
     no-ten k t (unused-j q z) = z (t .j0 q)
     no-ten k t (value-words q z) = z (t .words0 q)
-    no-ten k t (kind-8-filter q z) = t .taker q .0 z
+    no-ten k t (kind-8-alone q z) = t .taker q .0 z
     no-ten k t (kind-8-side-1 q z) = t .taker q .1 z
 
     -- kinds 2 to 8: 13 is the lowest where the thing cannot, and nothing below 16 where it can
@@ -234,7 +235,9 @@ module _ (b : Composition) (s : State) (n i j : ℕ) (ws : List ℕ) where
     not-full-2 m (particles-meet a l) = absurd (let z = a .meets in omega arith)
     not-full-2 m (boxes a l) = absurd (let z = a .meets in omega arith)
     not-full-2 m (minted a l) = absurd (let z = a .meets in omega arith)
-    not-full-2 m (lobby q l) = absurd (false≢true q)
+    not-full-2 m (lobby-enter q l) = absurd (omega arith)
+    not-full-2 m (lobby-pass q l) = absurd (omega arith)
+    not-full-2 m (lobby-take q l) = absurd (omega arith)
     not-full-2 m (lobby-up q g t l) = absurd (omega arith)
     not-full-2 m (shelf q g t l) = absurd (omega arith)
 
@@ -260,14 +263,16 @@ module _ (b : Composition) (s : State) (n i j : ℕ) (ws : List ℕ) where
         (every-append short (K .contents .particles) _ parts-short (every-one short (output 0 (m .chan) fromParent (m .val)) (message-short m g))) (full-2 m) (not-full-2 m)
 
     -- KIND 6
-    none-17 : (k : ℕ) → (k ≡ 2 → ⊥) → (k ≡ 3 → ⊥) → (k ≡ 5 → ⊥) → (Kind (1 ∷ 8 ∷ []) (X k) → ⊥) → Row17 b s (X k) → ⊥
-    none-17 k a c d f (particles-down q l) = a q
-    none-17 k a c d f (particles-meet m l) = d (m .meets)
-    none-17 k a c d f (boxes m l) = d (m .meets)
-    none-17 k a c d f (minted m l) = d (m .meets)
-    none-17 k a c d f (lobby q l) = f q
-    none-17 k a c d f (lobby-up q g t l) = c q
-    none-17 k a c d f (shelf q g t l) = c q
+    none-17 : (k : ℕ) → (k ≡ 4) ⊎ (k ≡ 7) → Row17 b s (X k) → ⊥
+    none-17 k z (particles-down q l) = ⊎-elim (λ y. omega arith) (λ y. omega arith) z
+    none-17 k z (particles-meet m l) = let q = m .meets in ⊎-elim (λ y. omega arith) (λ y. omega arith) z
+    none-17 k z (boxes m l) = let q = m .meets in ⊎-elim (λ y. omega arith) (λ y. omega arith) z
+    none-17 k z (minted m l) = let q = m .meets in ⊎-elim (λ y. omega arith) (λ y. omega arith) z
+    none-17 k z (lobby-enter q l) = ⊎-elim (λ y. omega arith) (λ y. omega arith) z
+    none-17 k z (lobby-pass q l) = ⊎-elim (λ y. omega arith) (λ y. omega arith) z
+    none-17 k z (lobby-take q l) = ⊎-elim (λ y. omega arith) (λ y. omega arith) z
+    none-17 k z (lobby-up q g t l) = ⊎-elim (λ y. omega arith) (λ y. omega arith) z
+    none-17 k z (shelf q g t l) = ⊎-elim (λ y. omega arith) (λ y. omega arith) z
 
     is-arrived : (t : Status) → isArrived t ≡ true → t ≡ arrived
     is-arrived down q = absurd (false≢true q)
@@ -290,6 +295,30 @@ module _ (b : Composition) (s : State) (n i j : ℕ) (ws : List ℕ) where
     can-6 m g q (can-leave p a c) = omega arith
     can-6 m g q (can-take p a) = omega arith
 
+    -- the message turns in its place, and the copies come
+    abbrev after-6 : Message → Core
+    after-6 m = withLobby K (set (K .lobby) i (record { status = leaving; chan = 1; val = m .val }) ++ copied (wrapperOf b .copies) (m .val))
+
+    length-6 : (m : Message) → length (after-6 m .lobby) ≡ length (K .lobby) + copyCount b
+    length-6 m = let t : Message = record { status = leaving; chan = 1; val = m .val } in
+        omega (arith, length-append (set (K .lobby) i t) (copied (wrapperOf b .copies) (m .val)), length-set (K .lobby) i t, length-copied (wrapperOf b .copies) (m .val), copy-count (b .wrapper))
+
+    full-6 : (m : Message) → limits (after-6 m) ≡ false → Row17 b s (X 6)
+    full-6 m q = limit-cases (after-6 m) q
+        (λ y. absurd (let f = few-parts in omega arith)) (λ y. absurd (let f = few-boxes in omega arith)) (λ y. absurd (let f = few-minted in omega arith))
+        (λ y. lobby-pass refl (subst (λ (z : ℕ). 16 < z) (length-6 m) y)) (λ y. absurd (let f = o .few-shelf in omega arith))
+
+    not-full-6 : (m : Message) → Row17 b s (X 6) → limits (after-6 m) ≡ false
+    not-full-6 m (particles-down q l) = absurd (omega arith)
+    not-full-6 m (particles-meet a l) = absurd (let z = a .meets in omega arith)
+    not-full-6 m (boxes a l) = absurd (let z = a .meets in omega arith)
+    not-full-6 m (minted a l) = absurd (let z = a .meets in omega arith)
+    not-full-6 m (lobby-enter q l) = absurd (omega arith)
+    not-full-6 m (lobby-pass q l) = over-lobby (after-6 m) (subst (λ (z : ℕ). 16 < z) (sym (length-6 m)) l)
+    not-full-6 m (lobby-take q l) = absurd (omega arith)
+    not-full-6 m (lobby-up q g t l) = absurd (omega arith)
+    not-full-6 m (shelf q g t l) = absurd (omega arith)
+
     pub kind-6 : Caused (Low 6) (Good 6) (L 6)
     unfolding local inner choose pass
     kind-6 =
@@ -299,8 +328,7 @@ module _ (b : Composition) (s : State) (n i j : ℕ) (ws : List ℕ) where
         let t = tens-2 (no-words ws w) (eqb-true j 0 z) m g 6 (inr (inl refl)) in
         need-c (Low 6) (Good 6) _ 13 _ (λ q. low-13 6 t (λ y. omega arith) (can-6 m g q)) λ q.
         good 6 _ (λ y. omega arith) (above-13 6 t (λ y. omega arith)) (can-pass refl g (is-arrived (m .status) (fst _ _ q)) (eqb-true (m .chan) 1 (snd _ _ q))) parts-short
-        (λ y. absurd (roomy _ few-parts few-boxes few-minted (subst (λ (z : ℕ). z ≤ 16) (sym (length-set (K .lobby) i _)) (o .few-lobby)) (o .few-shelf) y))
-        (λ y. absurd (none-17 6 (λ y. omega arith) (λ y. omega arith) (λ y. omega arith) (λ y. false≢true y) y))
+        (full-6 m) (not-full-6 m)
 
     -- KIND 7
     can-7 : (m : Message) → getElem? (K .lobby) i ≡ some m → isLeaving (m .status) ≡ false → Can b s (X 7) → ⊥
@@ -323,11 +351,15 @@ module _ (b : Composition) (s : State) (n i j : ℕ) (ws : List ℕ) where
         need-c (Low 7) (Good 7) _ 13 _ (λ q. low-13 7 t (λ y. omega arith) (can-7 m g q)) λ q.
         good 7 _ (λ y. omega arith) (above-13 7 t (λ y. omega arith)) (can-leave refl g (is-leaving (m .status) q)) parts-short
         (λ y. absurd (roomy _ few-parts few-boxes few-minted (let l = length-remove (K .lobby) i in let f = o .few-lobby in omega arith) (o .few-shelf) y))
-        (λ y. absurd (none-17 7 (λ y. omega arith) (λ y. omega arith) (λ y. omega arith) (λ y. false≢true y) y))
+        (λ y. absurd (none-17 7 (inr refl) y))
 
     -- KIND 1
     abbrev after-1 : Core
-    after-1 = withLobby K (K .lobby ++ (record { status = down; chan = 0; val = ws } ∷ []))
+    after-1 = withLobby K (K .lobby ++ (copied (wrapperOf b .copies) ws ++ (record { status = down; chan = 0; val = ws } ∷ [])))
+
+    length-1 : length (after-1 .lobby) ≡ length (K .lobby) + 1 + copyCount b
+    length-1 = let M : List Message = record { status = down; chan = 0; val = ws } ∷ [] in
+        omega (arith, length-append (K .lobby) (copied (wrapperOf b .copies) ws ++ M), length-append (copied (wrapperOf b .copies) ws) M, length-copied (wrapperOf b .copies) ws, copy-count (b .wrapper))
 
     tens-1 : i ≡ 0 → j ≡ 0 → Tens 1
     tens-1 p q = record {
@@ -401,14 +433,16 @@ module _ (b : Composition) (s : State) (n i j : ℕ) (ws : List ℕ) where
     full-1 : limits after-1 ≡ false → Row17 b s (X 1)
     full-1 q = limit-cases after-1 q
         (λ y. absurd (let f = few-parts in omega arith)) (λ y. absurd (let f = few-boxes in omega arith)) (λ y. absurd (let f = few-minted in omega arith))
-        (λ y. lobby refl (subst (λ (z : ℕ). 16 < z) (length-append (K .lobby) (record { status = down; chan = 0; val = ws } ∷ [])) y)) (λ y. absurd (let f = o .few-shelf in omega arith))
+        (λ y. lobby-enter refl (subst (λ (z : ℕ). 16 < z) length-1 y)) (λ y. absurd (let f = o .few-shelf in omega arith))
 
     not-full-1 : Row17 b s (X 1) → limits after-1 ≡ false
     not-full-1 (particles-down q l) = absurd (omega arith)
     not-full-1 (particles-meet a l) = absurd (let z = a .meets in omega arith)
     not-full-1 (boxes a l) = absurd (let z = a .meets in omega arith)
     not-full-1 (minted a l) = absurd (let z = a .meets in omega arith)
-    not-full-1 (lobby q l) = over-lobby after-1 (subst (λ (z : ℕ). 16 < z) (sym (length-append (K .lobby) (record { status = down; chan = 0; val = ws } ∷ []))) l)
+    not-full-1 (lobby-enter q l) = over-lobby after-1 (subst (λ (z : ℕ). 16 < z) (sym length-1) l)
+    not-full-1 (lobby-pass q l) = absurd (omega arith)
+    not-full-1 (lobby-take q l) = absurd (omega arith)
     not-full-1 (lobby-up q g t l) = absurd (omega arith)
     not-full-1 (shelf q g t l) = absurd (omega arith)
 
@@ -423,7 +457,7 @@ module _ (b : Composition) (s : State) (n i j : ℕ) (ws : List ℕ) where
 
     -- KIND 3
     shelves-where : shelves (wrapperOf b) n ≡ true → (b .wrapper ≡ 2) × (n ≡ 1)
-    shelves-where r = ⊎-elim (λ z. absurd (false≢true (subst (λ (w : ℕ). shelves (described w) n ≡ true) (z .0) r)))
+    shelves-where r = ⊎-elim (λ z. absurd (false≢true (subst (λ (rs : List Route). oneOf (λ r. eqb (r .source) n) rs ≡ true) (alone-routes (b .wrapper) (z .0)) r)))
         (λ z. ⊎-elim (λ y. y) (λ y. absurd (false≢true (subst (λ (m : ℕ). shelves (described 2) m ≡ true) (y .1) (subst (λ (w : ℕ). shelves (described w) n ≡ true) (y .0) r)))) z)
         (places (b .wrapper) n h)
 
@@ -526,7 +560,9 @@ module _ (b : Composition) (s : State) (n i j : ℕ) (ws : List ℕ) where
     not-full-shelf ch v g t (particles-meet a l) = absurd (let z = a .meets in omega arith)
     not-full-shelf ch v g t (boxes a l) = absurd (let z = a .meets in omega arith)
     not-full-shelf ch v g t (minted a l) = absurd (let z = a .meets in omega arith)
-    not-full-shelf ch v g t (lobby q l) = absurd (false≢true q)
+    not-full-shelf ch v g t (lobby-enter q l) = absurd (omega arith)
+    not-full-shelf ch v g t (lobby-pass q l) = absurd (omega arith)
+    not-full-shelf ch v g t (lobby-take q l) = absurd (omega arith)
     not-full-shelf ch v g t (lobby-up {ch = d} {v = u} q g′ t′ l) = absurd (t′ (t .0, t .1, up-chan ch d v u g g′ ∙ t .2))
     not-full-shelf ch v g t (shelf q g′ t′ l) = over-shelf (shelved v) (subst (λ (z : ℕ). 32 < z) (sym (length-append (K .shelf) (v ∷ []))) l)
 
@@ -535,7 +571,9 @@ module _ (b : Composition) (s : State) (n i j : ℕ) (ws : List ℕ) where
     not-full-land ch v g t (particles-meet a l) = absurd (let z = a .meets in omega arith)
     not-full-land ch v g t (boxes a l) = absurd (let z = a .meets in omega arith)
     not-full-land ch v g t (minted a l) = absurd (let z = a .meets in omega arith)
-    not-full-land ch v g t (lobby q l) = absurd (false≢true q)
+    not-full-land ch v g t (lobby-enter q l) = absurd (omega arith)
+    not-full-land ch v g t (lobby-pass q l) = absurd (omega arith)
+    not-full-land ch v g t (lobby-take q l) = absurd (omega arith)
     not-full-land ch v g t (lobby-up q g′ t′ l) = over-lobby (landed ch v) (subst (λ (z : ℕ). 16 < z) (sym (length-append (K .lobby) (record { status = arrived; chan = ch; val = v } ∷ []))) l)
     not-full-land ch v g t (shelf {ch = d} {v = u} q g′ t′ l) = absurd (t (t′ .0, t′ .1, sym (up-chan ch d v u g g′) ∙ t′ .2))
 
@@ -545,7 +583,9 @@ module _ (b : Composition) (s : State) (n i j : ℕ) (ws : List ℕ) where
     not-full-set a ch v g (particles-meet m l) = let z = m .meets in omega arith
     not-full-set a ch v g (boxes m l) = let z = m .meets in omega arith
     not-full-set a ch v g (minted m l) = let z = m .meets in omega arith
-    not-full-set a ch v g (lobby q l) = false≢true q
+    not-full-set a ch v g (lobby-enter q l) = omega arith
+    not-full-set a ch v g (lobby-pass q l) = omega arith
+    not-full-set a ch v g (lobby-take q l) = omega arith
     not-full-set a ch v g (lobby-up {ch = d} {v = u} q g′ t l) =
         let y : output (suc a) ch toParent v ≡ output 0 d toParent u = some-inj (sym g ∙ g′) in
         let z : suc a ≡ 0 = ap boxOf y in
@@ -629,7 +669,7 @@ module _ (b : Composition) (s : State) (n i j : ℕ) (ws : List ℕ) where
         (eqb-false j 0 (not-true′ (eqb j 0) (fst (not (eqb j 0)) _ z))) (eqb-true (x .parent) a (fst (eqb (x .parent) a) _ (snd (not (eqb j 0)) _ z))) refl)
         (every-set short (K .contents .particles) i (output j c fromParent v) parts-short (part-fact a c g v q .1))
         (λ y. absurd (roomy _ (subst (λ (z : ℕ). z ≤ 32) (sym (length-set (K .contents .particles) i _)) few-parts) few-boxes few-minted (o .few-lobby) (o .few-shelf) y))
-        (λ y. absurd (none-17 4 (λ y. omega arith) (λ y. omega arith) (λ y. omega arith) (λ y. false≢true y) y)))
+        (λ y. absurd (none-17 4 (inl refl) y)))
     descend-part t (input a m vs) q x gx = low-13 4 t (λ y. omega arith) (can-4 (input a m vs) q x gx (never (not (eqb j 0)) (eqb (x .parent) a)))
       where
         never : (a b : Bool) → a & (b & false) ≡ false
@@ -648,7 +688,7 @@ module _ (b : Composition) (s : State) (n i j : ℕ) (ws : List ℕ) where
     -- KIND 8
     route-none : (m : ℕ) → routeTo (wrapperOf b .routes) n j ≡ refuse m → (m ≡ 10) × Row10 b s (X 8)
     unfolding routeTo choose _&_
-    route-none m q = ⊎-elim (λ z. (ten (subst (λ (w : ℕ). routeTo (described w .routes) n j ≡ refuse m) (z .0) q), kind-8-filter refl (z .0)))
+    route-none m q = ⊎-elim (λ z. (ten (subst (λ (rs : List Route). routeTo rs n j ≡ refuse m) (alone-routes (b .wrapper) (z .0)) q), kind-8-alone refl (z .0)))
         (λ y. ⊎-elim (λ z. (ten (subst (λ (k : ℕ). routeTo (described 2 .routes) k j ≡ refuse m) (z .1) (subst (λ (w : ℕ). routeTo (described w .routes) n j ≡ refuse m) (z .0) q)), kind-8-side-1 refl (z .1)))
         (λ z. on-j (eqb 0 j) refl (subst (λ (k : ℕ). routeTo (described 2 .routes) k j ≡ refuse m) (z .1) (subst (λ (w : ℕ). routeTo (described w .routes) n j ≡ refuse m) (z .0) q))) y)
         (places (b .wrapper) n h)
@@ -662,7 +702,7 @@ module _ (b : Composition) (s : State) (n i j : ℕ) (ws : List ℕ) where
 
     route-some : (r : Route) → routeTo (wrapperOf b .routes) n j ≡ done r → (r .source ≡ 1) × (b .wrapper ≡ 2) × (n ≡ 2) × (j ≡ 0)
     unfolding routeTo choose _&_
-    route-some r q = ⊎-elim (λ z. absurd (clash (subst (λ (w : ℕ). routeTo (described w .routes) n j ≡ done r) (z .0) q)))
+    route-some r q = ⊎-elim (λ z. absurd (clash (subst (λ (rs : List Route). routeTo rs n j ≡ done r) (alone-routes (b .wrapper) (z .0)) q)))
         (λ y. ⊎-elim (λ z. absurd (clash (subst (λ (k : ℕ). routeTo (described 2 .routes) k j ≡ done r) (z .1) (subst (λ (w : ℕ). routeTo (described w .routes) n j ≡ done r) (z .0) q))))
         (λ z. on-j (eqb 0 j) refl z (subst (λ (k : ℕ). routeTo (described 2 .routes) k j ≡ done r) (z .1) (subst (λ (w : ℕ). routeTo (described w .routes) n j ≡ done r) (z .0) q))) y)
         (places (b .wrapper) n h)
@@ -686,7 +726,7 @@ module _ (b : Composition) (s : State) (n i j : ℕ) (ws : List ℕ) where
       i0 = λ q. absurd (false≢true q);
       j0 = λ _. z .2;
       words0 = λ _. w;
-      taker = λ _. ((λ q. let y = z .0 in omega arith), (λ q. let y = z .1 in omega arith));
+      taker = λ _. ((λ q. let y = z .0 in ⊎-elim (λ p. omega arith) (λ p. omega arith) q), (λ q. let y = z .1 in omega arith));
     }
 
     can-8 : not (hasTaken K 1 i) ≡ false → Can b s (X 8) → ⊥
@@ -705,14 +745,16 @@ module _ (b : Composition) (s : State) (n i j : ℕ) (ws : List ℕ) where
     full-8 : (v : List ℕ) (tk : List Bool) → limits (after-8 v tk) ≡ false → Row17 b s (X 8)
     full-8 v tk q = limit-cases (after-8 v tk) q
         (λ y. absurd (let f = few-parts in omega arith)) (λ y. absurd (let f = few-boxes in omega arith)) (λ y. absurd (let f = few-minted in omega arith))
-        (λ y. lobby refl (subst (λ (z : ℕ). 16 < z) (length-append (K .lobby) (record { status = down; chan = 2; val = v } ∷ [])) y)) (λ y. absurd (let f = o .few-shelf in omega arith))
+        (λ y. lobby-take refl (subst (λ (z : ℕ). 16 < z) (length-append (K .lobby) (record { status = down; chan = 2; val = v } ∷ [])) y)) (λ y. absurd (let f = o .few-shelf in omega arith))
 
     not-full-8 : (v : List ℕ) (tk : List Bool) → Row17 b s (X 8) → limits (after-8 v tk) ≡ false
     not-full-8 v tk (particles-down q l) = absurd (omega arith)
     not-full-8 v tk (particles-meet a l) = absurd (let z = a .meets in omega arith)
     not-full-8 v tk (boxes a l) = absurd (let z = a .meets in omega arith)
     not-full-8 v tk (minted a l) = absurd (let z = a .meets in omega arith)
-    not-full-8 v tk (lobby q l) = over-lobby (after-8 v tk) (subst (λ (z : ℕ). 16 < z) (sym (length-append (K .lobby) (record { status = down; chan = 2; val = v } ∷ []))) l)
+    not-full-8 v tk (lobby-enter q l) = absurd (omega arith)
+    not-full-8 v tk (lobby-pass q l) = absurd (omega arith)
+    not-full-8 v tk (lobby-take q l) = over-lobby (after-8 v tk) (subst (λ (z : ℕ). 16 < z) (sym (length-append (K .lobby) (record { status = down; chan = 2; val = v } ∷ []))) l)
     not-full-8 v tk (lobby-up q g t l) = absurd (omega arith)
     not-full-8 v tk (shelf q g t l) = absurd (omega arith)
 

@@ -17,7 +17,7 @@ use Rattle.calculus.specs.Tree.{Place, fill, upd}
 use Rattle.calculus.specs.Tree.{Item, select}
 use Rattle.model.specs.Basics.{_&_, need, choose, remove, pick}
 use Rattle.model.specs.Values.{isValue}
-use Rattle.model.specs.Wrapper.{Wrapper, shelves}
+use Rattle.model.specs.Wrapper.{Wrapper}
 use Rattle.model.specs.Side.{State, Box, Message, Particle, output, Core, limits, down, arrived, leaving, Status as SPlace, Tag as STag, fromParent, toChild}
 use Rattle.model.specs.Unfolding.{addParticle}
 use Rattle.model.specs.Load.{Composition, wrapperOf, Setting}
@@ -30,6 +30,7 @@ use Rattle.calculus.proofs.Trees.{Has, wf-has}
 use Rattle.calculus.proofs.Restriction.{RestrictInv}
 use Rattle.calculus.proofs.Bags.{item, at, Bag, bag-eq, bag-trans, bag-cons, ritems}
 use Rattle.model.proofs.Basics.Tests.{fst, both, every-append, every-one, every-set, length-remove, get-every}
+use Rattle.model.proofs.Formed.Growing.{wfIn}
 use Rattle.model.proofs.Processes.KnownNames.{All}
 use Rattle.model.proofs.Basics.Splits.{get-pick}
 use Rattle.model.proofs.Sound.ItemMoves.{ids, forget, plainP, target, add-part}
@@ -119,7 +120,7 @@ module _ (b : Composition) (s : State) (e : ready b s ≡ true) where
     goes-down j m g d gone bag =
         silent-met b s e vw ac v (down-step (vw .c .side) j) refl q (down-there (vw .c) (known s) (shelfOf s) (vw .core) j m g d)
         (every-append short (vw .core .contents .particles) (p ∷ []) (all-short b s e vw)
-        (every-one short p (fst _ _ (fst _ _ (fst _ _ (get-every (wfMessage (shelves (vw .c .wrapper) (vw .c .side)) (counts s)) (vw .core .lobby) j m (vw .ok .lobby) g)))))) refl refl J n
+        (every-one short p (fst _ _ (fst _ _ (fst _ _ (get-every (wfIn (vw .c) (counts s)) (vw .core .lobby) j m (vw .ok .lobby) g)))))) refl refl J n
         (λ l. bag-trans bag (bag-trans (bag-cons _ (bag-eq gone))
         (bag-trans (add-part (wrapperOf b) (vw .c .side) (vw .c .table) (vw .C) (vw .D) (vw .core) (remove (vw .core .lobby) j) (vw .core .contents .particles) p) (bag-eq (sym (vw .items-next q (vw .left) refl refl))))))
         (λ l. by-17 (down-full refl (full (leb 32 (length (vw .core .contents .particles))) refl l)))

@@ -10,8 +10,8 @@ use Prim.Native.Nat.{ℕ, zero, suc, _+_, _<_, _≤_}
 use native.Mathlib.Omega.{arith}
 use borrow.Author.Tests.{eq-eqb, not-true}
 use lib.Dec.{eqb}
-use lib.ListN.{length, getElem?, getD, set}
-use Rattle.calculus.specs.Syntax.{Val, Pat, Vars, ITag, plain, receivedChild, Mode, Proc, comp, match, ren, remark}
+use lib.ListN.{length, getElem?, getD, set, length-append, length-set}
+use Rattle.calculus.specs.Syntax.{Val, Pat, Vars, ITag, plain, receivedChild, Mode, Proc, comp, match, ren}
 use Rattle.calculus.specs.Syntax.{nil as pnil, out as pout, inp as pinp, within as iwithin, parent as iparent, child as ichild}
 use Rattle.calculus.specs.Congruence.{_≋_, symm, trans}
 use Rattle.calculus.specs.Transitions.{tau, Participants, joint, InstOk}
@@ -19,30 +19,33 @@ use Rattle.calculus.specs.Tree.{fill, upd}
 use Rattle.calculus.specs.Parallel.{parallel}
 use Rattle.calculus.specs.Tree.{Item, select}
 use Rattle.calculus.specs.Tree.{process}
-use Rattle.calculus.specs.Wrappers.{forward}
+use Rattle.calculus.specs.Wrappers.{forwardWith}
 use Rattle.model.specs.Basics.{_&_, Res, refuse, done, need, choose, bind, oneOf}
 use Rattle.model.specs.Wrapper.{Wrapper, Route, described, hasSide, shelves}
 use Rattle.model.specs.Side.{State, side, noSide, hasTaken, takenAt, Message, Core, down, arrived, leaving, Status as SPlace}
 use Rattle.model.specs.Load.{Composition, wrapperOf, Setting, setting}
 use Rattle.model.specs.WellFormed.{Counts, counts, shelfOf, wfMessage, ready}
-use Rattle.model.specs.Step.{Step, Moved, silent, labelled, Result, refusal, settled, local, inner, step, known, takes, routeTo, isArrived, pass as passing}
+use Rattle.model.specs.Step.{Step, Moved, silent, labelled, Result, refusal, settled, local, inner, step, known, copied, takes, routeTo, isArrived, pass as passing}
 use Rattle.model.specs.Process.{Mark, lobby, shelf, passer, taker, inert, ownName, valOf, bySide, isGone, confOf, msgProc, msgItem, shelfItem, shelfItems, forwarders, passes as passing-item, takes as taking-item}
-use Rattle.model.specs.Agreement.{plainly, At, Asks, asks-tau, Says, says-tau, Met, Excused, by-17, lobby-full, answerSide, enter, goDown, goUp, descend, meet, pass, leave, take}
+use Rattle.model.specs.Agreement.{plainly, At, Asks, asks-tau, Says, says-tau, Met, Excused, by-17, pass-full, take-full, answerSide, enter, goDown, goUp, descend, meet, pass, leave, take}
 use Rattle.calculus.proofs.Inversion.{after}
-use Rattle.calculus.proofs.Bags.{item, at, Bag, bag-eq, bag-trans, bag-cons, bag-mid, bag-sym, ritem, ritems, ritems-app}
+use Rattle.calculus.proofs.Forwarders.{copyItems}
+use Rattle.calculus.proofs.Bags.{item, at, Bag, bag-app, bag-refl, bag-eq, bag-trans, bag-cons, bag-mid, bag-sym, ritem, ritems, ritems-app}
+use Rattle.model.proofs.Basics.Sides.{described-by}
 use Rattle.model.proofs.Basics.Tests.{both, snd, get-every, not-empty, nothing, some-inj, or-right, head-eq, tail-eq, or-none}
-use Rattle.model.proofs.Formed.Keeping.{pass-keeps}
-use Rattle.model.proofs.Formed.Invariant.{settled-is, core-short, core-limits, side-ok}
+use Rattle.model.proofs.Formed.Growing.{wfIn}
+use Rattle.model.proofs.Formed.Keeping.{length-copied}
+use Rattle.model.proofs.Formed.Invariant.{copies-log, side-ok}
 use Rattle.model.proofs.Processes.KnownNames.{All}
 use Rattle.model.proofs.Basics.Splits.{get-pick}
 use Rattle.model.proofs.Processes.StateTree.{shelf-marks}
-use Rattle.model.proofs.Sound.ItemMoves.{ids, forget, plainM, target, par-of, gone-of}
+use Rattle.model.proofs.Sound.ItemMoves.{ids, forget, plainM, target, gone-of, sent-of, add-msgs, copied-items}
 use Rattle.model.proofs.Sound.StateMoves.{wf-all, rooted-all}
 use Rattle.model.proofs.Sound.SideViews.{View, pos, lt, F, own-now, new-same}
 use Rattle.model.proofs.Sound.TakeMoves.{OnShelf, shelf-same, gone-here, gone-rest, hm, took-state, taken-bag, same-boxes, same-new}
 use Rattle.model.proofs.Complete.StateInversion.{silent-target, rename-of, item-at}
 use Rattle.model.proofs.Complete.ItemPlaces.{two-changed}
-use Rattle.model.proofs.Complete.Completing.{Completed, Inv, inv-at, Answers, step-is, added, what-eq, tagIn, chanIn, valIn, markIn, received, on-some, forwarded}
+use Rattle.model.proofs.Complete.Completing.{Completed, Inv, inv-at, Answers, step-is, lobby-put, what-eq, tagIn, chanIn, valIn, markIn, received, on-some, forwarded}
 use Rattle.model.proofs.Complete.ItemOwners.{shelfOn, ownOf, at-side}
 use Rattle.model.proofs.Complete.WrapperLevel.{Input, enters-of, passes-of, takes-of, receiver-in, input-is, Sent, of-lobby, of-shelf, output-is}
 
@@ -105,14 +108,6 @@ not-taken s (suc n) q i a l g = one-none (λ o. hasTaken (o .core) q i) (s .side
 -- THE ROUTES
 
 -- a side and j tell which route; source and receiver tell too
-by-routes : (P : Wrapper → Type 0) → P (described 1) → P (described 2) → P (described 0) → (w : ℕ) → P (described w)
-by-routes P p1 p2 p0 w = go (eqb w 1) (eqb w 2)
-  where
-    go : (t u : Bool) → P (cond t (described 1) (cond u (described 2) (described 0)))
-    go true u = p1
-    go false true = p2
-    go false false = p0
-
 abbrev pipe : Route
 pipe = record { source = 1; receiver = 2; j = 0 }
 
@@ -122,12 +117,12 @@ only-pipe (suc k) r g = absurd (nothing g)
 
 pub route-found : (w k : ℕ) (r : Route) → getElem? (described w .routes) k ≡ some r → routeTo (described w .routes) (r .receiver) (r .j) ≡ done r
 unfolding routeTo choose _&_
-route-found w = by-routes (λ (d : Wrapper). (k : ℕ) (r : Route) → getElem? (d .routes) k ≡ some r → routeTo (d .routes) (r .receiver) (r .j) ≡ done r)
-    (λ k r g. absurd (nothing g)) (λ k r g. subst (λ (z : Route). routeTo (pipe ∷ []) (z .receiver) (z .j) ≡ done z) (only-pipe k r g) refl) (λ k r g. absurd (nothing g)) w
+route-found w = described-by (λ (d : Wrapper). (k : ℕ) (r : Route) → getElem? (d .routes) k ≡ some r → routeTo (d .routes) (r .receiver) (r .j) ≡ done r)
+    (λ k r g. absurd (nothing g)) (λ k r g. subst (λ (z : Route). routeTo (pipe ∷ []) (z .receiver) (z .j) ≡ done z) (only-pipe k r g) refl) (λ k r g. absurd (nothing g)) (λ k r g. absurd (nothing g)) w
 
 pub route-sole : (w k k′ : ℕ) (r r′ : Route) → getElem? (described w .routes) k ≡ some r → getElem? (described w .routes) k′ ≡ some r′ → r .source ≡ r′ .source → r .receiver ≡ r′ .receiver → r ≡ r′
-route-sole w = by-routes (λ (d : Wrapper). (k k′ : ℕ) (r r′ : Route) → getElem? (d .routes) k ≡ some r → getElem? (d .routes) k′ ≡ some r′ → r .source ≡ r′ .source → r .receiver ≡ r′ .receiver → r ≡ r′)
-    (λ k k′ r r′ g g′ p q. absurd (nothing g)) (λ k k′ r r′ g g′ p q. sym (only-pipe k r g) ∙ only-pipe k′ r′ g′) (λ k k′ r r′ g g′ p q. absurd (nothing g)) w
+route-sole w = described-by (λ (d : Wrapper). (k k′ : ℕ) (r r′ : Route) → getElem? (d .routes) k ≡ some r → getElem? (d .routes) k′ ≡ some r′ → r .source ≡ r′ .source → r .receiver ≡ r′ .receiver → r ≡ r′)
+    (λ k k′ r r′ g g′ p q. absurd (nothing g)) (λ k k′ r r′ g g′ p q. sym (only-pipe k r g) ∙ only-pipe k′ r′ g′) (λ k k′ r r′ g g′ p q. absurd (nothing g)) (λ k k′ r r′ g g′ p q. absurd (nothing g)) w
 
 -- a route's source has a shelf
 one-of : {A : Type 0} (f : A → Bool) (l : List A) (k : ℕ) (x : A) → getElem? l k ≡ some x → f x ≡ true → oneOf f l ≡ true
@@ -182,14 +177,14 @@ take-silent : (r : Route) (i : ℕ) → Asks (take-step r i) tau
 take-silent r i = asks-tau {k = take-step r i} (λ z. omega arith) (λ z. omega arith)
 
 -- what the bench does there
-abbrev passed : Core → ℕ → List ℕ → Moved
-passed s j v = record { label = silent; val = []; core = record { contents = s .contents; lobby = set (s .lobby) j (record { status = leaving; chan = 1; val = v }); shelf = s .shelf; taken = s .taken } }
+abbrev passed : (copies : List ℕ) → Core → ℕ → List ℕ → Moved
+passed cs s j v = record { label = silent; val = []; core = record { contents = s .contents; lobby = set (s .lobby) j (record { status = leaving; chan = 1; val = v }) ++ copied cs v; shelf = s .shelf; taken = s .taken } }
 
-passes-there : (s : Core) (j : ℕ) (m : Message) → getElem? (s .lobby) j ≡ some m → m .status ≡ arrived → m .chan ≡ 1 → passing s j ≡ done (passed s j (m .val))
+passes-there : (cs : List ℕ) (s : Core) (j : ℕ) (m : Message) → getElem? (s .lobby) j ≡ some m → m .status ≡ arrived → m .chan ≡ 1 → passing cs s j ≡ done (passed cs s j (m .val))
 unfolding passing need _&_
-passes-there s j m g p c = get-pick (s .lobby) j _ m g ∙ ap₂ (λ (x : SPlace) (y : ℕ). need (isArrived x & eqb y 1) 13 (done (passed s j (m .val)))) p c
+passes-there cs s j m g p c = get-pick (s .lobby) j _ m g ∙ ap₂ (λ (x : SPlace) (y : ℕ). need (isArrived x & eqb y 1) 13 (done (passed cs s j (m .val)))) p c
 
-pass-local : (c : Setting) (kn : ℕ → Bool) (sh : ℕ → List (List ℕ)) (s : Core) (σ j : ℕ) → local c kn sh s (pass-step σ j) ≡ passing s j
+pass-local : (c : Setting) (kn : ℕ → Bool) (sh : ℕ → List (List ℕ)) (s : Core) (σ j : ℕ) → local c kn sh s (pass-step σ j) ≡ passing (c .wrapper .copies) s j
 unfolding local inner choose need
 pass-local c kn sh s σ j = refl
 
@@ -235,9 +230,9 @@ arrived-there w σ j arrived c val t x g v q = (refl, ap markIn q, ap chanIn q, 
 arrived-there w σ j leaving c val t x g v q = absurd (comp-not-parent g (ap tagIn q))
 
 -- an arrived message on `mid` of the side that shelves: there is none
-no-mid : (sh : Bool) (k : Counts) (m : Message) → wfMessage sh k m ≡ true → m .status ≡ arrived → m .chan ≡ 2 → sh ≡ true → ⊥
+no-mid : (sh : Bool) (cs : List ℕ) (k : Counts) (m : Message) → wfMessage sh cs k m ≡ true → m .status ≡ arrived → m .chan ≡ 2 → sh ≡ true → ⊥
 unfolding wfMessage
-no-mid sh k m w st ch h = false≢true (sym (not-true (sh & eqb (m .chan) 2) (rw st at (snd _ _ (snd _ _ w)))) ∙ both _ _ h (eq-eqb (m .chan) 2 ch))
+no-mid sh cs k m w st ch h = false≢true (sym (not-true (sh & eqb (m .chan) 2) (rw st at (snd _ _ (snd _ _ w)))) ∙ both _ _ h (eq-eqb (m .chan) 2 ch))
 
 -- of a position other than the one that is set
 get-other : {A : Type 0} (l : List A) (i j : ℕ) (y : A) → i ≢ j → getElem? (set l i y) j ≡ getElem? l j
@@ -254,40 +249,55 @@ module _ (b : Composition) (s : State) (e : ready b s ≡ true) (R : Proc Mark [
   Outcome k = Met b s tau R k ⊎ ((n : ℕ) × (step b s k .answer ≡ refusal n (k .side)) × Excused b s k tau n)
 
   -- a forwarder has sent on the value of an output that is gone
-  sent-on : (v : Val ℕ) (P Q : Proc Mark []) → received P v ≡ some Q → (X Y X' Y' : List (Item Mark)) → X ++ item 0 pnil ∷ Y ≡ X' ++ item 0 P ∷ Y' → (t : Mark) (x : ℕ) (i : ITag ℕ) (z : ℕ) (o : ITag ℕ) → P ≡ forward [] t inert x i z o
-      → Bag (ritems forget (X' ++ item 0 Q ∷ Y')) (item 0 (pout tt z (plain o) v) ∷ (ritems forget X ++ ritems forget Y))
-  unfolding remark
-  sent-on v P Q got X Y X' Y' is t x i z o q =
-      bag-trans (bag-eq (ap (λ (A : Proc Mark []). ritems forget (X' ++ item 0 A ∷ Y')) (forwarded P t x i z o q v Q got)))
-      (bag-trans (par-of (All b s) (confOf b s .boxes) (wf-all b s e) (rooted-all b s e) X' Y' 0 (forward [] t inert x i z o) (pout inert z (plain o) v))
-      (bag-cons (item 0 (pout tt z (plain o) v)) (bag-trans (bag-eq (ap (ritems forget) (ap (λ (A : Proc Mark []). X' ++ item 0 A ∷ Y') (sym q) ∙ sym is))) (gone-of (All b s) (confOf b s .boxes) (wf-all b s e) (rooted-all b s e) X Y 0))))
+  sent-on : (cs : List ℕ) (v : Val ℕ) (P Q : Proc Mark []) → received P v ≡ some Q → (X Y X' Y' : List (Item Mark)) → X ++ item 0 pnil ∷ Y ≡ X' ++ item 0 P ∷ Y' → (t : Mark) (x : ℕ) (i : ITag ℕ) (z : ℕ) (o : ITag ℕ)
+      → P ≡ forwardWith [] t inert cs x i z o → Bag (ritems forget (X' ++ item 0 Q ∷ Y')) (copyItems tt cs v ++ item 0 (pout tt z (plain o) v) ∷ (ritems forget X ++ ritems forget Y))
+  sent-on cs v P Q got X Y X' Y' is t x i z o q =
+      bag-trans (bag-eq (ap (λ (A : Proc Mark []). ritems forget (X' ++ item 0 A ∷ Y')) (forwarded cs P t x i z o q v Q got)))
+      (bag-trans (sent-of (All b s) (confOf b s .boxes) (wf-all b s e) (rooted-all b s e) X' Y' (forwardWith [] t inert cs x i z o) cs z o v)
+      (bag-app (bag-refl {X = copyItems tt cs v}) (bag-cons (item 0 (pout tt z (plain o) v))
+      (bag-trans (bag-eq (ap (ritems forget) (ap (λ (A : Proc Mark []). X' ++ item 0 A ∷ Y') (sym q) ∙ sym is))) (gone-of (All b s) (confOf b s .boxes) (wf-all b s e) (rooted-all b s e) X Y 0)))))
 
   -- an arrived message on `out` is passed on
   module _ (vw : View b s) (an : Answers b s vw) (j : ℕ) (m : Message) (get : getElem? (vw .core .lobby) j ≡ some m) (st : m .status ≡ arrived) (ch : m .chan ≡ 1)
       (vv : Inv b s R tau (joint (lobby (vw .c .side) j) (passer (vw .c .side)))) (J : List (Item Mark)) (n : fill (confOf b s .boxes) (at J) ≋ vv .next)
-      (bag : Bag (ritems forget J) (target (wrapperOf b) (vw .c .side) (vw .c .table) (vw .C) (vw .D) (vw .core) (set (vw .core .lobby) j (record { status = leaving; chan = 1; val = m .val })) (vw .core .contents .particles))) where
-    there : step b s (pass-step (vw .c .side) j) ≡ record { answer = labelled silent (vw .c .side) []; after = vw .next (passed (vw .core) j (m .val) .core) (vw .left) }
-    there =
-        let is = passes-there (vw .core) j m get st ch in
-        let ok = pass-keeps (vw .c) (counts s) (vw .core) (vw .ok) j (passed (vw .core) j (m .val)) is .ok in
-        an .is-done (pass-step (vw .c .side) j) (passed (vw .core) j (m .val)) refl (settled-is _ _ (record {
-          is = pass-local (vw .c) (known s) (shelfOf s) (vw .core) (vw .c .side) j ∙ is;
-          short-outputs = core-short (vw .c) (counts s) (passed (vw .core) j (m .val) .core) ok;
-          few = core-limits (vw .c) (counts s) (passed (vw .core) j (m .val) .core) ok;
-        }))
+      (bag : Bag (ritems forget J) (target (wrapperOf b) (vw .c .side) (vw .c .table) (vw .C) (vw .D) (vw .core)
+      (set (vw .core .lobby) j (record { status = leaving; chan = 1; val = m .val }) ++ copied (wrapperOf b .copies) (m .val)) (vw .core .contents .particles))) where
+    abbrev moved-on : Moved
+    moved-on = passed (wrapperOf b .copies) (vw .core) j (m .val)
 
-    passed-met : Met b s tau R (pass-step (vw .c .side) j)
-    passed-met = record {
+    is-passed : local (vw .c) (known s) (shelfOf s) (vw .core) (pass-step (vw .c .side) j) ≡ done moved-on
+    is-passed = pass-local (vw .c) (known s) (shelfOf s) (vw .core) (vw .c .side) j ∙ ap (λ (w : Wrapper). passing (w .copies) (vw .core) j) (an .wrapper-is)
+        ∙ passes-there (wrapperOf b .copies) (vw .core) j m get st ch
+
+    passed-met : settled (done moved-on) ≡ done moved-on → Met b s tau R (pass-step (vw .c .side) j)
+    passed-met q = record {
       names = rename-of vv;
       label = subst (λ (r : Result). Says (wrapperOf b) (r .answer) tau) (sym there) says-tau;
       side = ap (λ (r : Result). answerSide (r .answer)) there;
       target = subst (λ (t : State). plainly (ren {r = []} R (vv .perm .to)) ≋ plainly (process (confOf b t))) (sym (ap (λ (r : Result). r .after) there))
-          (silent-target b s e vv J n (vw .next (passed (vw .core) j (m .val) .core) (vw .left)) (new-same vw (passed (vw .core) j (m .val) .core) refl) (vw .boxes-next (passed (vw .core) j (m .val) .core) (vw .left) refl)
-          (bag-trans bag (bag-eq (sym (vw .items-next (passed (vw .core) j (m .val) .core) (vw .left) refl refl)))));
+          (silent-target b s e vv J n (vw .next (moved-on .core) (vw .left)) (new-same vw (moved-on .core) refl) (vw .boxes-next (moved-on .core) (vw .left) refl)
+          (bag-trans bag (bag-eq (sym (vw .items-next (moved-on .core) (vw .left) refl refl)))));
     }
+      where
+        there : step b s (pass-step (vw .c .side) j) ≡ record { answer = labelled silent (vw .c .side) []; after = vw .next (moved-on .core) (vw .left) }
+        there = an .is-done (pass-step (vw .c .side) j) moved-on refl (ap settled is-passed ∙ q)
+
+    -- the copies have room, or 17
+    pass-room : (settled (done moved-on) ≡ done moved-on) ⊎ ((settled (done moved-on) ≡ refuse 17) × (17 ≤ length (moved-on .core .lobby))) → Outcome (pass-step (vw .c .side) j)
+    pass-room (inl q) = inl (passed-met q)
+    pass-room (inr q) =
+        let cause = pass-full {k = pass-step (vw .c .side) j} refl (subst (λ (c : Core). 17 ≤ length (c .lobby) + length (wrapperOf b .copies)) (sym (an .core-is)) over) in
+        inr (17, an .is-refused (pass-step (vw .c .side) j) 17 refl (ap settled is-passed ∙ q .0), by-17 cause)
+      where
+        over : 17 ≤ length (vw .core .lobby) + length (wrapperOf b .copies)
+        over = let t : Message = record { status = leaving; chan = 1; val = m .val } in
+            omega (arith, q .1, length-append (set (vw .core .lobby) j t) (copied (wrapperOf b .copies) (m .val)), length-set (vw .core .lobby) j t, length-copied (wrapperOf b .copies) (m .val))
 
     passes-on : Completed b s tau (joint (lobby (vw .c .side) j) (passer (vw .c .side))) R
-    passes-on = ((pass-step (vw .c .side) j, pass, pass-silent (vw .c .side) j), λ k atk ask. subst Outcome (sym (passage-step atk (vw .c .side) j refl)) (inl passed-met))
+    passes-on = (
+      (pass-step (vw .c .side) j, pass, pass-silent (vw .c .side) j),
+      λ k atk ask. subst Outcome (sym (passage-step atk (vw .c .side) j refl)) (pass-room (lobby-put (vw .c) (counts s) (vw .core) (vw .ok) (moved-on .core .lobby) (vw .core .taken) moved-on refl)),
+    )
 
   -- a shelf item is taken, by a route
   module _ (k : ℕ) (r : Route) (rg : getElem? (wrapperOf b .routes) k ≡ some r) where
@@ -324,15 +334,18 @@ module _ (b : Composition) (s : State) (e : ready b s ≡ true) (R : Proc Mark [
             there : step b s (take-step r i) ≡ record { answer = labelled silent σ []; after = after-take }
             there = step-is b s e σ is-side (take-step r i) (done moved) refl (ap settled is-taken ∙ st)
 
-        in-room : (settled (done moved) ≡ done moved) ⊎ ((settled (done moved) ≡ refuse 17) × (16 ≤ length (side s σ .core .lobby))) → Outcome (take-step r i)
+        in-room : (settled (done moved) ≡ done moved) ⊎ ((settled (done moved) ≡ refuse 17) × (17 ≤ length (moved .core .lobby))) → Outcome (take-step r i)
         in-room (inl st) = inl (taken-met st)
-        in-room (inr q) = inr (17, ap (λ (y : Result). y .answer) (step-is b s e σ is-side (take-step r i) (refuse 17) refl (ap settled is-taken ∙ q .0)), by-17 (lobby-full (inr refl) (q .1)))
+        in-room (inr q) =
+            let refused = ap (λ (y : Result). y .answer) (step-is b s e σ is-side (take-step r i) (refuse 17) refl (ap settled is-taken ∙ q .0)) in
+            let over : 16 ≤ length (side s σ .core .lobby) = omega (arith, q .1, length-append (side s σ .core .lobby) (record { status = down; chan = 2; val = v } ∷ [])) in
+            inr (17, refused, by-17 (take-full {k = take-step r i} refl over))
 
         takes-on : Completed b s tau (joint (shelf (r .source) i) (taker (r .source) σ)) R
         takes-on = (
           (take-step r i, take k rg, take-silent r i),
           λ x atx ask. subst Outcome (sym (taking-step (b .wrapper) atx k r rg i refl))
-              (in-room (added (setting b σ) (counts s) (side s σ .core) (side-ok b s e σ is-side) (record { status = down; chan = 2; val = v }) (set (side s σ .core .taken) (takenAt (r .source) i) true) moved refl)),
+              (in-room (lobby-put (setting b σ) (counts s) (side s σ .core) (side-ok b s e σ is-side) (moved .core .lobby) (set (side s σ .core .taken) (takenAt (r .source) i) true) moved refl)),
         )
 
   -- an output and an input in the environment
@@ -346,9 +359,17 @@ module _ (b : Composition) (s : State) (e : ready b s ≡ true) (R : Proc Mark [
         let who : joint t u ≡ joint (lobby (vw .c .side) j) (passer (vw .c .side)) = ap₂ joint et (mark ∙ ap markIn q) in
         subst (λ (y : Participants Mark). Completed b s tau y R) (sym who)
         (passes-on vw an j m get st (sym ex ∙ chan ∙ ap chanIn q) (inv-at who vv) (X' ++ item 0 Q ∷ Y') n
-        (bag-trans (sent-on v P Q got X Y X' Y' is (passer (vw .c .side)) 1 (ichild (ownName (vw .c .side))) (wrapperOf b .outlet (vw .c .side)) iparent q)
-        (bag-trans (bag-eq (ap (λ (y : Val ℕ). item 0 (pout tt (wrapperOf b .outlet (vw .c .side)) (plain iparent) y) ∷ (ritems forget X ++ ritems forget Y)) ev))
-        (bag-trans (bag-sym (bag-mid (ritems forget X) (plainM (wrapperOf b) (vw .c .side) (record { status = leaving; chan = 1; val = m .val })) (ritems forget Y))) (bag-eq (put (record { status = leaving; chan = 1; val = m .val })))))))
+        (bag-trans (sent-on cs v P Q got X Y X' Y' is (passer (vw .c .side)) 1 (ichild (ownName (vw .c .side))) (wrapperOf b .outlet (vw .c .side)) iparent q)
+        (bag-trans (bag-eq (ap (λ (y : Val ℕ). copyItems tt cs y ++ item 0 (pout tt (wrapperOf b .outlet (vw .c .side)) (plain iparent) y) ∷ (ritems forget X ++ ritems forget Y)) ev))
+        (bag-trans (bag-app (bag-eq (sym (copied-items (wrapperOf b) (vw .c .side) (vw .c .table) (vw .C) (vw .D) (vw .core) cs (m .val) (copies-log (b .wrapper)))))
+        (bag-trans (bag-sym (bag-mid (ritems forget X) (plainM (wrapperOf b) (vw .c .side) turned) (ritems forget Y))) (bag-eq (put turned))))
+        (add-msgs (wrapperOf b) (vw .c .side) (vw .c .table) (vw .C) (vw .D) (vw .core) (set (vw .core .lobby) j turned) (copied cs (m .val)) (vw .core .contents .particles))))))
+      where
+        cs : List ℕ
+        cs = wrapperOf b .copies
+
+        turned : Message
+        turned = record { status = leaving; chan = 1; val = m .val }
 
     -- a message
     by-message : (vw : View b s) (an : Answers b s vw) (j : ℕ) (m : Message) → getElem? (vw .core .lobby) j ≡ some m → item 0 (pout t x (comp (plain g)) v) ≡ msgItem ids (wrapperOf b) (vw .c .side) j m
@@ -366,7 +387,7 @@ module _ (b : Composition) (s : State) (e : ready b s ≡ true) (R : Proc Mark [
         go st et ex eg ev (takes-of k r rg q) =
             let own : ownName (vw .c .side) ≡ ownName (r .source) = child-eq (sym eg ∙ tag ∙ ap tagIn q) in
             let sh : shelves (vw .c .wrapper) (vw .c .side) ≡ true = ap₂ (λ (w : Wrapper) (y : ℕ). shelves w y) (an .wrapper-is) (omega arith) ∙ source-shelves (wrapperOf b) k r rg in
-            absurd (no-mid (shelves (vw .c .wrapper) (vw .c .side)) (counts s) m (get-every (wfMessage (shelves (vw .c .wrapper) (vw .c .side)) (counts s)) (vw .core .lobby) j m (vw .ok .lobby) get) st (sym ex ∙ chan ∙ ap chanIn q) sh)
+            absurd (no-mid (shelves (vw .c .wrapper) (vw .c .side)) (vw .c .wrapper .copies) (counts s) m (get-every (wfIn (vw .c) (counts s)) (vw .core .lobby) j m (vw .ok .lobby) get) st (sym ex ∙ chan ∙ ap chanIn q) sh)
 
     -- an item of a shelf, and a route from there
     module _ (k : ℕ) (r : Route) (rg : getElem? (wrapperOf b .routes) k ≡ some r) (q : P ≡ taking-item ids r .what) where
@@ -393,7 +414,7 @@ module _ (b : Composition) (s : State) (e : ready b s ≡ true) (R : Proc Mark [
           let who : joint t u ≡ joint (shelf m (a .j)) (taker m σ) = ap₂ joint (ap markIn (what-eq (a .is)) ∙ ap (shelf m) at0) (mark ∙ ap markIn q) in
           subst (λ (y : Participants Mark). Completed b s tau y R) (sym who)
           (takes-on k r rg (a .j) (a .v) (a .get) (subst (λ (z : ℕ). isGone s m z ≡ false) at0 (a .free)) (inv-at who vv) (X' ++ item 0 Q ∷ Y') n
-          (bag-trans (sent-on v P Q got X Y X' Y' is (taker m σ) 2 (ichild (ownName m)) 2 (ichild (ownName σ)) q)
+          (bag-trans (sent-on [] v P Q got X Y X' Y' is (taker m σ) 2 (ichild (ownName m)) 2 (ichild (ownName σ)) q)
           (bag-trans (bag-eq (ap₂ (λ (y : Val ℕ) (z : List (Item (Unit {0}))). item 0 (pout tt 2 (plain (ichild (ownName σ))) y) ∷ z) (ap valIn (what-eq (a .is)))
           (sym (ritems-app forget X Y)
           ∙ ap (ritems forget) (ap₂ (λ (y z : List (Item Mark)). y ++ z) ex ey

@@ -6,6 +6,7 @@ use mathlib.Core.Logic.{inl}
 use mathlib.Core.Option.{some}
 use Prim.Native.Nat.{ℕ, suc}
 use native.Mathlib.Omega.{arith}
+use lib.Dec.{eqb}
 use lib.ListN.{getElem?, set}
 use Rattle.calculus.specs.Syntax.{Val, Tag, plain, receivedChild, Proc, AllT, tren, vren, ren, remark}
 use Rattle.calculus.specs.Syntax.{nil as pnil, out as pout, parent as iparent, child as ichild}
@@ -16,15 +17,15 @@ use Rattle.calculus.specs.Tree.{Place, fill, upd}
 use Rattle.calculus.specs.Parallel.{parallel}
 use Rattle.calculus.specs.Tree.{Item, select}
 use Rattle.calculus.specs.Tree.{process}
-use Rattle.model.specs.Basics.{done, need, choose, remove}
+use Rattle.model.specs.Basics.{_or_, done, need, choose, has, remove}
 use Rattle.model.specs.Values.{items, isValue, shaped}
-use Rattle.model.specs.Wrapper.{Wrapper, hasSide, shelves}
+use Rattle.model.specs.Wrapper.{Wrapper, hasSide}
 use Rattle.model.specs.Side.{State, side, Message, Core, down, arrived, leaving, Status as SPlace}
 use Rattle.model.specs.Load.{Composition, wrapperOf, Setting}
 use Rattle.model.specs.WellFormed.{counts, shelfOf, wfMessage, wfValue, ready}
-use Rattle.model.specs.Step.{Step, leaves, labelled, Result, local, inner, leave, isLeaving, step, known, markAll}
-use Rattle.model.specs.Process.{Mark, lobby, ownName, isGone, valOf, confAs, confOf, newOf, knownOf, msgProc, msgItem, shelfItem, shelfItems}
-use Rattle.model.specs.Agreement.{renamed, plainly, At, asks-out, Says, says-out, Met, answerSide, enter, goDown, goUp, descend, meet, pass, take, leave as leaveAt}
+use Rattle.model.specs.Step.{Step, leavingOn, labelled, Result, local, inner, leave, isLeaving, step, known, markAll}
+use Rattle.model.specs.Process.{Mark, lobby, ownName, leavesAs, isGone, valOf, confAs, confOf, newOf, knownOf, msgProc, msgItem, shelfItem, shelfItems}
+use Rattle.model.specs.Agreement.{renamed, plainly, At, asks-out, Says, Met, answerSide, enter, goDown, goUp, descend, meet, pass, take, leave as leaveAt}
 use Rattle.calculus.proofs.Renaming.{AllT-map, AllT-ren}
 use Rattle.calculus.proofs.FreeNames.{step-tag}
 use Rattle.calculus.proofs.Extrusion.{in-news}
@@ -34,9 +35,10 @@ use Rattle.calculus.proofs.Restriction.{RestrictInv, minus}
 use Rattle.calculus.proofs.TreeMoves.{Move, sends}
 use Rattle.calculus.proofs.Bags.{item, at, Bag, bag-eq, bag-trans, ritems, ritems-app}
 use Rattle.model.proofs.Basics.Tests.{fst, snd, every-remove, length-remove, get-every, not-empty, head-eq, tail-eq}
+use Rattle.model.proofs.Formed.Growing.{wfIn}
 use Rattle.model.proofs.Formed.Keeping.{shaped-words}
 use Rattle.model.proofs.Basics.Items.{shaped-items}
-use Rattle.model.proofs.Formed.Invariant.{settled-is, core-short, core-limits}
+use Rattle.model.proofs.Formed.Invariant.{settled-is, core-short, core-limits, copies-log}
 use Rattle.model.proofs.Processes.KnownNames.{All}
 use Rattle.model.proofs.Basics.Splits.{get-pick}
 use Rattle.model.proofs.Processes.StateTree.{few}
@@ -44,7 +46,8 @@ use Rattle.model.proofs.Sound.ItemMoves.{ids, forget, target, gone-bag}
 use Rattle.model.proofs.Sound.StateMoves.{same-bags, wf-all}
 use Rattle.model.proofs.Sound.NamesLeaving.{new-left}
 use Rattle.model.proofs.Sound.SideViews.{View}
-use Rattle.model.proofs.Sound.SideSteps.{outwards-low}
+use Rattle.model.proofs.Sound.Labels.{left-says}
+use Rattle.model.proofs.Sound.SideSteps.{left-marks, left-here, left-low}
 use Rattle.model.proofs.Complete.StateInversion.{transitions, target-of, rename-of, item-at, ItemAt, atoms-at, items-atoms, fn-sel}
 use Rattle.model.proofs.Sound.AskedValues.{value-written, not-strange}
 use Rattle.model.proofs.Complete.Completing.{Completed, Inv, inv-at, Answers, own-unknown, what-eq, tagIn, chanIn, valIn, markIn}
@@ -70,10 +73,10 @@ leaving-step σ j = record { kind = 7; side = σ; i = j; j = 0; words = [] }
 
 -- what the bench does there
 leaves-there : (c : Setting) (kn : ℕ → Bool) (sh : ℕ → List (List ℕ)) (s : Core) (j : ℕ) (m : Message) → getElem? (s .lobby) j ≡ some m → m .status ≡ leaving
-    → local c kn sh s (leaving-step (c .side) j) ≡ done (record { label = leaves; val = m .val; core = record { contents = s .contents; lobby = remove (s .lobby) j; shelf = s .shelf; taken = s .taken } })
+    → local c kn sh s (leaving-step (c .side) j) ≡ done (record { label = leavingOn (m .chan); val = m .val; core = record { contents = s .contents; lobby = remove (s .lobby) j; shelf = s .shelf; taken = s .taken } })
 unfolding local inner choose need leave
 leaves-there c kn sh s j m g p = get-pick (s .lobby) j _ m g
-    ∙ ap (λ (x : SPlace). need (isLeaving x) 13 (done (record { label = leaves; val = m .val; core = record { contents = s .contents; lobby = remove (s .lobby) j; shelf = s .shelf; taken = s .taken } }))) p
+    ∙ ap (λ (x : SPlace). need (isLeaving x) 13 (done (record { label = leavingOn (m .chan); val = m .val; core = record { contents = s .contents; lobby = remove (s .lobby) j; shelf = s .shelf; taken = s .taken } }))) p
 
 module _ (b : Composition) (s : State) (e : ready b s ≡ true) where
   -- a leaving message of a side
@@ -85,9 +88,9 @@ module _ (b : Composition) (s : State) (e : ready b s ≡ true) where
     s' : State
     s' = vw .next k0 (markAll (vw .left) (m .val))
 
-    there : step b s (leaving-step (vw .c .side) j) ≡ record { answer = labelled leaves (vw .c .side) (m .val); after = s' }
+    there : step b s (leaving-step (vw .c .side) j) ≡ record { answer = labelled (leavingOn (m .chan)) (vw .c .side) (m .val); after = s' }
     unfolding s' k0
-    there = answers .is-done (leaving-step (vw .c .side) j) (record { label = leaves; val = m .val; core = k0 }) refl
+    there = answers .is-done (leaving-step (vw .c .side) j) (record { label = leavingOn (m .chan); val = m .val; core = k0 }) refl
         (settled-is _ _ (record {
           is = leaves-there (vw .c) (known s) (shelfOf s) (vw .core) j m g pl;
           short-outputs = core-short (vw .c) (counts s) (vw .core) (vw .ok);
@@ -99,11 +102,21 @@ module _ (b : Composition) (s : State) (e : ready b s ≡ true) where
             shelf = vw .ok .shelf;
             whose = vw .ok .whose;
           });
-        }))
+        })) ∙ ap (λ (q : List Bool). record { answer = labelled (leavingOn (m .chan)) (vw .c .side) (m .val); after = vw .next k0 q }) (left-marks (m .chan) (m .val) (vw .left))
+
+    m-ok : wfIn (vw .c) (counts s) m ≡ true
+    m-ok = get-every (wfIn (vw .c) (counts s)) (vw .core .lobby) j m (vw .ok .lobby) g
 
     v-ok : wfValue (counts s) (m .val) ≡ true
     unfolding wfMessage
-    v-ok = fst _ _ (get-every (wfMessage (shelves (vw .c .wrapper) (vw .c .side)) (counts s)) (vw .core .lobby) j m (vw .ok .lobby) g)
+    v-ok = fst _ _ m-ok
+
+    on-channel : eqb (m .chan) 1 or has (m .chan) (wrapperOf b .copies) ≡ true
+    on-channel = left-here vw m pl m-ok
+
+    -- the environment's name of the channel
+    abbrev ch : ℕ
+    ch = leavesAs (wrapperOf b) (vw .c .side) (m .chan)
 
     v-shaped : shaped (m .val) ≡ true
     unfolding wfValue isValue
@@ -114,22 +127,23 @@ module _ (b : Composition) (s : State) (e : ready b s ≡ true) where
     process-of t = refl
 
     pub left-met : {l : Label} {R : Proc Mark []} (v : RestrictInv (newOf b s) (knownOf s) (fill (confOf b s .boxes) (at (confOf b s .items))) R l (lone (lobby (vw .c .side) j)))
-        → lren l (v .perm .to) ≡ send (wrapperOf b .outlet (vw .c .side)) (plain iparent) (valOf (m .val)) → renamed l (v .perm .to) ≡ lren l (v .perm .to)
+        → lren l (v .perm .to) ≡ send ch (plain iparent) (valOf (m .val)) → renamed l (v .perm .to) ≡ lren l (v .perm .to)
         → (J : List (Item Mark)) → fill (confOf b s .boxes) (at J) ≋ v .next → Bag (ritems forget J) (target (wrapperOf b) (vw .c .side) (vw .c .table) (vw .C) (vw .D) (vw .core) (remove (vw .core .lobby) j) (vw .core .contents .particles))
         → Met b s l R (leaving-step (vw .c .side) j)
     unfolding s' k0
     left-met {l} {R} v el er J n bag = record {
       names = rename-of v;
-      label = subst₂ (λ (r : Result) (y : Label). Says (wrapperOf b) (r .answer) y) (sym there) (sym (er ∙ el)) (says-out (value-written (counts s) (m .val) v-ok) (not-strange (counts s) (m .val) v-ok));
+      label = subst₂ (λ (r : Result) (y : Label). Says (wrapperOf b) (r .answer) y) (sym there) (sym (er ∙ el))
+          (left-says (wrapperOf b) (copies-log (b .wrapper)) (vw .c .side) (m .chan) on-channel (m .val) (valOf (m .val)) (value-written (counts s) (m .val) v-ok) (not-strange (counts s) (m .val) v-ok));
       side = ap (λ (r : Result). answerSide (r .answer)) there;
       target = subst (λ (t : State). plainly (ren {r = []} R (v .perm .to)) ≋ plainly (process (confOf b t))) (sym (ap (λ (r : Result). r .after) there)) leads;
     }
       where
         N' : List ℕ
-        N' = minus (newOf b s) (wrapperOf b .outlet (vw .c .side) ∷ names (valOf (m .val)))
+        N' = minus (newOf b s) (ch ∷ names (valOf (m .val)))
 
         new-is : newOf b (vw .next k0 (markAll (vw .left) (m .val))) ≡ N'
-        new-is = new-left b s (vw .next k0 (markAll (vw .left) (m .val))) (wrapperOf b .outlet (vw .c .side)) (m .val) (few b s e) (outwards-low b s e vw) (shaped-items (m .val) v-shaped)
+        new-is = new-left b s (vw .next k0 (markAll (vw .left) (m .val))) ch (m .val) (few b s e) (left-low b s e vw (m .chan) on-channel) (shaped-items (m .val) v-shaped)
             (shaped-words (m .val) v-shaped) (vw .minted-next k0 (markAll (vw .left) (m .val)) refl) (vw .known-next k0 (m .val))
 
         leads : plainly (ren {r = []} R (v .perm .to)) ≋ plainly (process (confOf b (vw .next k0 (markAll (vw .left) (m .val)))))
@@ -141,10 +155,10 @@ module _ (b : Composition) (s : State) (e : ready b s ≡ true) where
 
   -- an output of a side's lobby that the environment may take is a leaving one
   lobby-leaves : (w : Wrapper) (side i j : ℕ) (m : Message) (t : Mark) (x : ℕ) (o : Tag ℕ) (v : Val ℕ) → hasSide (wrapperOf b) side ≡ true → AllT o (In (knownOf s)) → pout t x o v ≡ msgProc ids w side j (m .status) (m .chan) (m .val)
-      → (m .status ≡ leaving) × (t ≡ lobby side j) × (x ≡ w .outlet side) × (o ≡ plain iparent) × (v ≡ valOf (m .val))
+      → (m .status ≡ leaving) × (t ≡ lobby side j) × (x ≡ leavesAs w side (m .chan)) × (o ≡ plain iparent) × (v ≡ valOf (m .val))
   lobby-leaves w side i j m t x o v wh h q = go (m .status) q
     where
-      go : (p : SPlace) → pout t x o v ≡ msgProc ids w side j p (m .chan) (m .val) → (p ≡ leaving) × (t ≡ lobby side j) × (x ≡ w .outlet side) × (o ≡ plain iparent) × (v ≡ valOf (m .val))
+      go : (p : SPlace) → pout t x o v ≡ msgProc ids w side j p (m .chan) (m .val) → (p ≡ leaving) × (t ≡ lobby side j) × (x ≡ leavesAs w side (m .chan)) × (o ≡ plain iparent) × (v ≡ valOf (m .val))
       go down q =
           let eo : o ≡ plain (ichild (ownName side)) = ap tagIn q in
           absurd (own-unknown b s side wh (subst (λ (z : Tag ℕ). AllT z (In (knownOf s))) eo h))
@@ -184,7 +198,7 @@ module _ (b : Composition) (s : State) (e : ready b s ≡ true) where
         let r = lobby-leaves (wrapperOf b) (vw .c .side) i j m t x' o' v' (vw .is-side) tg (what-eq is) in
         on (r .0) (r .1) (el ∙ (λ z. send (r .2 z) (r .3 z) (r .4 z)))
       where
-        on : m .status ≡ leaving → t ≡ lobby (vw .c .side) j → lren l (vv .perm .to) ≡ send (wrapperOf b .outlet (vw .c .side)) (plain iparent) (valOf (m .val)) → Completed b s l (lone t) R
+        on : m .status ≡ leaving → t ≡ lobby (vw .c .side) j → lren l (vv .perm .to) ≡ send (leavesAs (wrapperOf b) (vw .c .side) (m .chan)) (plain iparent) (valOf (m .val)) → Completed b s l (lone t) R
         on pl et el' = (
           (leaving-step (vw .c .side) j, subst (λ (z : Mark). At (wrapperOf b) (leaving-step (vw .c .side) j) (lone z)) (sym et) leaveAt, asks-out refl),
           λ k atk ask. inl (subst (λ (z : Step). Met b s l R z) (sym (lobby-step atk (vw .c .side) j (ap lone et)))

@@ -8,14 +8,14 @@ use Prim.Native.Nat.{ℕ, _≤_}
 use native.Mathlib.Omega.{arith}
 use borrow.Author.Tests.{leb-false, le-leb}
 use lib.Dec.{leb}
-use lib.ListN.{length, length-append}
-use Rattle.calculus.specs.Syntax.{Val, Vars, Tag, ITag, plain, receivedParent, Proc, nm, match, sub}
+use lib.ListN.{length}
+use Rattle.calculus.specs.Syntax.{Val, Vars, Tag, ITag, plain, receivedParent, Proc, nm, match}
 use Rattle.calculus.specs.Syntax.{par as ppar, box as pbox, new as pnew, nil as pnil, out as pout, inp as pinp, parent as iparent, child as ichild, within as iwithin}
 use Rattle.calculus.specs.Transitions.{Label, Participants, In}
 use Rattle.calculus.specs.Transitions.{Step as Trans}
 use Rattle.calculus.specs.Tree.{fill}
 use Rattle.calculus.specs.Tree.{Item}
-use Rattle.calculus.specs.Wrappers.{forward}
+use Rattle.calculus.specs.Wrappers.{forwardWith}
 use Rattle.model.specs.Basics.{_&_, Res, refuse, done, need, bind, every}
 use Rattle.model.specs.Wrapper.{hasSide}
 use Rattle.model.specs.Side.{State, Message, Core, limits, side, putSide}
@@ -25,6 +25,7 @@ use Rattle.model.specs.Step.{short, Step, Moved, labelled, refusal, Resu
 use Rattle.model.specs.Process.{Mark, inert, ownName, confOf, newOf, knownOf}
 use Rattle.model.specs.Agreement.{At, Asks, Met, Excused}
 use Rattle.calculus.proofs.Inversion.{after}
+use Rattle.calculus.proofs.Forwarders.{sends, body-inst}
 use Rattle.calculus.proofs.Equivariance.{lren}
 use Rattle.calculus.proofs.Restriction.{RestrictInv}
 use Rattle.calculus.proofs.Restriction.{known as allOf}
@@ -118,19 +119,13 @@ received (pnew P) u = none
 received (pout t x o v) u = none
 received (pinp m t x i p P) u = on-some (λ (σ : Vars p → Val ℕ). after m t x i p P σ) (match p u)
 
--- what a forwarder is after a value has come to it: it stays, and sends the value on
-pub forwarded : (P : Proc Mark []) (t : Mark) (x : ℕ) (i : ITag ℕ) (z : ℕ) (o : ITag ℕ) → P ≡ forward [] t inert x i z o → (v : Val ℕ) (Q : Proc Mark []) → received P v ≡ some Q →
-    Q ≡ ppar (forward [] t inert x i z o) (pout inert z (plain o) v)
-unfolding sub
-forwarded P t x i z o e v Q r = some-inj (sym r ∙ ap (λ (A : Proc Mark []). received A v) e ∙ go o)
+-- what a forwarder is after a value has come to it: it stays, and sends copies and the value on
+pub forwarded : (cs : List ℕ) (P : Proc Mark []) (t : Mark) (x : ℕ) (i : ITag ℕ) (z : ℕ) (o : ITag ℕ) → P ≡ forwardWith [] t inert cs x i z o → (v : Val ℕ) (Q : Proc Mark []) → received P v ≡ some Q →
+    Q ≡ ppar (forwardWith [] t inert cs x i z o) (sends inert cs v (pout inert z (plain o) v))
+forwarded cs P t x i z o e v Q r = some-inj (sym r ∙ ap (λ (A : Proc Mark []). received A v) e ∙ ap (λ (A : Proc Mark []). some (ppar (forwardWith [] t inert cs x i z o) A)) (body-inst inert cs z o v))
   where
     some-inj : {A : Type 0} {a c : A} → some a ≡ some c → a ≡ c
     some-inj q = cc
-
-    go : (o : ITag ℕ) → received (forward [] t inert x i z o) v ≡ some (ppar (forward [] t inert x i z o) (pout inert z (plain o) v))
-    go iwithin = refl
-    go iparent = refl
-    go (ichild n) = refl
 
 -- a side's steps by their results
 pub record Answers (b : Composition) (s : State) (vw : View b s) : Type 0 where
@@ -157,7 +152,7 @@ module _ (b : Composition) (s : State) (e : ready b s ≡ true) (n : ℕ) (h : h
     wrapper-is = refl;
   }
 
--- a step that adds a message to the lobby: it is settled, or the lobby was full
+-- a step that leaves another lobby: it is settled, or the lobby is over its limit
 refused-17 : (m : Moved) → every short (m .core .contents .particles) ≡ true → limits (m .core) ≡ false → settled (done m) ≡ refuse 17
 unfolding settled bind need
 refused-17 m p q = rw (p, q)
@@ -170,13 +165,13 @@ few-by c k s o l tk t q = ap₂ (λ (x y : Bool). x & (y & leb (length (s .shelf
     last true = refl
     last false = refl
 
-pub added : (c : Setting) (k : Counts) (s : Core) → CoreOk c k s → (n : Message) (tk : List Bool) (m : Moved) → m .core ≡ record { contents = s .contents; lobby = s .lobby ++ n ∷ []; shelf = s .shelf; taken = tk }
-    → (settled (done m) ≡ done m) ⊎ ((settled (done m) ≡ refuse 17) × (16 ≤ length (s .lobby)))
-added c k s o n tk m em = go (leb (length (s .lobby ++ n ∷ [])) 16) refl
+pub lobby-put : (c : Setting) (k : Counts) (s : Core) → CoreOk c k s → (l : List Message) (tk : List Bool) (m : Moved) → m .core ≡ record { contents = s .contents; lobby = l; shelf = s .shelf; taken = tk }
+    → (settled (done m) ≡ done m) ⊎ ((settled (done m) ≡ refuse 17) × (17 ≤ length l))
+lobby-put c k s o l tk m em = go (leb (length l) 16) refl
   where
     short-all : every short (m .core .contents .particles) ≡ true
     short-all = ap (λ (u : Core). every short (u .contents .particles)) em ∙ core-short c k s o
 
-    go : (t : Bool) → leb (length (s .lobby ++ n ∷ [])) 16 ≡ t → (settled (done m) ≡ done m) ⊎ ((settled (done m) ≡ refuse 17) × (16 ≤ length (s .lobby)))
-    go true q = inl (settled-is (done m) m (record { is = refl; short-outputs = short-all; few = ap limits em ∙ few-by c k s o (s .lobby ++ n ∷ []) tk true q }))
-    go false q = inr (refused-17 m short-all (ap limits em ∙ few-by c k s o (s .lobby ++ n ∷ []) tk false q), (let z = leb-false (length (s .lobby ++ n ∷ [])) 16 q in omega (arith, length-append (s .lobby) (n ∷ []))))
+    go : (t : Bool) → leb (length l) 16 ≡ t → (settled (done m) ≡ done m) ⊎ ((settled (done m) ≡ refuse 17) × (17 ≤ length l))
+    go true q = inl (settled-is (done m) m (record { is = refl; short-outputs = short-all; few = ap limits em ∙ few-by c k s o l tk true q }))
+    go false q = inr (refused-17 m short-all (ap limits em ∙ few-by c k s o l tk false q), (let z = leb-false (length l) 16 q in omega arith))

@@ -61,9 +61,9 @@ module _ (k k′ : Counts) (h : Le k k′) where
       both _ _ (⊎-elim (λ p. alt-left _ _ p) (λ p. alt-right _ _ (both _ _ (fst _ _ p) (held-mono (x .name) (snd _ _ p)))) (alt _ _ (fst _ _ e)))
       (wfBoxes-mono xs (i + 1) (snd _ _ e))
 
-  pub wfMsg-mono : (b : Bool) (m : Message) → wfMessage b k m ≡ true → wfMessage b k′ m ≡ true
+  pub wfMsg-mono : (b : Bool) (cs : List ℕ) (m : Message) → wfMessage b cs k m ≡ true → wfMessage b cs k′ m ≡ true
   unfolding wfMessage
-  wfMsg-mono b m e = both _ _ (wfVal-mono (m .val) (fst _ _ e)) (both _ _ (held-mono (m .chan) (fst _ _ (snd _ _ e))) (snd _ _ (snd _ _ e)))
+  wfMsg-mono b cs m e = both _ _ (wfVal-mono (m .val) (fst _ _ e)) (both _ _ (held-mono (m .chan) (fst _ _ (snd _ _ e))) (snd _ _ (snd _ _ e)))
 
   pub wfLeft-mono : (l : List Bool) (i : ℕ) → wfLeft k i l ≡ true → wfLeft k′ i l ≡ true
   unfolding wfLeft
@@ -78,10 +78,14 @@ pub record ContentsOk (t : Table) (k : Counts) (s : Contents) : Type 0 where
   pub boxes : wfBoxes k 0 (s .boxes) ≡ true
   pub particles : every (wfParticle t k (length (s .boxes))) (s .particles) ≡ true
 
+-- a lobby message of a side
+abbrev pub wfIn : Setting → Counts → Message → Bool
+wfIn c k = wfMessage (shelves (c .wrapper) (c .side)) (c .wrapper .copies) k
+
 pub record CoreOk (c : Setting) (k : Counts) (s : Core) : Type 0 where
   pub contents : ContentsOk (c .table) k (s .contents)
   pub few-lobby : length (s .lobby) ≤ 16
-  pub lobby : every (wfMessage (shelves (c .wrapper) (c .side)) k) (s .lobby) ≡ true
+  pub lobby : every (wfIn c k) (s .lobby) ≡ true
   pub few-shelf : length (s .shelf) ≤ 32
   pub shelf : every (wfValue k) (s .shelf) ≡ true
   pub whose : eqb (length (s .shelf)) 0 or shelves (c .wrapper) (c .side) ≡ true
@@ -113,7 +117,7 @@ core-mono c k k′ h s o = record {
     particles = every-mono _ _ (wfPart-mono k k′ h (c .table) (length (s .contents .boxes)) (length (s .contents .boxes)) (omega arith)) (s .contents .particles) (o .contents .particles);
   };
   few-lobby = o .few-lobby;
-  lobby = every-mono _ _ (wfMsg-mono k k′ h (shelves (c .wrapper) (c .side))) (s .lobby) (o .lobby);
+  lobby = every-mono _ _ (wfMsg-mono k k′ h (shelves (c .wrapper) (c .side)) (c .wrapper .copies)) (s .lobby) (o .lobby);
   few-shelf = o .few-shelf;
   shelf = every-mono _ _ (wfVal-mono k k′ h) (s .shelf) (o .shelf);
   whose = o .whose;

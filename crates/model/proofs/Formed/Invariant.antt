@@ -14,14 +14,14 @@ use Rattle.model.specs.Values.{isMinted, isValue, sideOf, serial}
 use Rattle.model.specs.Table.{Table}
 use Rattle.model.specs.Checks.{fault, Fault}
 use Rattle.model.specs.Side.{withinLimits, limits, Core, Side, State, Particle, output, input, noSide, side, putSide, takenAt, hasTaken}
-use Rattle.model.specs.Wrapper.{Route, allSides, isWrapper, described, hasSide, takesAny}
+use Rattle.model.specs.Wrapper.{Route, allSides, filter, pipeline, logging, noWrapper, isWrapper, described, hasSide, takesAny}
 use Rattle.model.specs.Load.{Setting, Composition, setting, wrapperOf, table, load, isOk, ok, loadSides, sideFault, lackFault, start, startOf}
 use Rattle.model.specs.WellFormed.{Counts, countOf, held, heldWord, wfValue, wfParticle, wfLeft, wfSide, wfSideOf, isNoSide, wfTaken, wfState, clear, counts, shelfOf, ready}
-use Rattle.model.specs.Step.{short, Step, Label, silent, enters, leaves, Moved, local, routeTo, takes, inner, marks, marked, markAll, mark1, markOf, known, step, settled, sideAfter}
-use Rattle.model.proofs.Basics.Tests.{or-cases, or-right, fst, snd, both, alt, alt-right, every-mono, need-done, choose-done, bind-done, pick-done, cond-true}
-use Rattle.model.proofs.Basics.Sides.{put-same, put-self, put-size, put-each}
+use Rattle.model.specs.Step.{short, Step, Label, silent, enters, leaves, logs, Moved, local, routeTo, takes, inner, marks, marked, markAll, mark1, markOf, known, step, settled, sideAfter}
+use Rattle.model.proofs.Basics.Tests.{or-cases, or-right, fst, snd, both, alt, alt-right, every-mono, has-every, every-has, need-done, choose-done, bind-done, pick-done, cond-true}
+use Rattle.model.proofs.Basics.Sides.{described-by, put-same, put-self, put-size, put-each}
 use Rattle.model.proofs.Formed.Growing.{less, Le, CoreOk, core-ok, core-wf, core-mono, wfLeft-mono}
-use Rattle.model.proofs.Formed.Keeping.{Spoken, spoken-held, Kept, done-inj, enter-keeps, down-keeps, up-keeps, descend-keeps, pass-keeps, leave-keeps, takes-keeps}
+use Rattle.model.proofs.Formed.Keeping.{isLog, Spoken, spoken-held, Kept, done-inj, enter-keeps, down-keeps, up-keeps, descend-keeps, pass-keeps, leave-keeps, takes-keeps}
 use Rattle.model.proofs.Basics.Items.{clash}
 use Rattle.model.proofs.Basics.Checked.{Checked, checked}
 use Rattle.model.proofs.Formed.MeetingKeeps.{mine, Kept′, meet-keeps}
@@ -80,15 +80,15 @@ module _ (c : Setting) (k : Counts) (s : Core) (o : CoreOk c k s) (ch : Checked 
   same-count : (m : Moved) → Kept c k s m → Kept′ c k s m
   same-count m h = record { more = omega (arith, h .minted); ok = λ k′ le mi. core-mono c k k′ le (m .core) (h .ok); shelf = h .shelf; taken = h .taken; said = h .said }
 
-  inner-keeps : (x : Step) (m : Moved) → inner c s x ≡ done m → every short (m .core .contents .particles) ≡ true → limits (m .core) ≡ true → Kept′ c k s m
+  inner-keeps : every isLog (c .wrapper .copies) ≡ true → (x : Step) (m : Moved) → inner c s x ≡ done m → every short (m .core .contents .particles) ≡ true → limits (m .core) ≡ true → Kept′ c k s m
   unfolding inner
-  inner-keeps x m e sh lim =
+  inner-keeps cl x m e sh lim =
       let a = need-done _ _ _ _ e in
       ⊎-elim (λ p. same-count m (descend-keeps c k s o (x .i) (x .j) m (p .1))) (λ p.
       ⊎-elim (λ p. meet-keeps c k s o ch which (x .i) (x .j) m (p .1) sh lim) (λ p. let b = need-done _ _ _ _ (p .1) in
       ⊎-elim (λ p. same-count m (down-keeps c k s o (x .i) m (p .1) lim)) (λ p.
       ⊎-elim (λ p. same-count m (up-keeps c k s o (x .i) m (p .1) lim)) (λ p.
-      ⊎-elim (λ p. same-count m (pass-keeps c k s o (x .i) m (p .1))) (λ p.
+      ⊎-elim (λ p. same-count m (pass-keeps c k s o cl (x .i) m (p .1) lim)) (λ p.
       ⊎-elim (λ p. same-count m (leave-keeps c k s o (x .i) m (p .1))) (λ p. absurd (clash (p .1)))
       (choose-done _ _ _ _ (p .1))) (choose-done _ _ _ _ (p .1))) (choose-done _ _ _ _ (p .1))) (choose-done _ _ _ _ (b .1))) (choose-done _ _ _ _ (p .1))) (choose-done _ _ _ _ (a .1))
 
@@ -97,15 +97,15 @@ module _ (c : Setting) (k : Counts) (s : Core) (o : CoreOk c k s) (ch : Checked 
     pub more : s .contents .minted ≤ m .core .contents .minted
     pub ok : (k′ : Counts) → Le k k′ → mine c k′ ≡ m .core .contents .minted → CoreOk c k′ (m .core)
     pub shelf : length (s .shelf) ≤ length (m .core .shelf)
-    pub said : Spoken k (m .label) (m .val)
+    pub said : Spoken (c .wrapper .copies) k (m .label) (m .val)
     pub taken : (m .core .taken ≡ s .taken) ⊎ ((r : Route) × (i : ℕ) × (routeTo (c .wrapper .routes) (c .side) (r .j) ≡ done r) × (i < length (sh (r .source))) × (m .core .taken ≡ set (s .taken) (takenAt (r .source) i) true))
 
-  pub local-keeps : (kn : ℕ → Bool) → ((w : ℕ) → kn w ≡ true → isMinted w ≡ true → held k w ≡ true) → (sh : ℕ → List (List ℕ)) → ((n : ℕ) → every (wfValue k) (sh n) ≡ true) →
+  pub local-keeps : every isLog (c .wrapper .copies) ≡ true → (kn : ℕ → Bool) → ((w : ℕ) → kn w ≡ true → isMinted w ≡ true → held k w ≡ true) → (sh : ℕ → List (List ℕ)) → ((n : ℕ) → every (wfValue k) (sh n) ≡ true) →
       (x : Step) (m : Moved) → local c kn sh s x ≡ done m → every short (m .core .contents .particles) ≡ true → limits (m .core) ≡ true → LocalKept sh m
   unfolding local
-  local-keeps kn h sh hs x m e short-m lim =
-      ⊎-elim (λ p. let b = need-done _ _ _ _ (p .1) in plainly (same-count m (enter-keeps c k s o kn h (x .words) m (b .1) lim)))
-      (λ p. ⊎-elim (λ q. let b = need-done _ _ _ _ (q .1) in took (bind-done _ _ _ (b .1))) (λ q. plainly (inner-keeps x m (q .1) short-m lim)) (choose-done _ _ _ _ (p .1)))
+  local-keeps cl kn h sh hs x m e short-m lim =
+      ⊎-elim (λ p. let b = need-done _ _ _ _ (p .1) in plainly (same-count m (enter-keeps c k s o cl kn h (x .words) m (b .1) lim)))
+      (λ p. ⊎-elim (λ q. let b = need-done _ _ _ _ (q .1) in took (bind-done _ _ _ (b .1))) (λ q. plainly (inner-keeps cl x m (q .1) short-m lim)) (choose-done _ _ _ _ (p .1)))
       (choose-done _ _ _ _ e)
     where
       plainly : Kept′ c k s m → LocalKept sh m
@@ -181,6 +181,7 @@ marks-wf : (k : Counts) (t : Label) (ws : List ℕ) (l : List Bool) → every (h
 marks-wf k silent ws l h e = (e, refl)
 marks-wf k enters ws l h e = (e, refl)
 marks-wf k leaves ws l h e = markAll-wf k ws l h e
+marks-wf k logs ws l h e = markAll-wf k ws l h e
 
 -- THE TAKEN MARKS
 taken-more : (t : Bool) (sh sh′ : ℕ → List (List ℕ)) → ((n : ℕ) → length (sh n) ≤ length (sh′ n)) → (i : ℕ) (l : List Bool) → wfTaken t sh i l ≡ true → wfTaken t sh′ i l ≡ true
@@ -211,24 +212,27 @@ clear-none (x ∷ xs) (suc i) h e = clear-none xs i (snd _ _ h) e
 
 -- SIDES BY NUMBER
 pub which : (w n : ℕ) → hasSide (described w) n ≡ true → has n allSides ≡ true
-which w n h = go (eqb w 1) (eqb w 2) h
+which w n = described-by (λ d. hasSide d n ≡ true → has n allSides ≡ true) first (λ h. h) first (λ h. absurd (false≢true h)) w
   where
-    go : (t u : Bool) → has n (cond t (described 1) (cond u (described 2) (described 0)) .sides) ≡ true → has n allSides ≡ true
-    go true u h = ⊎-elim (λ q. rw q) (λ q. absurd (false≢true q)) (or-cases (eqb n 1) false h)
-    go false true h = h
-    go false false h = absurd (false≢true h)
+    first : has n (1 ∷ []) ≡ true → has n allSides ≡ true
+    first h = ⊎-elim (λ q. rw q) (λ q. absurd (false≢true q)) (or-cases (eqb n 1) false h)
+
+pub copies-log : (w : ℕ) → every isLog (described w .copies) ≡ true
+copies-log = described-by (λ d. every isLog (d .copies) ≡ true) refl refl (both _ _ refl refl) refl
+
+-- wrapper 3 alone has copies
+pub copies-where : (w x : ℕ) → has x (described w .copies) ≡ true → w ≡ 3
+copies-where w x h = go (eqb w 1) (eqb w 2) (eqb w 3) refl h
+  where
+    go : (t u v : Bool) → eqb w 3 ≡ v → has x (cond t filter (cond u pipeline (cond v logging noWrapper)) .copies) ≡ true → w ≡ 3
+    go true u v q h = absurd (false≢true h)
+    go false true v q h = absurd (false≢true h)
+    go false false true q h = eqb-true w 3 q
+    go false false false q h = absurd (false≢true h)
 
 pub positive : (n : ℕ) → has n allSides ≡ true → (1 ≤ n) × (n ≤ 2)
 positive n h = ⊎-elim (λ q. let z = eqb-true n 1 q in (omega arith, omega arith))
     (λ p. ⊎-elim (λ q. let z = eqb-true n 2 q in (omega arith, omega arith)) (λ q. absurd (false≢true q)) (or-cases (eqb n 2) false p)) (or-cases (eqb n 1) (has n (2 ∷ [])) h)
-
-pub has-every : (f : ℕ → Bool) (l : List ℕ) (n : ℕ) → every f l ≡ true → has n l ≡ true → f n ≡ true
-has-every f [] n e h = absurd (false≢true h)
-has-every f (m ∷ l) n e h = ⊎-elim (λ q. ap f (eqb-true n m q) ∙ fst _ _ e) (λ q. has-every f l n (snd _ _ e) q) (or-cases (eqb n m) (has n l) h)
-
-pub every-has : (f : ℕ → Bool) (l : List ℕ) → ((n : ℕ) → has n l ≡ true → f n ≡ true) → every f l ≡ true
-every-has f [] h = refl
-every-has f (n ∷ l) h = both _ _ (h n (rw (eq-eqb n n refl))) (every-has f l (λ m q. h m (or-right (eqb m n) (has m l) q)))
 
 pub one-get : {A : Type 0} (f : A → Bool) (l : List A) (d : A) → oneOf f l ≡ true → (i : ℕ) × (i < length l) × (f (getD l i d) ≡ true)
 one-get f [] d e = absurd (false≢true e)
@@ -354,7 +358,7 @@ unfolding wfSide
 side-after c k k′ sh sh′ le ls s o ch w m kp mi in-range h =
     let lf = fst _ _ (snd _ _ h) in
     let tk = snd _ _ (snd _ _ h) in
-    let r = marks-wf k (m .label) (m .val) (s .left) (spoken-held k (m .label) (m .val) (kp .said)) (snd _ _ lf) in
+    let r = marks-wf k (m .label) (m .val) (s .left) (spoken-held (c .wrapper .copies) k (m .label) (m .val) (kp .said)) (snd _ _ lf) in
     both _ _ (core-wf c k′ (m .core) (kp .ok k′ le mi))
     (both _ _ (both _ _ (rw (r .1) (fst _ _ lf)) (wfLeft-mono k k′ le (marks (m .label) (m .val) (s .left)) 0 (r .0)))
     (⊎-elim (λ q. rw q (both _ _ (fst _ _ tk) (taken-more _ sh sh′ ls 0 (s .core .taken) (snd _ _ tk))))
@@ -452,7 +456,7 @@ module _ (b : Composition) (s : State) (e : ready b s ≡ true) where
       LocalKept (setting b n) (counts s) (side s n .core) (side-ok b s e n h) (load-checked b (loaded b s e) n h .0) (which (b .wrapper) n h) (shelfOf s) m
   side-keeps n h x m p =
       let st = settled-done _ m p in
-      local-keeps (setting b n) (counts s) (side s n .core) (side-ok b s e n h) (load-checked b (loaded b s e) n h .0) (which (b .wrapper) n h) (known s) (known-held b s e) (shelfOf s)
+      local-keeps (setting b n) (counts s) (side s n .core) (side-ok b s e n h) (load-checked b (loaded b s e) n h .0) (which (b .wrapper) n h) (copies-log (b .wrapper)) (known s) (known-held b s e) (shelfOf s)
       (shelves-held b s e) x m (st .is) (st .short-outputs) (st .few)
 
   -- a state with a side put anew that has grown

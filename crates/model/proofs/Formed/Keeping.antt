@@ -1,6 +1,6 @@
 -- Each step but Meet keeps its side well formed.
 use mathlib.Core.Path.{_≡_, refl, sym, ap, _∙_, subst}
-use mathlib.Core.Bool.{Bool, true, false, not, false≢true}
+use mathlib.Core.Bool.{Bool, true, false, not, cond, false≢true}
 use mathlib.Core.List.{List, [], _∷_, _++_}
 use mathlib.Core.Logic.{⊎-elim}
 use Prim.Native.Nat.{ℕ, zero, suc, _+_, _<_, _≤_}
@@ -8,41 +8,64 @@ use native.Mathlib.Nat.{add-zero}
 use native.Mathlib.Omega.{arith}
 use borrow.Author.Tests.{leb-true, ltb-true, eqb-true, le-leb, lt-ltb}
 use lib.Dec.{ltb, eqb}
-use lib.ListN.{length, set, length-append, length-set}
-use Rattle.model.specs.Basics.{_&_, _or_, Res, refuse, done, every, remove, pick}
+use lib.ListN.{length, set, length-append, length-set, length-map}
+use Rattle.model.specs.Basics.{_&_, _or_, Res, refuse, done, every, has, remove, pick}
 use Rattle.model.specs.Values.{items, isTuple, isName, isMinted, isValue, shaped, arity}
-use Rattle.model.specs.Side.{toParent, fromParent, fromChild, Particle, output, input, Box, down, arrived, Message, Contents, Core, withinLimits, limits, takenAt}
+use Rattle.model.specs.Side.{toParent, fromParent, fromChild, Particle, output, input, Box, Status, down, arrived, leaving, Message, Contents, Core, withinLimits, limits, takenAt}
 use Rattle.model.specs.Wrapper.{shelves}
 use Rattle.model.specs.Load.{Setting}
 use Rattle.model.specs.WellFormed.{Counts, held, heldWord, wfValue, wfTag, wfParticle, wfBoxes, wfMessage}
-use Rattle.model.specs.Step.{Label, silent, enters, leaves, Moved, withContents, withLobby, withParticles, enter, goDown, upFrom, upParticle, up, descendParticle, descend, pass, leave, takes}
-use Rattle.model.proofs.Basics.Tests.{fst, snd, both, alt, alt-left, alt-right, every-two, every-append, every-one, every-remove, every-set, length-remove, need-done, choose-done, pick-done}
-use Rattle.model.proofs.Formed.Growing.{ContentsOk, CoreOk}
+use Rattle.model.specs.Step.{Label, silent, enters, leaves, logs, Moved, isLeaving, copied, leavingOn, withContents, withLobby, withParticles, enter, goDown, upFrom, upParticle, up, descendParticle, descend, pass, leave, takes}
+use Rattle.model.proofs.Basics.Tests.{fst, snd, both, alt, alt-left, alt-right, every-two, every-has, every-append, every-one, every-remove, every-set, length-remove, need-done, choose-done, pick-done}
+use Rattle.model.proofs.Formed.Growing.{ContentsOk, wfIn, CoreOk}
 
--- what a label may have for its value: none where it is silent, else a value whose names are held
-abbrev pub Spoken : Counts → Label → List ℕ → Type 0
-Spoken k silent v = v ≡ []
-Spoken k enters v = wfValue k v ≡ true
-Spoken k leaves v = wfValue k v ≡ true
+-- copies leave on `log` alone
+abbrev pub isLog : ℕ → Bool
+isLog x = eqb x 3
 
-pub spoken-held : (k : Counts) (l : Label) (v : List ℕ) → Spoken k l v → every (heldWord k) v ≡ true
+-- what a label may have for its value: none where it is silent, else a value whose names are held; and log is said only where copies leave
+abbrev pub Spoken : (copies : List ℕ) → Counts → Label → List ℕ → Type 0
+Spoken cs k silent v = v ≡ []
+Spoken cs k enters v = wfValue k v ≡ true
+Spoken cs k leaves v = wfValue k v ≡ true
+Spoken cs k logs v = (wfValue k v ≡ true) × ((x : ℕ) × (has x cs ≡ true))
+
+pub spoken-held : (cs : List ℕ) (k : Counts) (l : Label) (v : List ℕ) → Spoken cs k l v → every (heldWord k) v ≡ true
 unfolding wfValue
-spoken-held k silent v h = ap (every (heldWord k)) h
-spoken-held k enters v h = snd _ _ h
-spoken-held k leaves v h = snd _ _ h
+spoken-held cs k silent v h = ap (every (heldWord k)) h
+spoken-held cs k enters v h = snd _ _ h
+spoken-held cs k leaves v h = snd _ _ h
+spoken-held cs k logs v h = snd _ _ (h .0)
+
+-- a leaving message is on `out` or on a channel of copies
+pub left-on : (c : Setting) (k : Counts) (n : Message) → isLeaving (n .status) ≡ true → wfIn c k n ≡ true → eqb (n .chan) 1 or has (n .chan) (c .wrapper .copies) ≡ true
+unfolding wfMessage
+left-on c k n st h = go (n .status) st (snd _ _ (snd _ _ h))
+  where
+    go : (p : Status) → isLeaving p ≡ true → elim p as (λ p. Bool) [
+      | down ↦ eqb (n .chan) 0 or eqb (n .chan) 2
+      | arrived ↦ not (shelves (c .wrapper) (c .side) & eqb (n .chan) 2)
+      | leaving ↦ eqb (n .chan) 1 or has (n .chan) (c .wrapper .copies)
+    ] ≡ true → eqb (n .chan) 1 or has (n .chan) (c .wrapper .copies) ≡ true
+    go down p h = absurd (false≢true p)
+    go arrived p h = absurd (false≢true p)
+    go leaving p h = h
 
 pub record Kept (c : Setting) (k : Counts) (s : Core) (m : Moved) : Type 0 where
   pub ok : CoreOk c k (m .core)
   pub minted : m .core .contents .minted ≡ s .contents .minted
   pub shelf : length (s .shelf) ≤ length (m .core .shelf)
   pub taken : m .core .taken ≡ s .taken
-  pub said : Spoken k (m .label) (m .val)
+  pub said : Spoken (c .wrapper .copies) k (m .label) (m .val)
 
 pub done-inj : {A : Type 0} {x y : A} → done x ≡ done y → x ≡ y
 done-inj e = cc
 
 length-one : {A : Type 0} (l : List A) (x : A) → length (l ++ (x ∷ [])) ≡ length l + 1
 length-one l x = length-append l (x ∷ [])
+
+pub length-copied : (cs v : List ℕ) → length (copied cs v) ≡ length cs
+length-copied cs v = length-map cs _
 
 -- a whole value's words are leaves and tuple words
 pub items-words : (leaf : ℕ → Bool) (e : ℕ) (ws : List ℕ) (n : ℕ) (r : List ℕ) → items leaf e ws n ≡ done r → length r ≡ 0 → every (λ w. leaf w or isTuple w) ws ≡ true
@@ -96,24 +119,39 @@ roomy-of s l = fst _ _ l
 pub at-limits : {m n : Moved} → done n ≡ done m → limits (m .core) ≡ true → limits (n .core) ≡ true
 at-limits {m} {n} e l = subst (λ (y : Moved). limits (y .core) ≡ true) (sym (done-inj e)) l
 
+has-itself : (l : List ℕ) → every (λ x. has x l) l ≡ true
+has-itself l = every-has (λ x. has x l) l (λ x q. q)
+
 module _ (c : Setting) (k : Counts) (s : Core) (o : CoreOk c k s) where
-  -- a lobby message more
-  lobby-more : (m : Message) → wfMessage (shelves (c .wrapper) (c .side)) k m ≡ true → (t : List Bool) →
-      limits (record { contents = s .contents; lobby = s .lobby ++ (m ∷ []); shelf = s .shelf; taken = t }) ≡ true →
-      CoreOk c k (record { contents = s .contents; lobby = s .lobby ++ (m ∷ []); shelf = s .shelf; taken = t })
-  lobby-more m h t l = record {
+  -- lobby messages more
+  lobby-more : (ms : List Message) → every (wfIn c k) ms ≡ true → (t : List Bool) →
+      limits (record { contents = s .contents; lobby = s .lobby ++ ms; shelf = s .shelf; taken = t }) ≡ true →
+      CoreOk c k (record { contents = s .contents; lobby = s .lobby ++ ms; shelf = s .shelf; taken = t })
+  lobby-more ms h t l = record {
     contents = o .contents;
     few-lobby = few-lobby-of _ l;
-    lobby = every-append _ (s .lobby) (m ∷ []) (o .lobby) (every-one (wfMessage (shelves (c .wrapper) (c .side)) k) m h);
+    lobby = every-append (wfIn c k) (s .lobby) ms (o .lobby) h;
     few-shelf = o .few-shelf;
     shelf = o .shelf;
     whose = o .whose;
   }
 
-  pub enter-keeps : (known : ℕ → Bool) → ((w : ℕ) → known w ≡ true → isMinted w ≡ true → held k w ≡ true) →
-      (ws : List ℕ) (m : Moved) → enter known s ws ≡ done m → limits (m .core) ≡ true → Kept c k s m
+  -- the copies of a value are well formed, as `log` is public
+  copied-wf : every isLog (c .wrapper .copies) ≡ true → (v : List ℕ) → wfValue k v ≡ true → every (wfIn c k) (copied (c .wrapper .copies) v) ≡ true
+  unfolding wfMessage held
+  copied-wf cl v h = go (c .wrapper .copies) cl (has-itself (c .wrapper .copies))
+    where
+      one : (x : ℕ) → isLog x ≡ true → has x (c .wrapper .copies) ≡ true → wfIn c k (record { status = leaving; chan = x; val = v }) ≡ true
+      one x p q = both _ _ h (both _ _ (alt-left _ _ (le-leb x 63 (let z = eqb-true x 3 p in omega arith))) (alt-right _ _ q))
+
+      go : (ds : List ℕ) → every isLog ds ≡ true → every (λ x. has x (c .wrapper .copies)) ds ≡ true → every (wfIn c k) (copied ds v) ≡ true
+      go [] p q = refl
+      go (x ∷ ds) p q = both _ _ (one x (fst _ _ p) (fst _ _ q)) (go ds (snd _ _ p) (snd _ _ q))
+
+  pub enter-keeps : every isLog (c .wrapper .copies) ≡ true → (known : ℕ → Bool) → ((w : ℕ) → known w ≡ true → isMinted w ≡ true → held k w ≡ true) →
+      (ws : List ℕ) (m : Moved) → enter (c .wrapper .copies) known s ws ≡ done m → limits (m .core) ≡ true → Kept c k s m
   unfolding enter isValue wfMessage wfValue held heldWord
-  enter-keeps known kn ws m e lim =
+  enter-keeps cl known kn ws m e lim =
       let a = need-done _ _ _ _ e in
       let b = need-done _ _ _ _ (a .1) in
       let word : (w : ℕ) → isName w or isTuple w ≡ true → not (isMinted w) or known w ≡ true → heldWord k w ≡ true =
@@ -121,9 +159,10 @@ module _ (c : Setting) (k : Counts) (s : Core) (o : CoreOk c k s) where
       (λ n. alt-right _ _ (⊎-elim (λ pu. alt-left _ _ pu) (λ mi. ⊎-elim (λ z. absurd (false≢true (rw mi at z))) (λ y. kn w y mi) (alt _ _ q)) (alt _ _ n)))
       (λ t. alt-left _ _ (fst _ _ t)) (alt _ _ p) in
       let val : wfValue k ws ≡ true = both _ _ (a .0) (every-two _ _ _ word ws (shaped-words ws (snd _ _ (a .0))) (b .0)) in
+      let down-wf = every-one (wfIn c k) (record { status = down; chan = 0; val = ws }) (both _ _ val (both _ _ (alt-left _ _ refl) (alt-left _ _ refl))) in
       subst (λ (y : Moved). Kept c k s y) (done-inj (b .1))
       (record {
-        ok = lobby-more _ (both _ _ val (both _ _ (alt-left _ _ refl) (alt-left _ _ refl))) (s .taken) (at-limits (b .1) lim);
+        ok = lobby-more _ (every-append (wfIn c k) (copied (c .wrapper .copies) ws) _ (copied-wf cl ws val) down-wf) (s .taken) (at-limits (b .1) lim);
         minted = refl;
         shelf = omega arith;
         taken = refl;
@@ -155,18 +194,19 @@ module _ (c : Setting) (k : Counts) (s : Core) (o : CoreOk c k s) where
   part-set : (i : ℕ) (p : Particle) → wfParticle (c .table) k (length (s .contents .boxes)) p ≡ true → CoreOk c k (withContents s (withParticles (s .contents) (set (s .contents .particles) i p)))
   part-set i p h = with-contents _ (parts-new _ (rw length-set few-parts) (every-set _ (s .contents .particles) i p (o .contents .particles) h))
 
-  pub pass-keeps : (i : ℕ) (m : Moved) → pass s i ≡ done m → Kept c k s m
+  pub pass-keeps : every isLog (c .wrapper .copies) ≡ true → (i : ℕ) (m : Moved) → pass (c .wrapper .copies) s i ≡ done m → limits (m .core) ≡ true → Kept c k s m
   unfolding pass wfMessage held
-  pass-keeps i m e =
+  pass-keeps cl i m e lim =
       let (x, f, g, l) = pick-done _ _ _ _ e in
       let a = need-done _ _ _ _ f in
-      let ms = g (wfMessage (shelves (c .wrapper) (c .side)) k) (o .lobby) in
+      let ms = g (wfIn c k) (o .lobby) in
       subst (λ (y : Moved). Kept c k s y) (done-inj (a .1))
       (record {
         ok = record {
           contents = o .contents;
-          few-lobby = rw length-set (o .few-lobby);
-          lobby = every-set _ (s .lobby) i _ (o .lobby) (both _ _ (fst _ _ ms) (both _ _ (alt-left _ _ refl) refl));
+          few-lobby = few-lobby-of _ (at-limits (a .1) lim);
+          lobby = every-append (wfIn c k) (set (s .lobby) i _) _ (every-set (wfIn c k) (s .lobby) i (record { status = leaving; chan = 1; val = x .val }) (o .lobby)
+              (both _ _ (fst _ _ ms) (both _ _ (alt-left _ _ refl) (alt-left _ _ refl)))) (copied-wf cl (x .val) (fst _ _ ms));
           few-shelf = o .few-shelf;
           shelf = o .shelf;
           whose = o .whose;
@@ -182,15 +222,22 @@ module _ (c : Setting) (k : Counts) (s : Core) (o : CoreOk c k s) where
   leave-keeps i m e =
       let (x, f, g, l) = pick-done _ _ _ _ e in
       let a = need-done _ _ _ _ f in
-      let ms = g (wfMessage (shelves (c .wrapper) (c .side)) k) (o .lobby) in
-      subst (λ (y : Moved). Kept c k s y) (done-inj (a .1)) (record { ok = lobby-less i; minted = refl; shelf = omega arith; taken = refl; said = fst _ _ ms })
+      let ms = g (wfIn c k) (o .lobby) in
+      subst (λ (y : Moved). Kept c k s y) (done-inj (a .1)) (record { ok = lobby-less i; minted = refl; shelf = omega arith; taken = refl; said = spoken x (fst _ _ ms) (left-on c k x (a .0) ms) })
+    where
+      spoken : (x : Message) → wfValue k (x .val) ≡ true → eqb (x .chan) 1 or has (x .chan) (c .wrapper .copies) ≡ true → Spoken (c .wrapper .copies) k (leavingOn (x .chan)) (x .val)
+      spoken x h on = go (eqb (x .chan) 1) on
+        where
+          go : (t : Bool) → t or has (x .chan) (c .wrapper .copies) ≡ true → Spoken (c .wrapper .copies) k (cond t leaves logs) (x .val)
+          go true q = h
+          go false q = (h, (x .chan, ⊎-elim (λ p. absurd (false≢true p)) (λ p. p) (alt _ _ q)))
 
   pub down-keeps : (i : ℕ) (m : Moved) → goDown s i ≡ done m → limits (m .core) ≡ true → Kept c k s m
   unfolding goDown wfMessage wfParticle wfTag
   down-keeps i m e lim =
       let (x, f, g, l) = pick-done _ _ _ _ e in
       let a = need-done _ _ _ _ f in
-      let ms = g (wfMessage (shelves (c .wrapper) (c .side)) k) (o .lobby) in
+      let ms = g (wfIn c k) (o .lobby) in
       let less′ = lobby-less i in
       subst (λ (y : Moved). Kept c k s y) (done-inj (a .1))
       (record {
@@ -268,7 +315,7 @@ module _ (c : Setting) (k : Counts) (s : Core) (o : CoreOk c k s) where
               contents = gone .contents;
               few-lobby = few-lobby-of _ (at-limits (a .1) lim);
               lobby = every-append _ (s .lobby) (record { status = arrived; chan = ch; val = v } ∷ []) (o .lobby)
-                  (every-one (wfMessage (shelves (c .wrapper) (c .side)) k) (record { status = arrived; chan = ch; val = v }) (both _ _ val (both _ _ hc (not-both _ _ (a .0)))));
+                  (every-one (wfIn c k) (record { status = arrived; chan = ch; val = v }) (both _ _ val (both _ _ hc (not-both _ _ (a .0)))));
               few-shelf = o .few-shelf;
               shelf = o .shelf;
               whose = o .whose;
@@ -304,10 +351,15 @@ module _ (c : Setting) (k : Counts) (s : Core) (o : CoreOk c k s) where
 
   -- a side takes a shelf value
   pub takes-keeps : (from : ℕ) (sh : List (List ℕ)) → every (wfValue k) sh ≡ true → (i : ℕ) (m : Moved) → takes from sh s i ≡ done m → limits (m .core) ≡ true →
-      CoreOk c k (m .core) × (m .core .contents .minted ≡ s .contents .minted) × (m .core .taken ≡ set (s .taken) (takenAt from i) true) × (i < length sh) × Spoken k (m .label) (m .val)
+      CoreOk c k (m .core) × (m .core .contents .minted ≡ s .contents .minted) × (m .core .taken ≡ set (s .taken) (takenAt from i) true) × (i < length sh) × Spoken (c .wrapper .copies) k (m .label) (m .val)
   unfolding takes wfMessage held
   takes-keeps from sh h i m e lim =
       let (v, f, g, l) = pick-done _ _ _ _ e in
       let b = need-done _ _ _ _ f in
-      subst (λ (y : Moved). CoreOk c k (y .core) × (y .core .contents .minted ≡ s .contents .minted) × (y .core .taken ≡ set (s .taken) (takenAt from i) true) × (i < length sh) × Spoken k (y .label) (y .val)) (done-inj (b .1))
-      (lobby-more (record { status = down; chan = 2; val = v }) (both _ _ (g (wfValue k) h) (both _ _ (alt-left _ _ refl) (alt-right _ _ refl))) (set (s .taken) (takenAt from i) true) (at-limits (b .1) lim), refl, refl, l, refl)
+      let t : Message = record { status = down; chan = 2; val = v } in
+      let down-wf = every-one (wfIn c k) t (both _ _ (g (wfValue k) h) (both _ _ (alt-left _ _ refl) (alt-right _ _ refl))) in
+      subst
+      (λ (y : Moved). CoreOk c k (y .core) × (y .core .contents .minted ≡ s .contents .minted) × (y .core .taken ≡ set (s .taken) (takenAt from i) true)
+      × (i < length sh) × Spoken (c .wrapper .copies) k (y .label) (y .val))
+      (done-inj (b .1))
+      (lobby-more (t ∷ []) down-wf (set (s .taken) (takenAt from i) true) (at-limits (b .1) lim), refl, refl, l, refl)

@@ -34,7 +34,7 @@ pub record Kept′ (c : Setting) (k : Counts) (s : Core) (m : Moved) : Type 0 wh
   pub ok : (k′ : Counts) → Le k k′ → mine c k′ ≡ m .core .contents .minted → CoreOk c k′ (m .core)
   pub shelf : length (s .shelf) ≤ length (m .core .shelf)
   pub taken : m .core .taken ≡ s .taken
-  pub said : Spoken k (m .label) (m .val)
+  pub said : Spoken (c .wrapper .copies) k (m .label) (m .val)
 
 pub every-without : (f : Particle → Bool) (again : Bool) (l : List Particle) (i j : ℕ) → every f l ≡ true → every f (without again l i j) ≡ true
 every-without f true l i j e = every-remove f l i e

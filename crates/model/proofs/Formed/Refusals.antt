@@ -130,9 +130,9 @@ match-within (p ∷ ps) (suc n) v = go (isTuple p) v (isPublic p) (match-within 
     go false v true ih = bind-within (matches ps n (restOf v)) _ (ih n (restOf v)) (λ m. tt)
     go false v false ih = ih n (restOf v)
 
-enter-within : (kn : ℕ → Bool) (s : Core) (ws : List ℕ) → Within (enter kn s ws)
+enter-within : (cs : List ℕ) (kn : ℕ → Bool) (s : Core) (ws : List ℕ) → Within (enter cs kn s ws)
 unfolding enter
-enter-within kn s ws = need-within (isValue ws) 11 _ (omega arith) (omega arith) (need-within (every (λ w. not (isMinted w) or kn w) ws) 12 _ (omega arith) (omega arith) tt)
+enter-within cs kn s ws = need-within (isValue ws) 11 _ (omega arith) (omega arith) (need-within (every (λ w. not (isMinted w) or kn w) ws) 12 _ (omega arith) (omega arith) tt)
 
 down-within : (s : Core) (i : ℕ) → Within (goDown s i)
 unfolding goDown
@@ -178,9 +178,9 @@ meet-within c s i j = pick-within (s .contents .particles) i _ (λ p. pick-withi
     go (output b ch g v) (output b′ ch′ g′ v′) = (omega arith, omega arith)
     go (input b n vs) q = (omega arith, omega arith)
 
-pass-within : (s : Core) (i : ℕ) → Within (pass s i)
+pass-within : (cs : List ℕ) (s : Core) (i : ℕ) → Within (pass cs s i)
 unfolding pass
-pass-within s i = pick-within (s .lobby) i _ (λ m. need-within (isArrived (m .status) & eqb (m .chan) 1) 13 _ (omega arith) (omega arith) tt)
+pass-within cs s i = pick-within (s .lobby) i _ (λ m. need-within (isArrived (m .status) & eqb (m .chan) 1) 13 _ (omega arith) (omega arith) tt)
 
 leave-within : (s : Core) (i : ℕ) → Within (leave s i)
 unfolding leave
@@ -203,12 +203,12 @@ inner-within c s x = need-within (eqb (length (x .words)) 0) 10 _ (omega arith) 
     (need-within (eqb (x .j) 0) 10 _ (omega arith) (omega arith)
     (choose-within (eqb (x .kind) 2) _ _ (down-within s (x .i))
     (choose-within (eqb (x .kind) 3) _ _ (up-within c s (x .i))
-    (choose-within (eqb (x .kind) 6) _ _ (pass-within s (x .i))
+    (choose-within (eqb (x .kind) 6) _ _ (pass-within (c .wrapper .copies) s (x .i))
     (choose-within (eqb (x .kind) 7) _ _ (leave-within s (x .i)) (omega arith, omega arith))))))))
 
 local-within : (c : Setting) (kn : ℕ → Bool) (sh : ℕ → List (List ℕ)) (s : Core) (x : Step) → Within (local c kn sh s x)
 unfolding local
-local-within c kn sh s x = choose-within (eqb (x .kind) 1) _ _ (need-within (eqb (x .i) 0 & eqb (x .j) 0) 10 _ (omega arith) (omega arith) (enter-within kn s (x .words)))
+local-within c kn sh s x = choose-within (eqb (x .kind) 1) _ _ (need-within (eqb (x .i) 0 & eqb (x .j) 0) 10 _ (omega arith) (omega arith) (enter-within (c .wrapper .copies) kn s (x .words)))
     (choose-within (eqb (x .kind) 8) _ _
     (need-within (eqb (length (x .words)) 0) 10 _ (omega arith) (omega arith)
     (bind-within (routeTo (c .wrapper .routes) (c .side) (x .j)) _ (route-within (c .wrapper .routes) (c .side) (x .j)) (λ r. take-within (r .source) (sh (r .source)) s (x .i))))

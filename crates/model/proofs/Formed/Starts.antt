@@ -17,13 +17,13 @@ use Rattle.model.specs.Wrapper.{allSides, isWrapper, hasSide}
 use Rattle.model.specs.Load.{Setting, Composition, setting, wrapperOf, table, load, loadSides, sideFault, lackFault, Refused, ok, refused, isOk, start, startOf}
 use Rattle.model.specs.WellFormed.{Counts, counts, shelfOf, wfBoxes, wfLeft, wfSide, wfSideOf, wfTaken, wfState, isNoSide, ready}
 use Rattle.model.specs.Step.{short}
-use Rattle.model.proofs.Basics.Tests.{snd, both, alt-left, every-append, every-two}
+use Rattle.model.proofs.Basics.Tests.{snd, both, alt-left, every-append, every-two, every-has}
 use Rattle.model.proofs.Formed.Growing.{CoreOk, core-wf}
 use Rattle.model.proofs.Basics.Environments.{look-all}
 use Rattle.model.proofs.Basics.Checked.{Checked, Sits, s-nil, s-par, s-box, s-new, s-out, s-inp, sits}
 use Rattle.model.proofs.Formed.UnfoldingKeeps.{tight, grows, unfolds-fit}
 use Rattle.model.proofs.Formed.MeetingKeeps.{mine, fresh-held}
-use Rattle.model.proofs.Formed.Invariant.{positive, every-has, count-is, load-checked}
+use Rattle.model.proofs.Formed.Invariant.{positive, count-is, load-checked}
 
 -- a value that is one name
 abbrev oneName : List ℕ → Bool

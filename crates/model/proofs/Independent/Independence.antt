@@ -16,12 +16,12 @@ use Rattle.model.specs.Wrapper.{Route, allSides, described, hasSide}
 use Rattle.model.specs.Side.{State, Side, Core, startSide, noSide, side, putSide}
 use Rattle.model.specs.Load.{Composition, Setting, setting, wrapperOf, table, start, startOf}
 use Rattle.model.specs.WellFormed.{wfState, wfSide, wfSideOf, isNoSide, shelfOf, ready}
-use Rattle.model.specs.Step.{Step, Label, silent, enters, leaves, Moved, labelled, refusal, step, settled, local, routeTo, takes, enter, marks, marked, markAll, mark1, markOf, answerOf, sideAfter, known}
+use Rattle.model.specs.Step.{Step, Label, silent, enters, leaves, logs, Moved, labelled, refusal, step, settled, local, routeTo, takes, enter, marks, marked, markAll, mark1, markOf, answerOf, sideAfter, known}
 use Rattle.model.specs.Runs.{isOf, stepsOf, sees, afterAll, leftBy, leftEarlier, premise, isClosed, SameFor, GroupIndependence, Independence}
 use Rattle.model.proofs.Basics.Sides.{put-same, put-other, put-agree}
-use Rattle.model.proofs.Formed.Invariant.{which, positive, has-every, keeps, mark1-size}
+use Rattle.model.proofs.Formed.Invariant.{which, positive, keeps, mark1-size}
 use Rattle.model.proofs.Formed.Starts.{load-state, starts}
-use Rattle.model.proofs.Basics.Tests.{append-nil, or-cases, or-right, has-append, fst, snd, both, alt, choose-done, head-eq, tail-eq}
+use Rattle.model.proofs.Basics.Tests.{append-nil, or-cases, or-right, has-append, has-every, fst, snd, both, alt, choose-done, head-eq, tail-eq}
 use Rattle.model.proofs.Formed.Keeping.{done-inj}
 
 -- LISTS
@@ -156,6 +156,7 @@ marks-keep : (t : Label) (v : List ℕ) (l : List Bool) (w : ℕ) → marked l w
 marks-keep silent v l w e = e
 marks-keep enters v l w e = e
 marks-keep leaves v l w e = markAll-keeps v l w e
+marks-keep logs v l w e = markAll-keeps v l w e
 
 after-keeps : (o : Side) (r : Res Moved) (w : ℕ) → marked (o .left) w ≡ true → marked (sideAfter o r .left) w ≡ true
 after-keeps o (refuse k) w e = e
@@ -165,6 +166,7 @@ abbrev leftBy′ : Label → Bool → List ℕ → List ℕ
 leftBy′ silent u v = []
 leftBy′ enters u v = []
 leftBy′ leaves u v = cond u v []
+leftBy′ logs u v = cond u v []
 
 after-marks : (g : List ℕ) (n : ℕ) (o : Side) (r : Res Moved) (w : ℕ) → length (o .left) ≡ 512 → has w (leftBy g (answerOf n r)) ≡ true → isMinted w ≡ true → marked (sideAfter o r .left) w ≡ true
 after-marks g n o (refuse k) w l h m = absurd (false≢true h)
@@ -174,12 +176,15 @@ after-marks g n o (done q) w l h m = go (q .label) (has n g) (shape (q .label) h
     shape silent h = h
     shape enters h = h
     shape leaves h = h
+    shape logs h = h
 
     go : (t : Label) (u : Bool) → has w (leftBy′ t u (q .val)) ≡ true → marked (marks t (q .val) (o .left)) w ≡ true
     go silent u h = absurd (false≢true h)
     go enters u h = absurd (false≢true h)
     go leaves true h = markAll-marks (q .val) (o .left) w l h m
     go leaves false h = absurd (false≢true h)
+    go logs true h = markAll-marks (q .val) (o .left) w l h m
+    go logs false h = absurd (false≢true h)
 
 -- a step of the group keeps what has left covered, with what leaves by it
 covers-own : (g seen : List ℕ) (s : State) (n : ℕ) (r : Res Moved) → has n g ≡ true → 1 ≤ n → n ≤ length (s .sides) → length (side s n .left) ≡ 512 → Covers g seen s →
@@ -222,6 +227,7 @@ other g b s x e o = go (hasSide (wrapperOf b) (x .side)) refl
         lab silent = refl
         lab enters = refl
         lab leaves = rw o
+        lab logs = rw o
 
     apart : (n : ℕ) → has n g ≡ true → (n ≡ x .side → ⊥)
     apart n h q = false≢true (sym o ∙ ap (λ (m : ℕ). has m g) (sym q) ∙ h)

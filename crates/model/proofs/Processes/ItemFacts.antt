@@ -19,7 +19,7 @@ use Rattle.model.specs.Table.{Table, Term, inp, term, count, kind, scope
 use Rattle.model.specs.Side.{Particle, output, input, Message, down, arrived, leaving, Status as SPlace, Tag as STag, within, toParent, fromParent, toChild, fromChild}
 use Rattle.model.specs.WellFormed.{Counts, held, wfValue, wfTag, wfParticle, wfMessage, envAt}
 use Rattle.model.specs.Wrapper.{Wrapper}
-use Rattle.model.specs.Process.{Mark, part, ownName, valOf, headV, codeOf, envOf, tagOut, numbered, partItem, msgProc, msgItem, shelfItem, shelfItems}
+use Rattle.model.specs.Process.{Mark, part, ownName, leavesAs, valOf, headV, codeOf, envOf, tagOut, numbered, partItem, msgProc, msgItem, shelfItem, shelfItems}
 use Rattle.calculus.proofs.Bags.{at}
 use Rattle.calculus.proofs.Unfolding.{proc-all}
 use Rattle.calculus.proofs.Parallels.{beyond-none, each-names}
@@ -155,14 +155,18 @@ module _ {M : Type 0} (mk : Mark → M) (A : List ℕ) (k : Counts) (heldIn : (w
     part-atom i (output b ch g v) e = tt
     part-atom i (input b n vs) e = subst (λ (a : Term). Atom (proc [] (mk (part side i)) (codeOf a) (envOf (envAt t n vs)))) (sym (input-node b n vs e .is)) tt
 
-  pub msg-in : (wrapper : Wrapper) (side : ℕ) (sh : Bool) → In A (ownName side) → In A (wrapper .outlet side) → (i : ℕ) (m : Message) → wfMessage sh k m ≡ true → Fn⊆ (msgItem mk wrapper side i m .what) A
+  pub msg-in : (wrapper : Wrapper) (side : ℕ) (sh : Bool) (cs : List ℕ) → In A (ownName side) → In A (wrapper .outlet side) → (i : ℕ) (m : Message) → wfMessage sh cs k m ≡ true → Fn⊆ (msgItem mk wrapper side i m .what) A
   unfolding AllN wfMessage
-  msg-in wrapper side sh own ow i m e = go (m .status)
+  msg-in wrapper side sh cs own ow i m e = go (m .status)
     where
       go : (p : SPlace) → Fn⊆ (msgProc mk wrapper side i p (m .chan) (m .val)) A
       go down = (heldIn (m .chan) (fst _ _ (snd _ _ e)), own, val-in (m .val) (fst _ _ e))
       go arrived = (heldIn (m .chan) (fst _ _ (snd _ _ e)), own, val-in (m .val) (fst _ _ e))
-      go leaving = (ow, tt, val-in (m .val) (fst _ _ e))
+      go leaving = (left (eqb (m .chan) 1), tt, val-in (m .val) (fst _ _ e))
+        where
+          left : (t : Bool) → In A (cond t (wrapper .outlet side) (m .chan))
+          left true = ow
+          left false = heldIn (m .chan) (fst _ _ (snd _ _ e))
 
   pub shelf-in : (side : ℕ) → In A 2 → In A (ownName side) → (gone : ℕ → Bool) (i : ℕ) (l : List (List ℕ)) → every (wfValue k) l ≡ true → Each A (shelfItems mk gone side i l)
   unfolding AllN

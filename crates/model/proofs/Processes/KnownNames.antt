@@ -19,6 +19,7 @@ use Rattle.model.specs.Process.{upto, mintOf, keep, bySide, mintedOf, ow
 use Rattle.calculus.proofs.Restriction.{Good}
 use Rattle.calculus.proofs.Restriction.{known as allOf}
 use Rattle.calculus.proofs.FreeNames.{mem-cases, mem-left, mem-right, or-cases, or-left, or-right}
+use Rattle.model.proofs.Basics.Sides.{described-by}
 use Rattle.model.proofs.Basics.Tests.{fst, snd, alt, or-cases as bool-cases, or-right as bool-right, or-first}
 use Rattle.model.proofs.Formed.Invariant.{which, positive, count-is}
 
@@ -155,12 +156,7 @@ apart-map f (k ∷ ns) d h = (λ q. let r = map-out f ns (f k) q in d .0 (subst 
 
 -- the sides of a wrapper are different
 pub sides-distinct : (w : ℕ) → Distinct (described w .sides)
-sides-distinct w = go (eqb w 1) (eqb w 2)
-  where
-    go : (t u : Bool) → Distinct (cond t (described 1) (cond u (described 2) (described 0)) .sides)
-    go true u = (false≢true, tt)
-    go false true = (false≢true, (false≢true, tt))
-    go false false = tt
+sides-distinct = described-by (λ d. Distinct (d .sides)) (false≢true, tt) (false≢true, (false≢true, tt)) (false≢true, tt) tt
 
 module _ (b : Composition) (s : State) where
   -- the names that the state's process may have

@@ -8,9 +8,10 @@ use native.Mathlib.Omega.{arith}
 use borrow.Author.Tests.{eqb-true, eq-eqb, ne-eqb}
 use lib.Dec.{eqb}
 use lib.ListN.{length}
-use Rattle.calculus.specs.Syntax.{AllN, Proc, Scope, var, remark, theName, iren}
-use Rattle.calculus.specs.Syntax.{par as ppar, box as pbox, new as pnew, inp as pinp}
-use Rattle.calculus.specs.Transitions.{Fn⊆}
+use Rattle.calculus.specs.Syntax.{AllN, ITag, replicated, Proc, Scope, var, remark, theName, iren}
+use Rattle.calculus.specs.Syntax.{par as ppar, box as pbox, new as pnew, inp as pinp, parent as iparent, child as ichild}
+use Rattle.calculus.specs.Transitions.{In, Fn⊆}
+use Rattle.calculus.specs.Wrappers.{inName, outName, forwardWith}
 use Rattle.calculus.specs.Tree.{Place}
 use Rattle.calculus.specs.Tree.{Item}
 use Rattle.calculus.specs.Named.{proc, Code, cnil, cpar, cbox, cnew, cout, cinp, named, shape, underPat}
@@ -20,13 +21,18 @@ use Rattle.model.specs.Side.{Particle, output, input, Message, down, arr
 use Rattle.model.specs.Basics.{_&_, every, has}
 use Rattle.model.specs.Wrapper.{Wrapper, Route, described, hasSide, shelves}
 use Rattle.model.specs.Load.{Composition, wrapperOf, table, setting}
-use Rattle.model.specs.WellFormed.{counts, wfParticle, wfMessage, ready}
-use Rattle.model.specs.Process.{Mark, part, lobby, shelf, siteOf, codeOf, envOf, numbered, bySide, partItem, msgProc, msgItem, shelfItem, shelfItems, sideItems, enters, passes, takes, forwarders, isGone, placesOf, allPlaces, confAs}
+use Rattle.model.specs.WellFormed.{counts, wfParticle, ready}
+use Rattle.model.specs.Process.{Mark, part, lobby, shelf, enterer, passer, inert, ownName, siteOf, codeOf, envOf, numbered, bySide, isGone, placesOf, allPlaces, confAs}
+use Rattle.model.specs.Process.{partItem, msgProc, msgItem, shelfItem, shelfItems, sideItems, enters, passes, takes, forwarders}
 use Rattle.calculus.proofs.Trees.{Wf, Behind, Reach}
 use Rattle.calculus.proofs.Moves.{Rooted}
-use Rattle.calculus.proofs.Bags.{ritem, ritems, ritems-app, rplaces}
+use Rattle.calculus.proofs.Bags.{item, ritem, ritems, ritems-app, rplaces}
+use Rattle.calculus.proofs.Parallels.{Each as Parts}
+use Rattle.calculus.proofs.Forwarders.{forward-all, copying-marks}
 use Rattle.model.proofs.Basics.Tests.{fst, snd, both, or-cases, or-right, or-none, or-first}
 use Rattle.model.proofs.Basics.Checked.{Checked}
+use Rattle.model.proofs.Basics.Sides.{described-by}
+use Rattle.model.proofs.Formed.Growing.{wfIn}
 use Rattle.model.proofs.Formed.Invariant.{loaded, load-checked, which, positive, side-ok, few-minted}
 use Rattle.model.proofs.Processes.KnownNames.{All, Distinct, held-in, low-in, own-in, sides-distinct}
 use Rattle.model.proofs.Processes.Boxes.{Tree, grown, behind-other, reach-other, places-marks}
@@ -37,12 +43,7 @@ and-false a b p q = rw (p, q)
 
 -- routes go between sides of the wrapper
 pub routes-in : (w : ℕ) → every (λ r. hasSide (described w) (r .source) & hasSide (described w) (r .receiver)) (described w .routes) ≡ true
-routes-in w = go (eqb w 1) (eqb w 2)
-  where
-    go : (t u : Bool) → (let d = cond t (described 1) (cond u (described 2) (described 0)) in every (λ r. hasSide d (r .source) & hasSide d (r .receiver)) (d .routes) ≡ true)
-    go true u = refl
-    go false true = both _ _ (both _ _ refl refl) refl
-    go false false = refl
+routes-in = described-by (λ d. every (λ r. hasSide d (r .source) & hasSide d (r .receiver)) (d .routes) ≡ true) refl (both _ _ (both _ _ refl refl) refl) refl refl
 
 module _ (b : Composition) (s : State) (e : ready b s ≡ true) where
   pub checked-of : (n : ℕ) → hasSide (wrapperOf b) n ≡ true → Checked (table b n)
@@ -53,20 +54,14 @@ module _ (b : Composition) (s : State) (e : ready b s ≡ true) where
 
   -- a side's channels towards the environment
   pub outlet-low : (n : ℕ) → hasSide (wrapperOf b) n ≡ true → wrapperOf b .outlet n < 81
-  outlet-low n h = go (eqb (b .wrapper) 1) (eqb (b .wrapper) 2)
-    where
-      go : (t u : Bool) → cond t (described 1) (cond u (described 2) (described 0)) .outlet n < 81
-      go true u = omega arith
-      go false true = omega (arith, positive n (which (b .wrapper) n h) .1)
-      go false false = omega arith
+  outlet-low n h = described-by (λ d. d .outlet n < 81) (omega arith) (omega (arith, positive n (which (b .wrapper) n h) .1)) (omega arith) (omega arith) (b .wrapper)
 
   pub inlet-low : (n : ℕ) → hasSide (wrapperOf b) n ≡ true → wrapperOf b .inlet n < 81
-  inlet-low n h = go (eqb (b .wrapper) 1) (eqb (b .wrapper) 2)
-    where
-      go : (t u : Bool) → cond t (described 1) (cond u (described 2) (described 0)) .inlet n < 81
-      go true u = omega arith
-      go false true = omega (arith, positive n (which (b .wrapper) n h) .1)
-      go false false = omega arith
+  inlet-low n h = described-by (λ d. d .inlet n < 81) (omega arith) (omega (arith, positive n (which (b .wrapper) n h) .1)) (omega arith) (omega arith) (b .wrapper)
+
+  -- copies leave on names known outside
+  pub copies-in : Parts (In (All b s)) (wrapperOf b .copies)
+  copies-in = described-by (λ d. Parts (In (All b s)) (d .copies)) tt tt (low-in b s 3 (omega arith), tt) tt (b .wrapper)
 
   module _ {M : Type 0} (mk : Mark → M) where
     -- boxes so far, of the sides ns
@@ -154,8 +149,8 @@ module _ (b : Composition) (s : State) (e : ready b s ≡ true) where
         let o = side-ok b s e n h in
         let c = setting b n in
         each-app (All b s) (numbered (msgItem mk (wrapperOf b) n) 0 (side s n .core .lobby)) (numbered (partItem mk (table b n) n) 0 (side s n .core .contents .particles))
-        (each-numbered (All b s) (wfMessage (shelves (c .wrapper) (c .side)) (counts s)) (msgItem mk (wrapperOf b) n)
-        (msg-in mk (All b s) (counts s) (held-in b s) (low-in b s 0 (omega arith)) (wrapperOf b) n (shelves (c .wrapper) (c .side)) (own-in b s n h) (low-in b s _ (outlet-low n h))) 0 (side s n .core .lobby) (o .lobby))
+        (each-numbered (All b s) (wfIn c (counts s)) (msgItem mk (wrapperOf b) n)
+        (msg-in mk (All b s) (counts s) (held-in b s) (low-in b s 0 (omega arith)) (wrapperOf b) n (shelves (c .wrapper) (c .side)) (c .wrapper .copies) (own-in b s n h) (low-in b s _ (outlet-low n h))) 0 (side s n .core .lobby) (o .lobby))
         (each-numbered (All b s) (wfParticle (table b n) (counts s) (length (side s n .core .contents .boxes))) (partItem mk (table b n) n)
         (part-in mk (All b s) (counts s) (held-in b s) (low-in b s 0 (omega arith)) (table b n) (checked-of n h) (length (side s n .core .contents .boxes)) n) 0 (side s n .core .contents .particles) (o .contents .particles))
 
@@ -176,11 +171,16 @@ module _ (b : Composition) (s : State) (e : ready b s ≡ true) where
     each-routes (r ∷ rs) h = ((low-in b s 2 (omega arith), own-in b s (r .source) (fst _ _ (fst _ _ h)), (low-in b s 2 (omega arith), own-in b s (r .receiver) (snd _ _ (fst _ _ h)), tt)), each-routes rs (snd _ _ h))
 
     pub forwarders-each : Each (All b s) (forwarders mk (wrapperOf b))
-    unfolding AllN
-    forwarders-each = each-app (All b s) (map (enters mk (wrapperOf b)) (wrapperOf b .sides)) _
-        (each-map (enters mk (wrapperOf b)) (wrapperOf b .sides) (λ n h. (low-in b s _ (inlet-low n h), tt, (low-in b s 0 (omega arith), own-in b s n h, tt))))
-        (each-app (All b s) (map (passes mk (wrapperOf b)) (wrapperOf b .sides)) _
-        (each-map (passes mk (wrapperOf b)) (wrapperOf b .sides) (λ n h. (low-in b s 1 (omega arith), own-in b s n h, (low-in b s _ (outlet-low n h), tt, tt)))) (each-routes (wrapperOf b .routes) (routes-in (b .wrapper))))
+    forwarders-each =
+        let w = wrapperOf b in
+        let entering = each-map (enters mk w) (w .sides) (λ n h.
+        forward-all (mk (enterer n)) (mk inert) (w .copies) (w .inlet n) iparent inName (ichild (ownName n)) (In (All b s))
+        (low-in b s _ (inlet-low n h)) tt copies-in (low-in b s 0 (omega arith)) (own-in b s n h)) in
+        let passing = each-map (passes mk w) (w .sides) (λ n h.
+        forward-all (mk (passer n)) (mk inert) (w .copies) outName (ichild (ownName n)) (w .outlet n) iparent (In (All b s))
+        (low-in b s 1 (omega arith)) (own-in b s n h) copies-in (low-in b s _ (outlet-low n h)) tt) in
+        each-app (All b s) (map (enters mk w) (w .sides)) _ entering
+        (each-app (All b s) (map (passes mk w) (w .sides)) _ passing (each-routes (w .routes) (routes-in (b .wrapper))))
 
     pub items-each : Each (All b s) (confAs mk b s .items)
     unfolding confAs
@@ -238,10 +238,18 @@ module _ {M U : Type 0} (mk : Mark → M) (h : M → U) where
   by-marks f g e [] = refl
   by-marks f g e (n ∷ ns) = ritems-app h (f n) (bySide f ns) ∙ ap₂ (λ (a b : List (Item U)). a ++ b) (e n) (by-marks f g e ns)
 
+  forward-marks : (t : Mark) (cs : List ℕ) (x : ℕ) (i : ITag ℕ) (z : ℕ) (o : ITag ℕ) → ritem h (item 0 (forwardWith [] (mk t) (mk inert) cs x i z o)) ≡ item 0 (forwardWith [] (h (mk t)) (h (mk inert)) cs x i z o)
+  unfolding remark
+  forward-marks t cs x i z o = ap (λ (P : Proc U (var ∷ [])). item 0 (pinp replicated (h (mk t)) x i var P)) (copying-marks h [] (mk inert) cs _)
+
   pub forwarders-marks : (w : Wrapper) → ritems h (forwarders mk w) ≡ forwarders (λ m. h (mk m)) w
   unfolding remark
-  forwarders-marks w = ritems-app h (map (enters mk w) (w .sides)) _ ∙ ap₂ (λ (a b : List (Item U)). a ++ b) (map-marks (enters mk w) (enters (λ m. h (mk m)) w) (λ n. refl) (w .sides))
-      (ritems-app h (map (passes mk w) (w .sides)) _ ∙ ap₂ (λ (a b : List (Item U)). a ++ b) (map-marks (passes mk w) (passes (λ m. h (mk m)) w) (λ n. refl) (w .sides)) (map-marks (takes mk) (takes (λ m. h (mk m))) (λ r. refl) (w .routes)))
+  forwarders-marks w =
+      let entering = map-marks (enters mk w) (enters (λ m. h (mk m)) w) (λ n. forward-marks (enterer n) (w .copies) (w .inlet n) iparent inName (ichild (ownName n))) (w .sides) in
+      let passing = map-marks (passes mk w) (passes (λ m. h (mk m)) w) (λ n. forward-marks (passer n) (w .copies) outName (ichild (ownName n)) (w .outlet n) iparent) (w .sides) in
+      let taking = map-marks (takes mk) (takes (λ m. h (mk m))) (λ r. refl) (w .routes) in
+      ritems-app h (map (enters mk w) (w .sides)) _
+      ∙ ap₂ (λ (a b : List (Item U)). a ++ b) entering (ritems-app h (map (passes mk w) (w .sides)) _ ∙ ap₂ (λ (a b : List (Item U)). a ++ b) passing taking)
 
   pub items-marks : (b : Composition) (s : State) → ritems h (confAs mk b s .items) ≡ confAs (λ m. h (mk m)) b s .items
   unfolding confAs

@@ -27,7 +27,7 @@ use Rattle.model.specs.Agreement.{Says, says-tau, says-in, says-out, IsL
 use Rattle.model.specs.Runs.{isOf, Seen, sees, Reached, answers, afterAll, Refusals, Independence}
 use Rattle.model.specs.Trials.{copier, entering, ask, inward, outward, tau as silently, runFrom}
 use Rattle.model.specs.Published.{Path, stop, go, SaysAll, says-none, says-more, says-refused, RunsAreTransitions}
-use Rattle.model.specs.Corollaries.{answersTo1, AnswersIndependent, sending, idle, PremiseNeeded, copies, labelsA, ListingA}
+use Rattle.model.specs.Corollaries.{answersTo1, AnswersIndependent, sending, idle, PremiseNeeded, copierProcess, labelsA, ListingA}
 use Rattle.calculus.proofs.FreeNames.{mem-left, mem-right, mem-cases}
 use Rattle.calculus.proofs.Members.{SameMembers, step-members}
 use Rattle.calculus.proofs.Marks.{step-remark, wmark}
@@ -141,7 +141,7 @@ premise-needed = (state sending, state idle, refl, refl, refl, refl, refl)
 -- LISTING A
 
 -- the copier's table is the copier
-copier-is : handler (table copier 1) ≡ copies
+copier-is : handler (table copier 1) ≡ copierProcess
 unfolding _&_ _or_ bind items at childTimes build decode term reads valOf readsP patOf codeOf proc
 copier-is = refl
 

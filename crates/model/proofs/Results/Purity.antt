@@ -1,10 +1,11 @@
--- Purity: the transitions of a state's process are silent, or on a side's inlet or outlet with the environment.
+-- Purity: the transitions of a state's process are silent, or on a side's inlet or outlet, or on `log` under wrapper 3, with the environment.
 use mathlib.Core.Path.{_≡_, refl, sym, ap, _∙_, subst}
 use mathlib.Core.Bool.{Bool, true, false, false≢true}
 use mathlib.Core.List.{List, []}
-use mathlib.Core.Logic.{⊎-elim}
+use mathlib.Core.Logic.{inl, ⊎-elim}
 use Prim.Native.Nat.{ℕ}
 use native.Mathlib.Omega.{arith}
+use borrow.Author.Tests.{eqb-true}
 use Rattle.calculus.specs.Syntax.{Val, Tag, plain, receivedParent, receivedChild, Proc, tren, within, parent, child}
 use Rattle.calculus.specs.Transitions.{Label, tau, send, recv, Participants, In}
 use Rattle.calculus.specs.Transitions.{Step as Trans}
@@ -14,15 +15,21 @@ use Rattle.model.specs.Wrapper.{hasSide}
 use Rattle.model.specs.Side.{State}
 use Rattle.model.specs.Load.{Composition, wrapperOf}
 use Rattle.model.specs.WellFormed.{ready}
-use Rattle.model.specs.Step.{Step, Answer, labelled, refusal, silent, enters, leaves, Result, step}
+use Rattle.model.specs.Runs.{RefusedWhole}
+use Rattle.model.specs.Step.{Step, Answer, labelled, refusal, silent, enters, leaves, logs, Result, step}
 use Rattle.model.specs.Process.{Mark, inert, confOf, knownOf}
-use Rattle.model.specs.Agreement.{Rename, renamed, Asks, asks-out, Met, Excused, by-11-long, by-11-name, by-12, by-16, by-17, Over, lobby-full, down-full, up-full, shelf-full, meet-full, answerSide, Complete}
-use Rattle.model.specs.Published.{PureLabel, pure-tau, pure-in, pure-out, Pure, PurePublished}
+use Rattle.model.specs.Agreement.{IsLabelled, Says, Sound, Rename, renamed, Asks, asks-out, Met, Excused, by-11-long, by-11-name, by-12, by-16, by-17, Over, enter-full, pass-full, take-full, down-full, up-full, shelf-full, meet-full, answerSide, Complete}
+use Rattle.model.specs.Published.{PureLabel, pure-tau, pure-in, pure-out, pure-log, Pure, PurePublished, LogAlone}
 use Rattle.calculus.proofs.Marks.{marks}
+use Rattle.model.proofs.Basics.Tests.{has-every}
+use Rattle.model.proofs.Formed.Keeping.{isLog}
+use Rattle.model.proofs.Formed.Invariant.{copies-log, copies-where}
+use Rattle.model.proofs.Formed.Refusals.{refused-whole}
 use Rattle.model.proofs.Independent.Independence.{step-lacks}
 use Rattle.model.proofs.Processes.KnownNames.{is-true, low-known}
 use Rattle.model.proofs.Processes.StateTree.{inlet-low, outlet-low}
 use Rattle.model.proofs.Sound.Labels.{SaysInv, says-inv}
+use Rattle.model.proofs.Sound.Sound.{sound}
 use Rattle.model.proofs.Complete.StateInversion.{rename-of}
 use Rattle.model.proofs.Complete.EntryMoves.{entry-of}
 use Rattle.model.proofs.Complete.Complete.{complete}
@@ -72,7 +79,9 @@ isSend (recv x o v) = false
 
 -- a step that leaves passes no limit, and nothing else excuses its refusal
 over-no : {b : Composition} {s : State} {k : Step} → Over b s k → k .kind ≡ 7 → ⊥
-over-no (lobby-full h f) q = ⊎-elim (λ p. omega (arith, p, q)) (λ p. omega (arith, p, q)) h
+over-no (enter-full p f) q = omega (arith, p, q)
+over-no (pass-full p f) q = omega (arith, p, q)
+over-no (take-full p f) q = omega (arith, p, q)
 over-no (down-full p f) q = omega (arith, p, q)
 over-no (up-full p f g h) q = omega (arith, p, q)
 over-no (shelf-full p f g h) q = omega (arith, p, q)
@@ -111,6 +120,11 @@ module _ (b : Composition) (s : State) (e : ready b s ≡ true) where
           let ex : x ≡ wrapperOf b .outlet n = only-kept (m .names) x _ (out-known b s e n h') (ap chanOf (q .3)) in
           let eo : o ≡ plain parent = only-parent o (m .names .to) (ap tagOf (q .3)) in
           subst (PureLabel b) (sym (λ i. send (ex i) (eo i) v)) (pure-out n (is-true _ h'))
+      go (labelled logs n u) (y, p, f, (c, i, q)) sd h =
+          let c3 : c ≡ 3 = eqb-true c 3 (has-every isLog (wrapperOf b .copies) c (copies-log (b .wrapper)) i) in
+          let ex : x ≡ 3 = only-kept (m .names) x 3 (low-known b s 3 (omega arith)) (ap chanOf q ∙ c3) in
+          let eo : o ≡ plain parent = only-parent o (m .names .to) (ap tagOf q) in
+          subst (PureLabel b) (sym (λ i. send (ex i) (eo i) v)) (pure-log (copies-where (b .wrapper) c i))
       go (refusal n m) q sd h = absurd q
 
   send-pure : {x : ℕ} {o : Tag ℕ} {v : Val ℕ} {w : Participants Mark} {R : Proc Mark []} → Trans (knownOf s) (process (confOf b s)) (send x o v) w R → PureLabel b (send x o v)
@@ -132,3 +146,15 @@ pure b s l w R e d = by-label b s e l w R d
 pub pure-published : PurePublished
 unfolding PurePublished Marks
 pure-published b s l Q e p = let r = marks Mark .1 (knownOf s) (process (confOf b s)) l Q inert p in by-label b s e l (r .0) (r .1) (r .2)
+
+-- a label log is an output on a channel of copies
+pub log-alone : LogAlone
+unfolding LogAlone Sound RefusedWhole
+log-alone b s k n v q = go (ready b s) refl
+  where
+    told : (l : Label) × Says (wrapperOf b) (labelled logs n v) l → b .wrapper ≡ 3
+    told (l, sy) = let (u, p, f, (c, i, r)) = says-inv sy in copies-where (b .wrapper) c i
+
+    go : (t : Bool) → ready b s ≡ t → b .wrapper ≡ 3
+    go true e = told (subst (λ (a : Answer). IsLabelled a → (l : Label) × Says (wrapperOf b) a l) q (sound b s k e .0) tt)
+    go false e = absurd (let r = refused-whole .0 b s k (inl e) .0 in let z : _≡_ {A = ℕ} 0 1 = cc in omega arith)

@@ -12,6 +12,7 @@ use Rattle.model.specs.Step.{enter, goDown, upFrom, upParticle, up, desc
 use Rattle.model.specs.Stranded.{lobbyAsked, rightStranded}
 use Rattle.model.specs.Trials.{runFrom, outcome, Trials}
 use Rattle.model.specs.MoreTrials.{MoreTrials}
+use Rattle.model.specs.LoggingTrials.{LoggingTrials}
 
 pub trials-pass : Trials
 unfolding _&_ _or_ choose bind need pick items shaped isValue at restOf firstOf matches childTimes build decode term scopeUp check1 check2 timesChild check3 check4 patternOk check5 over overAll
@@ -26,3 +27,10 @@ unfolding _&_ _or_ choose bind need pick items shaped isValue at restOf firstOf 
     wfSideOf wfState ready enter goDown upFrom upParticle up descendParticle descend meetTerm meetParticles meet pass leave takes routeTo inner local settled mark1 step lobbyAsked rightStranded
     runFrom outcome MoreTrials
 more-trials-pass = (refl, refl, refl, refl)
+
+pub logging-trials-pass : LoggingTrials
+unfolding _&_ _or_ choose bind need pick items shaped isValue at restOf firstOf matches childTimes build decode term scopeUp check1 check2 timesChild check3 check4 patternOk check5 over overAll
+    firstBad found fault limits unfolds defined start sideFault lackFault loadSides load held heldWord wfValue wfTag wfParticle wfBoxes wfContents wfMessage wfCore wfLeft wfSide wfTaken isNoSide
+    wfSideOf wfState ready enter goDown upFrom upParticle up descendParticle descend meetTerm meetParticles meet pass leave takes routeTo inner local settled mark1 step lobbyAsked rightStranded
+    runFrom outcome LoggingTrials
+logging-trials-pass = (refl, refl)

@@ -10,8 +10,8 @@ use Rattle.calculus.specs.Syntax.{Val, parent, plain as aside, Proc}
 use Rattle.calculus.specs.Congruence.{_≋_, rfl, symm}
 use Rattle.calculus.specs.Transitions.{Label, send, recv, lnames}
 use Rattle.calculus.specs.Marks.{Published, Seq, ended, first, grownBy}
-use Rattle.calculus.specs.Purity.{Legit, silent, inward, outward, EachLabel, Proposition2, Proposition4}
-use Rattle.calculus.specs.Wrappers.{inName, outName, envIn, envOut, W1, W2}
+use Rattle.calculus.specs.Purity.{Legit, silent, inward, outward, EachLabel, Proposition2, Proposition3, Proposition4}
+use Rattle.calculus.specs.Wrappers.{inName, outName, logName, envIn, envOut, W1, W2, L}
 use Rattle.model.specs.Side.{State}
 use Rattle.model.specs.Table.{Table}
 use Rattle.model.specs.Wrapper.{isWrapper}
@@ -21,13 +21,13 @@ use Rattle.model.specs.Step.{Step}
 use Rattle.model.specs.Process.{knownOf}
 use Rattle.model.specs.Agreement.{LoadAgrees, processOf, handler}
 use Rattle.model.specs.Runs.{Reached, afterAll}
-use Rattle.model.specs.Published.{PurePublished, CompletePublished, Path, stop, go, SaysAll, says-none, says-more, says-refused, RunsAreTransitions, PureLabel, pure-tau, pure-in, pure-out}
-use Rattle.model.specs.Wrapped.{Wraps, as-filter, as-pipeline, WrapperRuns, Led, WrapperComplete, WrapperPure, SequencesPure, TablesToTrace}
+use Rattle.model.specs.Published.{PurePublished, CompletePublished, Path, stop, go, SaysAll, says-none, says-more, says-refused, RunsAreTransitions, PureLabel, pure-tau, pure-in, pure-out, pure-log}
+use Rattle.model.specs.Wrapped.{Wraps, as-filter, as-pipeline, as-logging, WrapperRuns, Led, WrapperComplete, WrapperPure, SequencesPure, TablesToTrace}
 use Rattle.calculus.proofs.Members.{SameMembers, step-members}
 use Rattle.calculus.proofs.CongruentSteps.{same-steps}
 use Rattle.calculus.proofs.Parallels.{Each}
 use Rattle.calculus.proofs.KnownNames.{each-mem}
-use Rattle.calculus.proofs.Purity.{proposition-2, proposition-4}
+use Rattle.calculus.proofs.Purity.{proposition-2, proposition-3, proposition-4}
 use Rattle.model.proofs.Basics.Tests.{alt}
 use Rattle.model.proofs.Formed.Reached.{reached}
 use Rattle.model.proofs.Sound.LoadAgrees.{load-agrees}
@@ -44,6 +44,7 @@ wraps-start : (b : Composition) (s : State) {P : Proc (Unit {0}) []} → load b 
 unfolding LoadAgrees
 wraps-start b s e (as-filter w) = symm (load-agrees b s e .0 w)
 wraps-start b s e (as-pipeline w) = symm (load-agrees b s e .1 w)
+wraps-start b s e (as-logging w) = symm (load-agrees b s e .2 w)
 
 pub wrapper-runs : WrapperRuns
 unfolding WrapperRuns RunsAreTransitions Reached
@@ -79,7 +80,7 @@ wrapper-pure b s ks ls A Q R l r p = pure-published b (afterAll b s ks) l R (led
 
 -- THE WRAPPER OF A LOAD THAT SUCCEEDS
 
--- it is the filter or the pipeline
+-- it is the filter, the pipeline or the logging wrapper
 loads-known : (b : Composition) (s : State) → load b ≡ ok s → isWrapper (b .wrapper) ≡ true
 unfolding load
 loads-known b s e = go (isWrapper (b .wrapper)) refl
@@ -89,12 +90,13 @@ loads-known b s e = go (isWrapper (b .wrapper)) refl
     go false h = let z : _≡_ {A = Bool} false true = ap isOk (rw (h, load) at e) in absurd (false≢true z)
 
 wrapper-of : (b : Composition) (s : State) → load b ≡ ok s → (P : Proc (Unit {0}) []) × Wraps b P
-wrapper-of b s e = by-number (eqb (b .wrapper) 1) refl (eqb (b .wrapper) 2) refl
+wrapper-of b s e = by-number (eqb (b .wrapper) 1) refl (eqb (b .wrapper) 2) refl (eqb (b .wrapper) 3) refl
   where
-    by-number : (t : Bool) → eqb (b .wrapper) 1 ≡ t → (u : Bool) → eqb (b .wrapper) 2 ≡ u → (P : Proc (Unit {0}) []) × Wraps b P
-    by-number true h u k = (W1 tt (handler (table b 1)), as-filter (eqb-true (b .wrapper) 1 h))
-    by-number false h true k = (W2 tt (handler (table b 1)) (handler (table b 2)), as-pipeline (eqb-true (b .wrapper) 2 k))
-    by-number false h false k = absurd (⊎-elim (λ q. false≢true (sym h ∙ q)) (λ q. false≢true (sym k ∙ q)) (alt _ _ (loads-known b s e)))
+    by-number : (t : Bool) → eqb (b .wrapper) 1 ≡ t → (u : Bool) → eqb (b .wrapper) 2 ≡ u → (v : Bool) → eqb (b .wrapper) 3 ≡ v → (P : Proc (Unit {0}) []) × Wraps b P
+    by-number true h u k v j = (W1 tt (handler (table b 1)), as-filter (eqb-true (b .wrapper) 1 h))
+    by-number false h true k v j = (W2 tt (handler (table b 1)) (handler (table b 2)), as-pipeline (eqb-true (b .wrapper) 2 k))
+    by-number false h false k true j = (L tt (handler (table b 1)), as-logging (eqb-true (b .wrapper) 3 j))
+    by-number false h false k false j = absurd (⊎-elim (λ q. false≢true (sym h ∙ q)) (λ q. ⊎-elim (λ q. false≢true (sym k ∙ q)) (λ q. false≢true (sym j ∙ q)) (alt _ _ q)) (alt _ _ (loads-known b s e)))
 
 pub tables-to-trace : TablesToTrace
 unfolding TablesToTrace RunsAreTransitions Reached WrapperRuns WrapperComplete
@@ -111,7 +113,7 @@ tables-to-trace b s e =
 
 -- ANY SEQUENCE
 
--- the labels of Propositions 2 and 4 are those of the description
+-- the labels of Propositions 2 to 4 are those of the description
 legit-pure : (b : Composition) (ins outs : List ℕ) → Each (λ x. (v : Val ℕ) → PureLabel b (recv x (aside parent) v)) ins → Each (λ x. (v : Val ℕ) → PureLabel b (send x (aside parent) v)) outs
     → {l : Label} → Legit ins outs l → PureLabel b l
 legit-pure b ins outs hi ho silent = pure-tau
@@ -135,9 +137,17 @@ module _ (ts : List Table) where
   pipeline-pure : (l : Label) → Legit (envIn 1 ∷ envIn 2 ∷ []) (envOut 1 ∷ envOut 2 ∷ []) l → PureLabel b2 l
   pipeline-pure l h = legit-pure b2 (envIn 1 ∷ envIn 2 ∷ []) (envOut 1 ∷ envOut 2 ∷ []) (λ v. pure-in 1 tt, (λ v. pure-in 2 tt, tt)) (λ v. pure-out 1 tt, (λ v. pure-out 2 tt, tt)) h
 
+  abbrev b3 : Composition
+  b3 = record { wrapper = 3; tables = ts }
+
+  logging-pure : (l : Label) → Legit (inName ∷ []) (outName ∷ logName ∷ []) l → PureLabel b3 l
+  logging-pure l h = legit-pure b3 (inName ∷ []) (outName ∷ logName ∷ []) (λ v. pure-in 1 tt, tt) (λ v. pure-out 1 tt, (λ v. pure-log refl, tt)) h
+
 pub sequences-pure : SequencesPure
-unfolding SequencesPure Proposition2 Proposition4
+unfolding SequencesPure Proposition2 Proposition3 Proposition4
 sequences-pure b P Q A ls (as-filter w) q =
     each-label (subst (λ (x : ℕ). (l : Label) → Legit (inName ∷ []) (outName ∷ []) l → PureLabel (record { wrapper = x; tables = b .tables }) l) (sym w) (filter-pure (b .tables))) ls (proposition-2 _ Q A ls q)
 sequences-pure b P Q A ls (as-pipeline w) q =
     each-label (subst (λ (x : ℕ). (l : Label) → Legit (envIn 1 ∷ envIn 2 ∷ []) (envOut 1 ∷ envOut 2 ∷ []) l → PureLabel (record { wrapper = x; tables = b .tables }) l) (sym w) (pipeline-pure (b .tables))) ls (proposition-4 _ _ Q A ls q)
+sequences-pure b P Q A ls (as-logging w) q =
+    each-label (subst (λ (x : ℕ). (l : Label) → Legit (inName ∷ []) (outName ∷ logName ∷ []) l → PureLabel (record { wrapper = x; tables = b .tables }) l) (sym w) (logging-pure (b .tables))) ls (proposition-3 _ Q A ls q)

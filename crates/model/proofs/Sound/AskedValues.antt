@@ -16,10 +16,10 @@ use Rattle.model.specs.Values.{items, isTuple, isName, isMinted, isValue
 use Rattle.model.specs.Side.{State}
 use Rattle.model.specs.Load.{Composition}
 use Rattle.model.specs.WellFormed.{Counts, wfValue, held, ready}
-use Rattle.model.specs.Step.{Label as Said, silent, enters, leaves, labelled, known}
+use Rattle.model.specs.Step.{Label as Said, silent, enters, leaves, logs, labelled, known}
 use Rattle.model.specs.Wrapper.{Wrapper}
 use Rattle.model.specs.Process.{vwords, vswords, vcount, upto, valOf, keep, knownOf, mintedOf}
-use Rattle.model.specs.Agreement.{foreign, someName, enterable, mintedNumber, Says, says-tau, says-in, says-out}
+use Rattle.model.specs.Agreement.{foreign, someName, enterable, mintedNumber, Says, says-tau, says-in, says-out, says-log}
 use Rattle.calculus.proofs.Renaming.{AllV-map}
 use Rattle.calculus.proofs.FreeNames.{mem-left, mem-right}
 use Rattle.model.proofs.Basics.Tests.{fst, snd, both, alt, alt-left, alt-right, append-nil, or-true, or-none, one-fails, or-cases}
@@ -206,10 +206,11 @@ pub not-strange : (k : Counts) (v : List ℕ) → wfValue k v ≡ true → T (no
 not-strange k v e = usual-names (valOf v) (wfVal-all (λ x. isName x ≡ true) k (held-name k) (alt-left _ _ refl) v e)
 
 -- such a value has a label, and so has a silent answer without a value
-pub spoken-says : (w : Wrapper) (n : ℕ) (k : Counts) (l : Said) (v : List ℕ) → Spoken k l v → (L : Label) × Says w (labelled l n v) L
+pub spoken-says : (w : Wrapper) (n : ℕ) (k : Counts) (l : Said) (v : List ℕ) → Spoken (w .copies) k l v → (L : Label) × Says w (labelled l n v) L
 spoken-says w n k silent v h = subst (λ (u : List ℕ). (L : Label) × Says w (labelled silent n u) L) (sym h) (tau, says-tau)
 spoken-says w n k enters v h = (recv (w .inlet n) (plain parent) (valOf v), says-in (value-written k v h) (not-strange k v h))
 spoken-says w n k leaves v h = (send (w .outlet n) (plain parent) (valOf v), says-out (value-written k v h) (not-strange k v h))
+spoken-says w n k logs v (h, (x, q)) = (send x (plain parent) (valOf v), says-log q (value-written k v h) (not-strange k v h))
 
 module _ (v : Val ℕ) (wr : T (not (someName isTuple (names v)))) (iv : isValue (vwords v) ≡ true) where
   words-ok : every worded (vwords v) ≡ true

@@ -1,30 +1,36 @@
 -- Each kind of step, seen at one side's items: the transition, and what stands where after it.
 use mathlib.Core.Path.{_≡_, refl, sym, ap, ap₂, _∙_, subst}
+use mathlib.Core.Bool.{Bool, true, cond}
 use mathlib.Core.List.{List, [], _∷_, _++_, map, append-assoc}
 use mathlib.Core.Option.{some}
 use Prim.Native.Nat.{ℕ}
 use native.Mathlib.Omega.{arith}
+use borrow.Author.Tests.{eqb-true, ne-eqb}
 use lib.Dec.{T}
 use lib.ListN.{set, getElem?}
-use Rattle.calculus.specs.Syntax.{Val, AllN, Proc, Tag, plain, receivedParent, receivedChild, replicated, Defined, sub, remark, comp, ITag}
-use Rattle.calculus.specs.Syntax.{nil as pnil, par as ppar, out as pout, within as iwithin, parent as iparent, child as ichild}
+use Rattle.calculus.specs.Syntax.{Val, AllN, Proc, Tag, plain, receivedParent, receivedChild, replicated, remark, comp, ITag}
+use Rattle.calculus.specs.Syntax.{nil as pnil, par as ppar, out as pout, parent as iparent, child as ichild}
 use Rattle.calculus.specs.Transitions.{Fn⊆, Label, tau, send, recv, Participants, lone, joint, Out}
 use Rattle.calculus.specs.Transitions.{Step as Trans}
 use Rattle.calculus.specs.Tree.{Place, fill}
 use Rattle.calculus.specs.Tree.{Item}
-use Rattle.calculus.specs.Wrappers.{forward}
-use Rattle.model.specs.Basics.{remove}
+use Rattle.calculus.specs.Wrappers.{forwardWith}
+use Rattle.model.specs.Basics.{every, remove}
 use Rattle.model.specs.Table.{Table}
 use Rattle.model.specs.Side.{Particle, output, input, Message, down, arrived, leaving, Core, Status as SPlace}
 use Rattle.model.specs.Wrapper.{Wrapper}
-use Rattle.model.specs.Process.{Mark, lobby, inert, numbered, partItem, msgProc, msgItem, sideItems}
+use Rattle.model.specs.Step.{copied}
+use Rattle.model.specs.Process.{Mark, lobby, inert, leavesAs, valOf, numbered, partItem, msgProc, msgItem, sideItems}
 use Rattle.calculus.proofs.Trees.{Wf, Reach, Has}
 use Rattle.calculus.proofs.Moves.{Rooted}
 use Rattle.calculus.proofs.Parallels.{recv-of}
-use Rattle.calculus.proofs.Bags.{item, at, Bag, bag-eq, bag-trans, bag-sym, bag-cons, bag-mid, bag-nil, bag-par, move-root, move-teem, move-rise, move-descend, ritem, ritems, ritems-app}
+use Rattle.calculus.proofs.Forwarders.{sends, body-inst, body-defined, sends-marks, copyItems, sends-bag}
+use Rattle.calculus.proofs.Bags.{item, at, Bag, bag-app, bag-comm, bag-refl, bag-eq, bag-trans, bag-sym, bag-cons, bag-mid, bag-nil, bag-par, move-root, move-teem, move-rise, move-descend, ritem, ritems, ritems-app}
 use Rattle.model.proofs.Processes.ItemFacts.{Each, each-at, out-beyond}
 use Rattle.model.proofs.Processes.StateTree.{part-marks, msg-marks}
-use Rattle.model.proofs.Basics.Splits.{split-at, numbered-map, map-add}
+use Rattle.model.proofs.Basics.Tests.{fst, snd}
+use Rattle.model.proofs.Basics.Splits.{split-at, numbered-map, map-add, map-app}
+use Rattle.model.proofs.Formed.Keeping.{isLog}
 
 abbrev pub ids : Mark → Mark
 ids m = m
@@ -76,8 +82,8 @@ module _ {X : Type 0} where
   last2 : (c m p d : List X) → c ++ ((m ++ p) ++ d) ≡ (c ++ (m ++ p)) ++ d
   last2 c m p d = simp append-assoc
 
-  last3 : (c m p d : List X) (x : X) → c ++ (((m ++ x ∷ []) ++ p) ++ d) ≡ (c ++ m) ++ x ∷ (p ++ d)
-  last3 c m p d x = simp append-assoc
+  last3 : (c m x p d : List X) → c ++ (((m ++ x) ++ p) ++ d) ≡ (c ++ m) ++ (x ++ (p ++ d))
+  last3 c m x p d = simp append-assoc
 
   last4 : (c m p d : List X) → c ++ ((m ++ p) ++ d) ≡ (c ++ m) ++ (p ++ d)
   last4 c m p d = simp append-assoc
@@ -152,14 +158,18 @@ module _ (A : List ℕ) (bs : List (Place Mark)) (wf : Wf A bs) (ro : Rooted bs)
       }
 
   -- a forwarder takes a value from the environment, or from an output behind it
-  abbrev pub fwd : Mark → ℕ → ITag ℕ → ℕ → ITag ℕ → Proc Mark []
-  fwd t x i z o = forward [] t inert x i z o
+  abbrev pub fwd : List ℕ → Mark → ℕ → ITag ℕ → ℕ → ITag ℕ → Proc Mark []
+  fwd cs t x i z o = forwardWith [] t inert cs x i z o
 
-  sent-on : {t : Mark} {x : ℕ} {i : ITag ℕ} {z : ℕ} {v : Val ℕ} {u : Mark} (o : ITag ℕ) → Fn⊆ (fwd t x i z o) A → Trans A (fwd t x i z o) (recv x (plain i) v) (joint u t) (ppar (fwd t x i z o) (pout inert z (plain o) v))
-  unfolding sub Defined
-  sent-on {v = v} iwithin h = recv-of replicated {σ = λ y. v} h refl (tt, tt)
-  sent-on {v = v} iparent h = recv-of replicated {σ = λ y. v} h refl (tt, tt)
-  sent-on {v = v} (ichild n) h = recv-of replicated {σ = λ y. v} h refl (tt, tt)
+  -- the copies that it sends, and the message
+  abbrev sent : List ℕ → ℕ → ITag ℕ → Val ℕ → Proc Mark []
+  sent cs z o v = sends inert cs v (pout inert z (plain o) v)
+
+  sent-on : (cs : List ℕ) {t : Mark} {x : ℕ} {i : ITag ℕ} (z : ℕ) {v : Val ℕ} {u : Mark} (o : ITag ℕ) → Fn⊆ (fwd cs t x i z o) A
+      → Trans A (fwd cs t x i z o) (recv x (plain i) v) (joint u t) (ppar (fwd cs t x i z o) (sent cs z o v))
+  sent-on cs {t} {x} {i} z {v} {u} o h =
+      subst (λ (Q : Proc Mark []). Trans A (fwd cs t x i z o) (recv x (plain i) v) (joint u t) (ppar (fwd cs t x i z o) Q)) (body-inst inert cs z o v)
+      (recv-of replicated {σ = λ y. v} h refl (body-defined inert cs z o v))
 
   -- a process beside another is an item more
   pub par-of : (X Y : List (Item Mark)) (b : ℕ) (P Q : Proc Mark []) → Bag (ritems forget (X ++ item b (ppar P Q) ∷ Y)) (item b (remark forget Q) ∷ ritems forget (X ++ item b P ∷ Y))
@@ -171,33 +181,42 @@ module _ (A : List ℕ) (bs : List (Place Mark)) (wf : Wf A bs) (ro : Rooted bs)
       (bag-trans (bag-mid (item b (remark forget P) ∷ []) (item b (remark forget Q)) (ritems forget X ++ ritems forget Y))
       (bag-cons (item b (remark forget Q)) (bag-trans (bag-sym (bag-mid (ritems forget X) (item b (remark forget P)) (ritems forget Y))) (bag-eq (sym (ritems-app forget X (item b P ∷ Y)))))))))
 
-  pub go-in : {I : List (Item Mark)} {t : Mark} {x : ℕ} {i : ITag ℕ} {z : ℕ} {o : ITag ℕ} {v : Val ℕ} (u : Mark) (X Y : List (Item Mark)) → I ≡ X ++ item 0 (fwd t x i z o) ∷ Y → Each A I
-      → Moves A bs I (recv x (plain i) v) (joint u t) (item 0 (pout tt z (plain o) v) ∷ ritems forget I)
+  -- a forwarder beside what it sent: its copies and its message are items more
+  pub sent-of : (X Y : List (Item Mark)) (P : Proc Mark []) (cs : List ℕ) (z : ℕ) (o : ITag ℕ) (v : Val ℕ)
+      → Bag (ritems forget (X ++ item 0 (ppar P (sent cs z o v)) ∷ Y)) (copyItems tt cs v ++ item 0 (pout tt z (plain o) v) ∷ ritems forget (X ++ item 0 P ∷ Y))
   unfolding remark
-  go-in {I} {t} {x} {i} {z} {o} {v} u X Y is each =
-      let e : Each A (X ++ item 0 (fwd t x i z o) ∷ Y) = subst (λ (L : List (Item Mark)). Each A L) is each in
+  sent-of X Y P cs z o v =
+      bag-trans (par-of X Y 0 P (sent cs z o v))
+      (bag-trans (bag-eq (ap (λ (Q : Proc (Unit {0}) []). item 0 Q ∷ ritems forget (X ++ item 0 P ∷ Y)) (sends-marks forget inert cs v (pout inert z (plain o) v))))
+      (sends-bag tt cs v (pout tt z (plain o) v) (ritems forget (X ++ item 0 P ∷ Y))))
+
+  pub go-in : {I : List (Item Mark)} (cs : List ℕ) {t : Mark} {x : ℕ} {i : ITag ℕ} (z : ℕ) (o : ITag ℕ) {v : Val ℕ} (u : Mark) (X Y : List (Item Mark)) → I ≡ X ++ item 0 (fwd cs t x i z o) ∷ Y → Each A I
+      → Moves A bs I (recv x (plain i) v) (joint u t) (copyItems tt cs v ++ item 0 (pout tt z (plain o) v) ∷ ritems forget I)
+  go-in {I} cs {t} {x} {i} z o {v} u X Y is each =
+      let F = fwd cs t x i z o in
+      let e : Each A (X ++ item 0 F ∷ Y) = subst (λ (L : List (Item Mark)). Each A L) is each in
       record {
-        J = X ++ item 0 (ppar (fwd t x i z o) (pout inert z (plain o) v)) ∷ Y;
-        step = subst (λ (L : List (Item Mark)). Trans A (fill bs (at L)) (recv x (plain i) v) (joint u t) (fill bs (at (X ++ item 0 (ppar (fwd t x i z o) (pout inert z (plain o) v)) ∷ Y)))) (sym is)
-            (move-root A bs wf X Y (each-at A (X ++ item 0 (fwd t x i z o) ∷ Y) e) (sent-on o (each-mid A X (item 0 (fwd t x i z o)) Y e)));
-        bag = bag-trans (par-of X Y 0 (fwd t x i z o) (pout inert z (plain o) v)) (bag-eq (ap (λ (L : List (Item Mark)). item 0 (pout tt z (plain o) v) ∷ ritems forget L) (sym is)));
+        J = X ++ item 0 (ppar F (sent cs z o v)) ∷ Y;
+        step = subst (λ (L : List (Item Mark)). Trans A (fill bs (at L)) (recv x (plain i) v) (joint u t) (fill bs (at (X ++ item 0 (ppar F (sent cs z o v)) ∷ Y)))) (sym is)
+            (move-root A bs wf X Y (each-at A (X ++ item 0 F ∷ Y) e) (sent-on cs z o (each-mid A X (item 0 F) Y e)));
+        bag = bag-trans (sent-of X Y F cs z o v) (bag-eq (ap (λ (L : List (Item Mark)). copyItems tt cs v ++ item 0 (pout tt z (plain o) v) ∷ ritems forget L) (sym is)));
       }
 
-  pub go-on : {I : List (Item Mark)} {t s : Mark} {z : ℕ} {o : ITag ℕ} {v : Val ℕ} (x : ℕ) (i : ITag ℕ) (r : Reach bs 0) (X Y Z : List (Item Mark)) →
-      I ≡ X ++ item 0 (fwd t x i z o) ∷ (Y ++ item 0 (pout s x (comp (plain i)) v) ∷ Z) → Each A I
-      → Moves A bs I tau (joint s t) (item 0 (pout tt z (plain o) v) ∷ ritems forget (X ++ item 0 (fwd t x i z o) ∷ (Y ++ Z)))
-  unfolding remark AllN
-  go-on {I} {t} {s} {z} {o} {v} x i r X Y Z is each =
-      let F = fwd t x i z o in
+  pub go-on : {I : List (Item Mark)} (cs : List ℕ) {t s : Mark} (z : ℕ) (o : ITag ℕ) (v : Val ℕ) (x : ℕ) (i : ITag ℕ) (r : Reach bs 0) (X Y Z : List (Item Mark)) →
+      I ≡ X ++ item 0 (fwd cs t x i z o) ∷ (Y ++ item 0 (pout s x (comp (plain i)) v) ∷ Z) → Each A I
+      → Moves A bs I tau (joint s t) (copyItems tt cs v ++ item 0 (pout tt z (plain o) v) ∷ ritems forget (X ++ item 0 (fwd cs t x i z o) ∷ (Y ++ Z)))
+  unfolding AllN
+  go-on {I} cs {t} {s} z o v x i r X Y Z is each =
+      let F = fwd cs t x i z o in
       let e : Each A (X ++ item 0 F ∷ (Y ++ item 0 (pout s x (comp (plain i)) v) ∷ Z)) = subst (λ (L : List (Item Mark)). Each A L) is each in
       let fo = each-mid A (X ++ item 0 F ∷ Y) (item 0 (pout s x (comp (plain i)) v)) Z (subst (λ (L : List (Item Mark)). Each A L) (sym (append-assoc X (item 0 F ∷ Y) (item 0 (pout s x (comp (plain i)) v) ∷ Z))) e) in
       record {
-        J = X ++ item 0 (ppar F (pout inert z (plain o) v)) ∷ (Y ++ item 0 pnil ∷ Z);
-        step = subst (λ (L : List (Item Mark)). Trans A (fill bs (at L)) tau (joint s t) (fill bs (at (X ++ item 0 (ppar F (pout inert z (plain o) v)) ∷ (Y ++ item 0 pnil ∷ Z))))) (sym is)
+        J = X ++ item 0 (ppar F (sent cs z o v)) ∷ (Y ++ item 0 pnil ∷ Z);
+        step = subst (λ (L : List (Item Mark)). Trans A (fill bs (at L)) tau (joint s t) (fill bs (at (X ++ item 0 (ppar F (sent cs z o v)) ∷ (Y ++ item 0 pnil ∷ Z))))) (sym is)
             (move-teem A bs wf {g = plain i} X Y Z 0 r (each-at A (X ++ item 0 F ∷ (Y ++ item 0 (pout s x (comp (plain i)) v) ∷ Z)) e) (out-beyond A x v (fo .0) (fo .2)) (Out fo)
-            (sent-on o (each-mid A X (item 0 F) (Y ++ item 0 (pout s x (comp (plain i)) v) ∷ Z) e)));
-        bag = bag-trans (par-of X (Y ++ item 0 pnil ∷ Z) 0 F (pout inert z (plain o) v))
-            (bag-cons (item 0 (pout tt z (plain o) v)) (without X Y Z F));
+            (sent-on cs z o (each-mid A X (item 0 F) (Y ++ item 0 (pout s x (comp (plain i)) v) ∷ Z) e)));
+        bag = bag-trans (sent-of X (Y ++ item 0 pnil ∷ Z) F cs z o v)
+            (bag-app (bag-refl {X = copyItems tt cs v}) (bag-cons (item 0 (pout tt z (plain o) v)) (without X Y Z F)));
       }
     where
       without : (X Y Z : List (Item Mark)) (F : Proc Mark []) → Bag (ritems forget (X ++ item 0 F ∷ (Y ++ item 0 pnil ∷ Z))) (ritems forget (X ++ item 0 F ∷ (Y ++ Z)))
@@ -285,9 +304,34 @@ module _ (w : Wrapper) (side : ℕ) (T : Table) (C D : List (Item Mark)) (s : Co
       (bag-eq (sym (last1 (ritems forget C) (map (plainM w side) l) (map (plainP T side) ps) (ritems forget D) (plainP T side p))
       ∙ ap (λ (a : List (Item (Unit {0}))). ritems forget C ++ ((map (plainM w side) l ++ a) ++ ritems forget D)) (sym (map-add (plainP T side) ps p)))))
 
+  -- messages more at the end are items more
+  pub add-msgs : (l ms : List Message) (ps : List Particle) → Bag (map (plainM w side) ms ++ target l ps) (target (l ++ ms) ps)
+  add-msgs l ms ps =
+      let A = ritems forget C ++ map (plainM w side) l in
+      let B = map (plainP T side) ps ++ ritems forget D in
+      let N = map (plainM w side) ms in
+      bag-trans (bag-app (bag-refl {X = N}) (bag-eq (last4 (ritems forget C) (map (plainM w side) l) (map (plainP T side) ps) (ritems forget D))))
+      (bag-trans (bag-eq (sym (append-assoc N A B)))
+      (bag-trans (bag-app (bag-comm N A) (bag-refl {X = B}))
+      (bag-eq (append-assoc A N B ∙ sym (last3 (ritems forget C) (map (plainM w side) l) N (map (plainP T side) ps) (ritems forget D))
+      ∙ ap (λ (a : List (Item (Unit {0}))). ritems forget C ++ ((a ++ map (plainP T side) ps) ++ ritems forget D)) (sym (map-app (plainM w side) l ms))))))
+
   pub add-msg : (l : List Message) (m : Message) (ps : List Particle) → Bag (plainM w side m ∷ target l ps) (target (l ++ m ∷ []) ps)
-  add-msg l m ps =
-      bag-trans (bag-cons (plainM w side m) (bag-eq (last4 (ritems forget C) (map (plainM w side) l) (map (plainP T side) ps) (ritems forget D))))
-      (bag-trans (bag-sym (bag-mid (ritems forget C ++ map (plainM w side) l) (plainM w side m) (map (plainP T side) ps ++ ritems forget D)))
-      (bag-eq (sym (last3 (ritems forget C) (map (plainM w side) l) (map (plainP T side) ps) (ritems forget D) (plainM w side m))
-      ∙ ap (λ (a : List (Item (Unit {0}))). ritems forget C ++ ((a ++ map (plainP T side) ps) ++ ritems forget D)) (sym (map-add (plainM w side) l m)))))
+  add-msg l m ps = add-msgs l (m ∷ []) ps
+
+  -- a leaving copy is an output on its own channel, as `log` is not `out`
+  pub copied-items : (cs v : List ℕ) → every isLog cs ≡ true → map (plainM w side) (copied cs v) ≡ copyItems tt cs (valOf v)
+  copied-items [] v h = refl
+  copied-items (c ∷ cs) v h =
+      ap₂ (λ (x : ℕ) (r : List (Item (Unit {0}))). item 0 (pout tt x (plain iparent) (valOf v)) ∷ r) (not-out c (fst _ _ h)) (copied-items cs v (snd _ _ h))
+    where
+      not-out : (c : ℕ) → isLog c ≡ true → leavesAs w side c ≡ c
+      not-out c q = ap (λ (t : Bool). cond t (w .outlet side) c) (ne-eqb c 1 (λ z. let y = eqb-true c 3 q in omega arith))
+
+  -- what a forwarder has sent is copies and a message more at the end of the lobby
+  pub add-sent : (cs v : List ℕ) → every isLog cs ≡ true → (l : List Message) (m : Message) (ps : List Particle)
+      → Bag (copyItems tt cs (valOf v) ++ plainM w side m ∷ target l ps) (target (l ++ (copied cs v ++ m ∷ [])) ps)
+  add-sent cs v h l m ps =
+      bag-trans (bag-eq (ap (λ (a : List (Item (Unit {0}))). a ++ plainM w side m ∷ target l ps) (sym (copied-items cs v h))
+      ∙ sym (append-assoc (map (plainM w side) (copied cs v)) (plainM w side m ∷ []) (target l ps)) ∙ ap (λ (a : List (Item (Unit {0}))). a ++ target l ps) (sym (map-app (plainM w side) (copied cs v) (m ∷ [])))))
+      (add-msgs l (copied cs v ++ m ∷ []) ps)

@@ -1,6 +1,6 @@
 -- What an answer says, taken apart; the value of a label by its words; the place of a step by its fields.
 use mathlib.Core.Path.{_≡_, refl, sym, ap, ap₂, _∙_, subst}
-use mathlib.Core.Bool.{Bool, true, false, not, _&&_, _||_}
+use mathlib.Core.Bool.{Bool, true, false, not, cond, false≢true, _&&_, _||_}
 use mathlib.Core.List.{List, [], _∷_, _++_}
 use mathlib.Core.Logic.{⊎-elim}
 use Prim.Native.Nat.{ℕ, suc, _<_}
@@ -12,26 +12,48 @@ use lib.ListN.{length, getElem?}
 use Rattle.calculus.specs.Syntax.{Val, Vals, nm, tup, vnil, vcons, AllV, AllVs, plain}
 use Rattle.calculus.specs.Syntax.{parent as iparent}
 use Rattle.calculus.specs.Transitions.{Label, tau, send, recv, lone, joint, names, namess}
-use Rattle.model.specs.Basics.{every}
+use Rattle.model.specs.Basics.{_or_, every, has}
 use Rattle.model.specs.Values.{isTuple}
-use Rattle.model.specs.Step.{Step, silent, enters, leaves, Answer, labelled, refusal}
+use Rattle.model.specs.Step.{Step, silent, enters, leaves, logs, leavingOn, Answer, labelled, refusal}
 use Rattle.model.specs.Wrapper.{Wrapper, Route}
-use Rattle.model.specs.Process.{Mark, part, boxed, lobby, shelf, enterer, passer, taker, vwords, valOf}
-use Rattle.model.specs.Agreement.{foreign, someName, enterable, At, Says, says-tau, says-in, says-out, enter, goDown, goUp, descend, meet, pass, leave, take}
+use Rattle.model.specs.Process.{Mark, part, boxed, lobby, shelf, enterer, passer, taker, leavesAs, vwords, valOf}
+use Rattle.model.specs.Agreement.{foreign, someName, enterable, At, Says, says-tau, says-in, says-out, says-log, enter, goDown, goUp, descend, meet, pass, leave, take}
 use Rattle.calculus.proofs.Renaming.{AllV-map}
-use Rattle.model.proofs.Basics.Tests.{fst, or-none, or-cases, and-right}
+use Rattle.model.proofs.Basics.Tests.{fst, alt, has-every, or-none, or-cases, and-right}
+use Rattle.model.proofs.Formed.Keeping.{isLog}
 use Rattle.model.proofs.Processes.ValueWords.{worded, val-back}
 
 abbrev pub SaysInv : Wrapper → Answer → Label → Type 0
 SaysInv w (labelled silent n v) l = l ≡ tau
 SaysInv w (labelled enters n v) l = (u : Val ℕ) × (v ≡ vwords u) × T (not (foreign u)) × (l ≡ recv (w .inlet n) (plain iparent) u)
 SaysInv w (labelled leaves n v) l = (u : Val ℕ) × (v ≡ vwords u) × T (not (foreign u)) × (l ≡ send (w .outlet n) (plain iparent) u)
+SaysInv w (labelled logs n v) l = (u : Val ℕ) × (v ≡ vwords u) × T (not (foreign u)) × ((x : ℕ) × (has x (w .copies) ≡ true) × (l ≡ send x (plain iparent) u))
 SaysInv w (refusal k n) l = ⊥
 
 pub says-inv : {w : Wrapper} {a : Answer} {l : Label} → Says w a l → SaysInv w a l
 says-inv says-tau = refl
 says-inv (says-in {v = v} e h) = (v, e, h, refl)
 says-inv (says-out {v = v} e h) = (v, e, h, refl)
+says-inv (says-log {c = c} {v = v} q e h) = (v, e, h, (c, q, refl))
+
+-- what is said of a message that leaves on a channel: an output on the environment's name of the channel
+module _ (w : Wrapper) (cl : every isLog (w .copies) ≡ true) (n c : ℕ) (ok : eqb c 1 or has c (w .copies) ≡ true) where
+  copy-log : (x : ℕ) → has x (w .copies) ≡ true → x ≡ 3
+  copy-log x q = eqb-true x 3 (has-every isLog (w .copies) x cl q)
+
+  pub left-inv : (v : List ℕ) (l : Label) → SaysInv w (labelled (leavingOn c) n v) l → (u : Val ℕ) × (v ≡ vwords u) × T (not (foreign u)) × (l ≡ send (leavesAs w n c) (plain iparent) u)
+  left-inv v l h = go (eqb c 1) refl h
+    where
+      go : (t : Bool) → eqb c 1 ≡ t → SaysInv w (labelled (cond t leaves logs) n v) l → (u : Val ℕ) × (v ≡ vwords u) × T (not (foreign u)) × (l ≡ send (cond t (w .outlet n) c) (plain iparent) u)
+      go true q h = h
+      go false q (u, e, f, (x, y, z)) = (u, e, f, z ∙ ap (λ (k : ℕ). send k (plain iparent) u) (copy-log x y ∙ sym (copy-log c (⊎-elim (λ p. absurd (false≢true (sym q ∙ p))) (λ p. p) (alt _ _ ok)))))
+
+  pub left-says : (v : List ℕ) (u : Val ℕ) → v ≡ vwords u → T (not (foreign u)) → Says w (labelled (leavingOn c) n v) (send (leavesAs w n c) (plain iparent) u)
+  left-says v u e f = go (eqb c 1) refl
+    where
+      go : (t : Bool) → eqb c 1 ≡ t → Says w (labelled (cond t leaves logs) n v) (send (cond t (w .outlet n) c) (plain iparent) u)
+      go true q = says-out e f
+      go false q = says-log (⊎-elim (λ p. absurd (false≢true (sym q ∙ p))) (λ p. p) (alt _ _ ok)) e f
 
 -- a value without strange names
 some-app : (f : ℕ → Bool) (l m : List ℕ) → someName f (l ++ m) ≡ false → (someName f l ≡ false) × (someName f m ≡ false)

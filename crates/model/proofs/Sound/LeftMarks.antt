@@ -1,6 +1,6 @@
 -- A side's marks of names that have left, after a step.
 use mathlib.Core.Path.{_≡_, refl, sym, ap, _∙_, subst}
-use mathlib.Core.Bool.{Bool, true, false, _||_}
+use mathlib.Core.Bool.{Bool, true, false, cond, _||_}
 use mathlib.Core.List.{List, [], _∷_}
 use mathlib.Core.Logic.{_⊎_, inl, inr}
 use Prim.Native.Nat.{ℕ}
@@ -13,7 +13,7 @@ use Rattle.model.specs.Wrapper.{hasSide}
 use Rattle.model.specs.Side.{State, side, putSide}
 use Rattle.model.specs.Load.{Composition, wrapperOf}
 use Rattle.model.specs.WellFormed.{ready}
-use Rattle.model.specs.Step.{Step, Label, silent, enters, leaves, Moved, labelled, answerOf, sideAfter, marks, marked, Result, step}
+use Rattle.model.specs.Step.{Step, Label, silent, enters, leaves, logs, Moved, labelled, answerOf, sideAfter, marks, markAll, marked, Result, step}
 use Rattle.model.specs.Runs.{RefusedWhole, leftBy, LeftMarks}
 use Rattle.model.proofs.Basics.Sides.{put-same, put-other}
 use Rattle.model.proofs.Formed.Invariant.{which}
@@ -35,10 +35,14 @@ module _ (b : Composition) (s : State) (x : Step) (w : ℕ) (e : ready b s ≡ t
   abbrev before : List Bool
   before = side s (x .side) .left
 
+  by-mark : (v : List ℕ) → marked (markAll before v) w ≡ (marked before w || has w (cond (has (x .side) (x .side ∷ [])) v []))
+  by-mark v = marked-all v before w (left-size b s (x .side) e (which (b .wrapper) (x .side) h)) m ∙ ap (λ (t : Bool). marked before w || t) (has-is w v ∙ rw (eq-eqb (x .side) (x .side) refl))
+
   by-label : (l : Label) (v : List ℕ) → marked (marks l v before) w ≡ (marked before w || has w (leftBy (x .side ∷ []) (labelled l (x .side) v)))
   by-label silent v = or-none _
   by-label enters v = or-none _
-  by-label leaves v = marked-all v before w (left-size b s (x .side) e (which (b .wrapper) (x .side) h)) m ∙ ap (λ (t : Bool). marked before w || t) (has-is w v ∙ rw (eq-eqb (x .side) (x .side) refl))
+  by-label leaves v = by-mark v
+  by-label logs v = by-mark v
 
   own : (r : Res Moved) → marked (sideAfter (side s (x .side)) r .left) w ≡ (marked before w || has w (leftBy (x .side ∷ []) (answerOf (x .side) r)))
   own (refuse k) = or-none _
@@ -53,6 +57,7 @@ not-by n k d (done y) = by-label (y .label)
     by-label silent = refl
     by-label enters = refl
     by-label leaves = rw (ne-eqb k n (λ q. d (sym q)))
+    by-label logs = rw (ne-eqb k n (λ q. d (sym q)))
 
 -- what is said of a side's marks, of a result of the step
 abbrev Kept : State → (n w : ℕ) → Result → Type 0

@@ -15,7 +15,8 @@ use Rattle.calculus.specs.Tree.{fill}
 use Rattle.calculus.specs.Tree.{Item}
 use Rattle.calculus.specs.Tree.{process}
 use Rattle.calculus.specs.Named.{Code, proc, public}
-use Rattle.calculus.specs.Wrappers.{W1, W2, two-scope, far}
+use Rattle.calculus.specs.Wrappers.{W1, W2, L, two-scope, far}
+use Rattle.model.specs.Wrapper.{described, hasSide}
 use Rattle.model.specs.Basics.{_&_, _or_}
 use Rattle.model.specs.Values.{noNames}
 use Rattle.model.specs.Table.{Table, term}
@@ -74,11 +75,18 @@ unfolding wfSide wfCore wfContents wfBoxes wfLeft wfTaken _&_ _or_ limits
 empty-side c k sh = refl
 
 module _ (ts : List Table) where
+  abbrev wrapped : ℕ → Composition
+  wrapped w = record { wrapper = w; tables = ts }
+
+  -- with the filter, the pipeline and the logging wrapper
   abbrev b1 : Composition
-  b1 = record { wrapper = 1; tables = ts }
+  b1 = wrapped 1
 
   abbrev b2 : Composition
-  b2 = record { wrapper = 2; tables = ts }
+  b2 = wrapped 2
+
+  abbrev b3 : Composition
+  b3 = wrapped 3
 
   abbrev T1 : Table
   T1 = table b1 1
@@ -127,23 +135,39 @@ module _ (ts : List Table) where
   abbrev plainOf : Composition → State → List (Item (Unit {0})) → Proc (Unit {0}) []
   plainOf b s I = restrict (newOf b s) (fill (rplaces forget (confOf b s .boxes)) (at I))
 
+  -- a wrapper of side 1 alone: the process of a start, by that of the handler beside an empty side
+  alone : (w : ℕ) (h : hasSide (described w) 1 ≡ true) (X : Proc (Unit {0}) []) → ready (wrapped w) s01 ≡ true →
+      plainOf (wrapped w) s01 (item (siteOf 1 0) P1 ∷ ritems forget (confOf (wrapped w) s01 .items)) ≋ X →
+      Checked T1 → withinLimits (start 1 T1) ≡ true → plainly (process (confOf (wrapped w) s11)) ≋ X
+  unfolding start view
+  alone w h X e starts c r =
+      let b = wrapped w in
+      let vw = view b s01 e 1 h in
+      let si = root-sits T1 c in
+      let few : start 1 T1 .minted ≤ 256 = leb-true (start 1 T1 .minted) 256 (snd _ _ (snd _ _ r)) in
+      subst (λ (P : Proc (Unit {0}) []). P ≋ X) (sym (plain-process b s11))
+      (trans (symm (subst₂ (λ (ρ : ℕ → Val ℕ) (I : List (Item (Unit {0}))). plainOf b s01 (item (siteOf 1 0) (proc [] tt (codeOf (term T1 0)) ρ) ∷ I) ≋ plainOf b s11 (ritems forget (confOf b s11 .items))) env-none
+      (sym (whole° (wrapperOf b) 1 T1 (vw .C) (vw .D) (vw .core)) ∙ ap (ritems forget) (sym (vw .items-now)))
+      (grown-cong b s01 e (view b s01 e 1 h) (orient b s01 e 1 h) (refl, refl) [] tt (λ k. refl) si noNames refl refl refl (fits-names si noNames refl) 0 (omega arith) [] refl few)))
+      starts)
+
+  -- the handler in the wrapper's box
+  boxed : ppar (closed 81 P1) pnil ≋ ren {r = var ∷ []} P1 inr
+  boxed = trans par-nil (subst (λ (X : Proc (Unit {0}) (var ∷ [])). X ≋ ren {r = var ∷ []} P1 inr) (sym (closed-fresh 81 P1 (fresh-of 81 (omega arith) (codeOf (term T1 0))))) rfl)
+
   -- the filter
   start-is : plainOf b1 s01 (item (siteOf 1 0) P1 ∷ ritems forget (confOf b1 s01 .items)) ≋ W1 tt P1
   unfolding newOf confAs remark restrict fill ren
-  start-is = in-new (in-par (in-box (trans par-nil (subst (λ (X : Proc (Unit {0}) (var ∷ [])). X ≋ ren {r = var ∷ []} P1 inr) (sym (closed-fresh 81 P1 (fresh-of 81 (omega arith) (codeOf (term T1 0))))) rfl))) rfl)
+  start-is = in-new (in-par (in-box boxed) rfl)
 
-  filter : isOk (load b1) ≡ true → Checked T1 → withinLimits (start 1 T1) ≡ true → plainly (process (confOf b1 s11)) ≋ W1 tt P1
-  unfolding start view
-  filter l c r =
-      let e = ready01 l in
-      let vw = view b1 s01 e 1 refl in
-      let si = root-sits T1 c in
-      let few : start 1 T1 .minted ≤ 256 = leb-true (start 1 T1 .minted) 256 (snd _ _ (snd _ _ r)) in
-      subst (λ (P : Proc (Unit {0}) []). P ≋ W1 tt P1) (sym (plain-process b1 s11))
-      (trans (symm (subst₂ (λ (ρ : ℕ → Val ℕ) (I : List (Item (Unit {0}))). plainOf b1 s01 (item (siteOf 1 0) (proc [] tt (codeOf (term T1 0)) ρ) ∷ I) ≋ plainOf b1 s11 (ritems forget (confOf b1 s11 .items))) env-none
-      (sym (whole° (wrapperOf b1) 1 T1 (vw .C) (vw .D) (vw .core)) ∙ ap (ritems forget) (sym (vw .items-now)))
-      (grown-cong b1 s01 e (view b1 s01 e 1 refl) (orient b1 s01 e 1 refl) (refl, refl) [] tt (λ k. refl) si noNames refl refl refl (fits-names si noNames refl) 0 (omega arith) [] refl few)))
-      start-is)
+  -- the logging wrapper
+  ready03 : isOk (load b3) ≡ true → ready b3 s01 ≡ true
+  unfolding ready wfState wfSideOf
+  ready03 e = both _ _ e (both _ _ refl (both _ _ (empty-side (setting b3 1) _ _) (both _ _ no-side refl)))
+
+  start3-is : plainOf b3 s01 (item (siteOf 1 0) P1 ∷ ritems forget (confOf b3 s01 .items)) ≋ L tt P1
+  unfolding newOf confAs remark restrict fill ren
+  start3-is = in-new (in-par (in-box boxed) rfl)
 
   -- the pipeline
   start2-is : plainOf b2 s02 (item (siteOf 1 0) P1 ∷ item (siteOf 2 0) P2 ∷ ritems forget (confOf b2 s02 .items)) ≋ W2 tt P1 P2
@@ -189,7 +213,12 @@ module _ (ts : List Table) where
   pub one-agrees : (s : State) → load b1 ≡ ok s → plainly (process (confOf b1 s)) ≋ W1 tt P1
   one-agrees s e =
       let a = load-checked b1 (ap isOk e) 1 refl in
-      subst (λ (t : State). plainly (process (confOf b1 t)) ≋ W1 tt P1) (load-state b1 s e) (filter (ap isOk e) (a .0) (a .1))
+      subst (λ (t : State). plainly (process (confOf b1 t)) ≋ W1 tt P1) (load-state b1 s e) (alone 1 refl (W1 tt P1) (ready01 (ap isOk e)) start-is (a .0) (a .1))
+
+  pub three-agrees : (s : State) → load b3 ≡ ok s → plainly (process (confOf b3 s)) ≋ L tt P1
+  three-agrees s e =
+      let a = load-checked b3 (ap isOk e) 1 refl in
+      subst (λ (t : State). plainly (process (confOf b3 t)) ≋ L tt P1) (load-state b3 s e) (alone 3 refl (L tt P1) (ready03 (ap isOk e)) start3-is (a .0) (a .1))
 
   pub two-agrees : (s : State) → load b2 ≡ ok s → plainly (process (confOf b2 s)) ≋ W2 tt P1 P2
   two-agrees s e =
@@ -199,11 +228,15 @@ module _ (ts : List Table) where
 
 pub load-agrees : LoadAgrees
 unfolding LoadAgrees
-load-agrees b s e = (λ w. as-W1 w e, λ w. as-W2 w e)
+load-agrees b s e = (λ w. as-W1 w e, λ w. as-W2 w e, λ w. as-L w e)
   where
     as-W1 : b .wrapper ≡ 1 → load b ≡ ok s → plainly (process (confOf b s)) ≋ W1 tt (proc [] tt (codeOf (term (table b 1) 0)) public)
     as-W1 w = subst (λ (x : ℕ). load (record { wrapper = x; tables = b .tables }) ≡ ok s →
         plainly (process (confOf (record { wrapper = x; tables = b .tables }) s)) ≋ W1 tt (proc [] tt (codeOf (term (table b 1) 0)) public)) (sym w) (one-agrees (b .tables) s)
+
+    as-L : b .wrapper ≡ 3 → load b ≡ ok s → plainly (process (confOf b s)) ≋ L tt (proc [] tt (codeOf (term (table b 1) 0)) public)
+    as-L w = subst (λ (x : ℕ). load (record { wrapper = x; tables = b .tables }) ≡ ok s →
+        plainly (process (confOf (record { wrapper = x; tables = b .tables }) s)) ≋ L tt (proc [] tt (codeOf (term (table b 1) 0)) public)) (sym w) (three-agrees (b .tables) s)
 
     as-W2 : b .wrapper ≡ 2 → load b ≡ ok s → plainly (process (confOf b s)) ≋ W2 tt (proc [] tt (codeOf (term (table b 1) 0)) public) (proc [] tt (codeOf (term (table b 2) 0)) public)
     as-W2 w = subst (λ (x : ℕ). load (record { wrapper = x; tables = b .tables }) ≡ ok s →

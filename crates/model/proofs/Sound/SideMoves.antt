@@ -8,7 +8,7 @@ use Prim.Native.Nat.{ℕ, zero, suc, _≤_}
 use native.Mathlib.Omega.{arith}
 use borrow.Author.Tests.{eqb-true, ne-eqb, not-true}
 use lib.Dec.{eqb}
-use lib.ListN.{length, getElem?}
+use lib.ListN.{length, set, getElem?}
 use Rattle.calculus.specs.Syntax.{plain, receivedChild}
 use Rattle.calculus.specs.Syntax.{out as pout, parent as iparent, child as ichild}
 use Rattle.calculus.specs.Transitions.{tau, send, recv, Participants, lone, joint}
@@ -18,18 +18,19 @@ use Rattle.calculus.specs.Wrappers.{outName}
 use Rattle.model.specs.Basics.{_or_, done, every, remove, pick}
 use Rattle.model.specs.Side.{Particle, output, input, Box, Message, down, arrived, leaving, Core, Status as SPlace, Tag as STag, within, toParent, fromParent, toChild, fromChild}
 use Rattle.model.specs.Load.{Setting}
-use Rattle.model.specs.Step.{Moved, silent, enters, leaves, enter, goDown, isDown, upFrom, upParticle, up, descendParticle, descend, pass, leave, isArrived, isLeaving, isToParent, isToChild}
+use Rattle.model.specs.Step.{Moved, silent, enters, leavingOn, copied, enter, goDown, isDown, upFrom, upParticle, up, descendParticle, descend, pass, leave, isArrived, isLeaving, isToParent, isToChild}
 use Rattle.model.specs.Wrapper.{Wrapper, shelves}
-use Rattle.model.specs.Process.{Mark, part, boxed, lobby, shelf, enterer, passer, ownName, siteOf, valOf, partItem, msgProc, sideItems, placeOf, enters as entering, passes as passing}
+use Rattle.model.specs.Process.{Mark, part, boxed, lobby, shelf, enterer, passer, ownName, leavesAs, siteOf, valOf, partItem, msgProc, sideItems, placeOf, enters as entering, passes as passing}
 use Rattle.calculus.proofs.Trees.{Wf, Reach, Has}
 use Rattle.calculus.proofs.Moves.{Rooted}
-use Rattle.calculus.proofs.Bags.{item, Bag, bag-eq, bag-trans, bag-sym, bag-cons, bag-mid, ritems, ritems-app}
+use Rattle.calculus.proofs.Bags.{item, Bag, bag-app, bag-refl, bag-eq, bag-trans, bag-sym, bag-cons, bag-mid, ritems, ritems-app}
 use Rattle.model.proofs.Basics.Tests.{fst, snd, need-done, choose-done}
-use Rattle.model.proofs.Formed.Keeping.{done-inj}
+use Rattle.calculus.proofs.Forwarders.{copyItems}
+use Rattle.model.proofs.Formed.Keeping.{isLog, done-inj}
 use Rattle.model.proofs.Basics.Items.{clash}
 use Rattle.model.proofs.Processes.ItemFacts.{Each}
 use Rattle.model.proofs.Basics.Splits.{pick-get}
-use Rattle.model.proofs.Sound.ItemMoves.{ids, forget, Moves, moves-to, place, go-out, go-up, go-into, go-in, go-on, whole, target, whole°, lobby-at, PartAt, part-at, add-part, add-msg}
+use Rattle.model.proofs.Sound.ItemMoves.{ids, forget, Moves, moves-to, place, go-out, go-up, go-into, go-in, go-on, whole, target, whole°, lobby-at, PartAt, part-at, add-part, add-msg, add-msgs, add-sent, copied-items}
 
 is-down : (p : SPlace) → isDown p ≡ true → p ≡ down
 is-down down e = refl
@@ -199,19 +200,19 @@ module _ (A : List ℕ) (bs : List (Place Mark)) (wf : Wf A bs) (ro : Rooted bs)
 
   -- out to the environment: a lobby message that leaves
   pub leave-moves : (i : ℕ) (m : Moved) → leave s i ≡ done m →
-      (n : Message) × (getElem? (s .lobby) i ≡ some n) × (Moves A bs I (send (w .outlet (c .side)) (plain iparent) (valOf (n .val))) (lone (lobby (c .side) i)) (aim (remove (s .lobby) i) (s .contents .particles)))
-      × (m ≡ record { label = leaves; val = n .val; core = record { contents = s .contents; lobby = remove (s .lobby) i; shelf = s .shelf; taken = s .taken } })
+      (n : Message) × (getElem? (s .lobby) i ≡ some n) × (Moves A bs I (send (leavesAs w (c .side) (n .chan)) (plain iparent) (valOf (n .val))) (lone (lobby (c .side) i)) (aim (remove (s .lobby) i) (s .contents .particles)))
+      × (n .status ≡ leaving) × (m ≡ record { label = leavingOn (n .chan); val = n .val; core = record { contents = s .contents; lobby = remove (s .lobby) i; shelf = s .shelf; taken = s .taken } })
   unfolding leave
   leave-moves i m e =
       let (n, g, e1) = pick-get (s .lobby) i _ m e in
       let a = need-done _ _ _ _ e1 in
       let at = lobby-at w (c .side) (c .table) C D s i n g in
       let is-it = at .is ∙ ap (λ (p : SPlace). (C ++ at .X) ++ item 0 (msgProc ids w (c .side) i p (n .chan) (n .val)) ∷ at .Y) (is-leaving (n .status) (a .0)) in
-      (n, g, go-out A bs wf ro each (record { X = C ++ at .X; Y = at .Y; is = is-it; rest-is = at .gone }), sym (done-inj (a .1)))
+      (n, g, go-out A bs wf ro each (record { X = C ++ at .X; Y = at .Y; is = is-it; rest-is = at .gone }), is-leaving (n .status) (a .0), sym (done-inj (a .1)))
 
   -- with the wrapper's inputs of this side among the others
-  module _ (C1 C2 : List (Item Mark)) (at-pass : C ≡ C1 ++ passing ids w (c .side) ∷ C2) where
-    pub pass-quiet : (i : ℕ) (m : Moved) → pass s i ≡ done m → Quiet (joint (lobby (c .side) i) (passer (c .side))) m
+  module _ (cl : every isLog (w .copies) ≡ true) (C1 C2 : List (Item Mark)) (at-pass : C ≡ C1 ++ passing ids w (c .side) ∷ C2) where
+    pub pass-quiet : (i : ℕ) (m : Moved) → pass (w .copies) s i ≡ done m → Quiet (joint (lobby (c .side) i) (passer (c .side))) m
     unfolding pass
     pass-quiet i m e =
         let (n, g, e1) = pick-get (s .lobby) i _ m e in
@@ -224,8 +225,10 @@ module _ (A : List ℕ) (bs : List (Place Mark)) (wf : Wf A bs) (ro : Rooted bs)
         let back : ritems forget (C1 ++ passing ids w (c .side) ∷ ((C2 ++ at .X) ++ at .Y)) ≡ ritems forget (C ++ at .X) ++ ritems forget (at .Y) =
         ap (ritems forget) (sym (regroup C1 C2 (at .X) (passing ids w (c .side)) (at .Y)) ∙ ap (λ (L : List (Item Mark)). (L ++ at .X) ++ at .Y) (sym at-pass)) ∙ ritems-app forget (C ++ at .X) (at .Y) in
         subst (λ (x : Moved). Quiet (joint (lobby (c .side) i) (passer (c .side))) x) (done-inj (a .1)) (record {
-          moves = moves-to (go-on A bs wf ro outName (ichild (ownName (c .side))) root C1 (C2 ++ at .X) (at .Y) is-here each)
-              (bag-trans (bag-cons _ (bag-eq back)) (put-back (C ++ at .X) (at .Y) _ _ (at .put (record { status = leaving; chan = 1; val = n .val }))));
+          moves = moves-to (go-on A bs wf ro (w .copies) (w .outlet (c .side)) iparent (valOf (n .val)) outName (ichild (ownName (c .side))) root C1 (C2 ++ at .X) (at .Y) is-here each)
+              (bag-trans (bag-app (bag-eq (sym (copied-items w (c .side) (c .table) C D s (w .copies) (n .val) cl)))
+              (bag-trans (bag-cons _ (bag-eq back)) (put-back (C ++ at .X) (at .Y) _ _ (at .put (record { status = leaving; chan = 1; val = n .val })))))
+              (add-msgs w (c .side) (c .table) C D s (set (s .lobby) i (record { status = leaving; chan = 1; val = n .val })) (copied (w .copies) (n .val)) (s .contents .particles)));
           label = refl;
           val = refl;
           boxes = refl;
@@ -237,18 +240,19 @@ module _ (A : List ℕ) (bs : List (Place Mark)) (wf : Wf A bs) (ro : Rooted bs)
         regroup : (a b x : List (Item Mark)) (p : Item Mark) (r : List (Item Mark)) → ((a ++ p ∷ b) ++ x) ++ r ≡ a ++ p ∷ ((b ++ x) ++ r)
         regroup a b x p r = simp append-assoc
 
-  module _ (E1 E2 : List (Item Mark)) (at-enter : C ≡ E1 ++ entering ids w (c .side) ∷ E2) where
-    pub enter-moves : (kn : ℕ → Bool) (ws : List ℕ) (m : Moved) (u : Mark) → enter kn s ws ≡ done m →
-        (Moves A bs I (recv (w .inlet (c .side)) (plain iparent) (valOf ws)) (joint u (enterer (c .side))) (aim (s .lobby ++ record { status = down; chan = 0; val = ws } ∷ []) (s .contents .particles)))
+  module _ (cl : every isLog (w .copies) ≡ true) (E1 E2 : List (Item Mark)) (at-enter : C ≡ E1 ++ entering ids w (c .side) ∷ E2) where
+    pub enter-moves : (kn : ℕ → Bool) (ws : List ℕ) (m : Moved) (u : Mark) → enter (w .copies) kn s ws ≡ done m →
+        (Moves A bs I (recv (w .inlet (c .side)) (plain iparent) (valOf ws)) (joint u (enterer (c .side))) (aim (s .lobby ++ (copied (w .copies) ws ++ record { status = down; chan = 0; val = ws } ∷ [])) (s .contents .particles)))
         × (Rattle.model.specs.Values.isValue ws ≡ true) × (every (λ x. not (Rattle.model.specs.Values.isMinted x) or kn x) ws ≡ true)
-        × (m ≡ record { label = enters; val = ws; core = record { contents = s .contents; lobby = s .lobby ++ (record { status = down; chan = 0; val = ws } ∷ []); shelf = s .shelf; taken = s .taken } })
+        × (m ≡ record { label = enters; val = ws; core = record { contents = s .contents; lobby = s .lobby ++ (copied (w .copies) ws ++ record { status = down; chan = 0; val = ws } ∷ []); shelf = s .shelf; taken = s .taken } })
     unfolding enter
     enter-moves kn ws m u e =
         let a = need-done _ _ _ _ e in
         let b = need-done _ _ _ _ (a .1) in (
-          moves-to (go-in A bs wf ro u E1 (E2 ++ (sideItems ids w (c .side) (c .table) s ++ D))
+          moves-to (go-in A bs wf ro (w .copies) 0 (ichild (ownName (c .side))) u E1 (E2 ++ (sideItems ids w (c .side) (c .table) s ++ D))
               (ap (λ (L : List (Item Mark)). L ++ (sideItems ids w (c .side) (c .table) s ++ D)) at-enter ∙ append-assoc E1 (entering ids w (c .side) ∷ E2) (sideItems ids w (c .side) (c .table) s ++ D)) each)
-              (bag-trans (bag-cons _ (bag-eq (whole° w (c .side) (c .table) C D s))) (add-msg w (c .side) (c .table) C D s (s .lobby) (record { status = down; chan = 0; val = ws }) (s .contents .particles))),
+              (bag-trans (bag-app (bag-refl {X = copyItems tt (w .copies) (valOf ws)}) (bag-cons _ (bag-eq (whole° w (c .side) (c .table) C D s))))
+              (add-sent w (c .side) (c .table) C D s (w .copies) ws cl (s .lobby) (record { status = down; chan = 0; val = ws }) (s .contents .particles))),
           a .0,
           b .0,
           sym (done-inj (b .1)),

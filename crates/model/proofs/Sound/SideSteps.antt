@@ -1,31 +1,33 @@
 -- A side's own steps, each with its transition. The meeting is handed in.
 use mathlib.Core.Path.{_≡_, refl, sym, ap, _∙_, subst}
-use mathlib.Core.Bool.{Bool, true, false}
+use mathlib.Core.Bool.{Bool, true, false, cond, false≢true}
 use mathlib.Core.List.{List, [], _∷_, _++_}
 use mathlib.Core.Logic.{⊎-elim}
 use mathlib.Core.Option.{some}
 use Prim.Native.Nat.{ℕ, _<_}
 use native.Mathlib.Omega.{arith}
 use borrow.Author.Tests.{leb-true, eqb-true}
-use lib.Dec.{leb}
+use lib.Dec.{leb, eqb}
 use lib.ListN.{length, getElem?, length-append}
 use Rattle.calculus.specs.Syntax.{plain}
 use Rattle.calculus.specs.Syntax.{parent as iparent}
 use Rattle.calculus.specs.Transitions.{Label, tau, send, recv, Participants, lone, joint}
 use Rattle.calculus.specs.Tree.{Item}
-use Rattle.model.specs.Basics.{done, remove}
+use Rattle.model.specs.Basics.{_or_, done, has, remove}
 use Rattle.model.specs.Values.{isValue, items}
-use Rattle.model.specs.Side.{Message, Core, State, down, limits}
+use Rattle.model.specs.Side.{Message, Core, State, down, leaving, limits}
 use Rattle.model.specs.Wrapper.{Route, shelves}
 use Rattle.model.specs.Load.{Composition, Setting, wrapperOf}
 use Rattle.model.specs.WellFormed.{counts, shelfOf, wfMessage, wfValue, ready}
-use Rattle.model.specs.Step.{Step, Moved, silent, leaves, labelled, marks, markAll, known, local, routeTo, takes, inner, meet, enter}
-use Rattle.model.specs.Process.{Mark, part, boxed, lobby, shelf, enterer, passer, inert, isGone, valOf, confOf}
+use Rattle.model.specs.Step.{Step, Moved, silent, leaves, logs, leavingOn, isLeaving, copied, labelled, marks, markAll, known, local, routeTo, takes, inner, meet, enter}
+use Rattle.model.specs.Process.{Mark, part, boxed, lobby, shelf, enterer, passer, inert, leavesAs, isGone, valOf, confOf}
 use Rattle.model.specs.Agreement.{At, Asks, asks-in, asks-out, asks-tau}
 use Rattle.calculus.proofs.Trees.{Reach}
 use Rattle.calculus.proofs.Bags.{bag-eq}
-use Rattle.model.proofs.Basics.Tests.{fst, snd, need-done, choose-done, bind-done, get-every}
-use Rattle.model.proofs.Formed.Keeping.{shaped-words}
+use Rattle.model.proofs.Basics.Tests.{fst, snd, alt, has-every, need-done, choose-done, bind-done, get-every}
+use Rattle.model.proofs.Formed.Growing.{wfIn}
+use Rattle.model.proofs.Formed.Keeping.{isLog, left-on, shaped-words}
+use Rattle.model.proofs.Formed.Invariant.{copies-log}
 use Rattle.model.proofs.Basics.Items.{clash, shaped-items}
 use Rattle.model.proofs.Processes.ValueWords.{val-written}
 use Rattle.model.proofs.Processes.KnownNames.{All}
@@ -36,8 +38,20 @@ use Rattle.model.proofs.Sound.StateMoves.{Goes, goes, goes-silent, goes
 use Rattle.model.proofs.Sound.NamesLeaving.{new-left}
 use Rattle.model.proofs.Sound.NamesEntering.{enter-fresh}
 use Rattle.model.proofs.Sound.SideViews.{View, new-same}
-use Rattle.model.proofs.Sound.Labels.{SaysInv, label-val, empty-words, at-enter, at-down, at-up, at-descend, at-meet, at-pass, at-leave}
+use Rattle.model.proofs.Sound.Labels.{SaysInv, left-inv, label-val, empty-words, at-enter, at-down, at-up, at-descend, at-meet, at-pass, at-leave}
 use Rattle.model.proofs.Sound.SideMoves.{Quiet, Up, quiet, shelved, up-zero, down-quiet, up-moves, descend-quiet, pass-quiet, leave-moves, enter-moves}
+
+-- the marks after a message has left, on `out` or as a copy
+pub left-marks : (c : ℕ) (v : List ℕ) (l : List Bool) → marks (leavingOn c) v l ≡ markAll l v
+left-marks c v l = go (eqb c 1)
+  where
+    go : (t : Bool) → marks (cond t leaves logs) v l ≡ markAll l v
+    go true = refl
+    go false = refl
+
+-- the channel of a leaving message, by the wrapper's copies
+pub left-here : {b : Composition} {s : State} (vw : View b s) (n : Message) → n .status ≡ leaving → wfIn (vw .c) (counts s) n ≡ true → eqb (n .chan) 1 or has (n .chan) (wrapperOf b .copies) ≡ true
+left-here {s = s} vw n st h = ap (λ (z : Setting). eqb (n .chan) 1 or has (n .chan) (z .wrapper .copies)) (sym (vw .c-is)) ∙ left-on (vw .c) (counts s) n (ap isLeaving st) h
 
 module _ (b : Composition) (s : State) (e : ready b s ≡ true) where
   pub root-all : Reach (confOf b s .boxes) 0
@@ -82,6 +96,14 @@ module _ (b : Composition) (s : State) (e : ready b s ≡ true) where
     pub outwards-low : wrapperOf b .outlet (vw .c .side) < 81
     outwards-low = outlet-low b s e (vw .c .side) (vw .is-side)
 
+    -- and so is the name of the channel on which a message leaves
+    pub left-low : (c : ℕ) → eqb c 1 or has c (wrapperOf b .copies) ≡ true → leavesAs (wrapperOf b) (vw .c .side) c < 81
+    left-low c h = go (eqb c 1) h
+      where
+        go : (t : Bool) → t or has c (wrapperOf b .copies) ≡ true → cond t (wrapperOf b .outlet (vw .c .side)) c < 81
+        go true h = outwards-low
+        go false h = let q = eqb-true c 3 (has-every isLog (wrapperOf b .copies) c (copies-log (b .wrapper)) (⊎-elim (λ p. absurd (false≢true p)) (λ p. p) (alt _ _ h))) in omega arith
+
     pub inwards-low : wrapperOf b .inlet (vw .c .side) < 81
     inwards-low = inlet-low b s e (vw .c .side) (vw .is-side)
 
@@ -90,39 +112,43 @@ module _ (b : Composition) (s : State) (e : ready b s ≡ true) where
     unfolding Done wfMessage wfValue isValue
     leave-done x l m k7 sd j0 ws lv sy =
         let r = leave-moves (All b s) (confOf b s .boxes) (wf-all b s e) (rooted-all b s e) root-all (wrapperOf b) (vw .c) (vw .C) (vw .D) (vw .core) each-now (vw .ok .contents .box0) (vw .has) (x .i) m lv in
-        go (r .0) (r .1) (r .2) (r .3)
+        go (r .0) (r .1) (r .2) (r .3) (r .4)
       where
         go : (n : Message) → getElem? (vw .core .lobby) (x .i) ≡ some n
             → Moves (All b s) (confOf b s .boxes) (whole (wrapperOf b) (vw .c .side) (vw .c .table) (vw .C) (vw .D) (vw .core))
-            (send (wrapperOf b .outlet (vw .c .side)) (plain iparent) (valOf (n .val))) (lone (lobby (vw .c .side) (x .i)))
+            (send (leavesAs (wrapperOf b) (vw .c .side) (n .chan)) (plain iparent) (valOf (n .val))) (lone (lobby (vw .c .side) (x .i)))
             (target (wrapperOf b) (vw .c .side) (vw .c .table) (vw .C) (vw .D) (vw .core) (remove (vw .core .lobby) (x .i)) (vw .core .contents .particles))
-            → m ≡ record { label = leaves; val = n .val; core = record { contents = vw .core .contents; lobby = remove (vw .core .lobby) (x .i); shelf = vw .core .shelf; taken = vw .core .taken } } →
+            → n .status ≡ leaving → m ≡ record { label = leavingOn (n .chan); val = n .val; core = record { contents = vw .core .contents; lobby = remove (vw .core .lobby) (x .i); shelf = vw .core .shelf; taken = vw .core .taken } } →
             (w : Participants Mark) × At (wrapperOf b) x w × Asks x l × Goes b s (after m) l w
-        go n g mv em =
+        go n g mv st em =
+            let ch = leavesAs (wrapperOf b) (vw .c .side) (n .chan) in
             let k : Core = record { contents = vw .core .contents; lobby = remove (vw .core .lobby) (x .i); shelf = vw .core .shelf; taken = vw .core .taken } in
-            let sv = subst (λ (y : Moved). SaysInv (wrapperOf b) (labelled (y .label) (vw .c .side) (y .val)) l) em sy in
-            let wv = fst _ _ (get-every (wfMessage (shelves (vw .c .wrapper) (vw .c .side)) (counts s)) (vw .core .lobby) (x .i) n (vw .ok .lobby) g) in
+            let wm = get-every (wfIn (vw .c) (counts s)) (vw .core .lobby) (x .i) n (vw .ok .lobby) g in
+            let wv = fst _ _ wm in
+            let on = left-here vw n st wm in
+            let sv = left-inv (wrapperOf b) (copies-log (b .wrapper)) (vw .c .side) (n .chan) on (n .val) l (subst (λ (y : Moved). SaysInv (wrapperOf b) (labelled (y .label) (vw .c .side) (y .val)) l) em sy) in
             let sh = snd _ _ (fst _ _ wv) in
             let words = shaped-words (n .val) sh in
             let vv : valOf (n .val) ≡ sv .0 = label-val (n .val) (sv .0) words (sv .1) (sv .2) in
-            let gg : Goes b s (vw .next k (markAll (vw .left) (n .val))) (send (wrapperOf b .outlet (vw .c .side)) (plain iparent) (valOf (n .val))) (lone (lobby (vw .c .side) (x .i))) =
+            let gg : Goes b s (vw .next k (markAll (vw .left) (n .val))) (send ch (plain iparent) (valOf (n .val))) (lone (lobby (vw .c .side) (x .i))) =
             goes-out b s e (vw .next k (markAll (vw .left) (n .val)))
-            (new-left b s (vw .next k (markAll (vw .left) (n .val))) (wrapperOf b .outlet (vw .c .side)) (n .val) (few b s e) outwards-low (shaped-items (n .val) sh) words
+            (new-left b s (vw .next k (markAll (vw .left) (n .val))) ch (n .val) (few b s e) (left-low (n .chan) on) (shaped-items (n .val) sh) words
             (vw .minted-next k (markAll (vw .left) (n .val)) refl) (vw .known-next k (n .val)))
             (vw .boxes-next k (markAll (vw .left) (n .val)) refl)
             (moves-to (now mv) (bag-eq (sym (vw .items-next k (markAll (vw .left) (n .val)) refl refl)))) in
             subst (λ (y : Moved). (w : Participants Mark) × At (wrapperOf b) x w × Asks x l × Goes b s (after y) l w) (sym em)
-            (subst (λ (y : Label). (w : Participants Mark) × At (wrapperOf b) x w × Asks x y × Goes b s (vw .next k (markAll (vw .left) (n .val))) y w) (ap (send (wrapperOf b .outlet (vw .c .side)) (plain iparent)) vv ∙ sym (sv .3))
-            (lone (lobby (vw .c .side) (x .i)), at-leave (wrapperOf b) x (vw .c .side) k7 sd j0 ws, asks-out k7, gg))
+            (subst (λ (q : List Bool). (w : Participants Mark) × At (wrapperOf b) x w × Asks x l × Goes b s (vw .next k q) l w) (sym (left-marks (n .chan) (n .val) (vw .left)))
+            (subst (λ (y : Label). (w : Participants Mark) × At (wrapperOf b) x w × Asks x y × Goes b s (vw .next k (markAll (vw .left) (n .val))) y w) (ap (send ch (plain iparent)) vv ∙ sym (sv .3))
+            (lone (lobby (vw .c .side) (x .i)), at-leave (wrapperOf b) x (vw .c .side) k7 sd j0 ws, asks-out k7, gg)))
 
-    enter-done : (x : Step) (l : Label) (m : Moved) → x .kind ≡ 1 → x .side ≡ vw .c .side → x .i ≡ 0 → x .j ≡ 0 → enter (known s) (vw .core) (x .words) ≡ done m
+    enter-done : (x : Step) (l : Label) (m : Moved) → x .kind ≡ 1 → x .side ≡ vw .c .side → x .i ≡ 0 → x .j ≡ 0 → enter (wrapperOf b .copies) (known s) (vw .core) (x .words) ≡ done m
         → SaysInv (wrapperOf b) (labelled (m .label) (vw .c .side) (m .val)) l → Done x l m
     unfolding Done isValue
     enter-done x l m k1 sd i0 j0 en sy =
         let ws = x .words in
         let r = enter-moves (All b s) (confOf b s .boxes) (wf-all b s e) (rooted-all b s e) root-all (wrapperOf b) (vw .c) (vw .C) (vw .D) (vw .core) each-now (vw .ok .contents .box0) (vw .has)
-        (vw .E1) (vw .E2) (vw .at-enter) (known s) ws m inert en in
-        let k : Core = record { contents = vw .core .contents; lobby = vw .core .lobby ++ (record { status = down; chan = 0; val = ws } ∷ []); shelf = vw .core .shelf; taken = vw .core .taken } in
+        (copies-log (b .wrapper)) (vw .E1) (vw .E2) (vw .at-enter) (known s) ws m inert en in
+        let k : Core = record { contents = vw .core .contents; lobby = vw .core .lobby ++ (copied (wrapperOf b .copies) ws ++ record { status = down; chan = 0; val = ws } ∷ []); shelf = vw .core .shelf; taken = vw .core .taken } in
         let sv = subst (λ (y : Moved). SaysInv (wrapperOf b) (labelled (y .label) (vw .c .side) (y .val)) l) (r .3) sy in
         let sh = snd _ _ (r .1) in
         let words = shaped-words ws sh in
@@ -187,7 +213,7 @@ module _ (b : Composition) (s : State) (e : ready b s ≡ true) where
           (up-moves (All b s) (confOf b s .boxes) (wf-all b s e) (rooted-all b s e) root-all (wrapperOf b) (vw .c) (vw .C) (vw .D) (vw .core) each-now (vw .ok .contents .box0) (vw .has) (x .i) m (p .1)) sy) (λ p.
           ⊎-elim (λ p. let k6 = eqb-true (x .kind) 6 (p .0) in
           let q = pass-quiet (All b s) (confOf b s .boxes) (wf-all b s e) (rooted-all b s e) root-all (wrapperOf b) (vw .c) (vw .C) (vw .D) (vw .core) each-now (vw .ok .contents .box0) (vw .has)
-          (vw .C1) (vw .C2) (vw .at-pass) (x .i) m (p .1) in
+          (copies-log (b .wrapper)) (vw .C1) (vw .C2) (vw .at-pass) (x .i) m (ap (λ (z : Setting). Rattle.model.specs.Step.pass (z .wrapper .copies) (vw .core) (x .i)) (sym (vw .c-is)) ∙ p .1) in
           silent-done x l m (joint (lobby (vw .c .side) (x .i)) (passer (vw .c .side))) (at-pass (wrapperOf b) x (vw .c .side) k6 sd j0 ws) (not-kind x 6 1 k6 (λ z. omega arith))
           (not-kind x 6 7 k6 (λ z. omega arith)) (q .label) sy (quiet-goes q)) (λ p.
           ⊎-elim (λ p. leave-done x l m (eqb-true (x .kind) 7 (p .0)) sd j0 ws (p .1) sy) (λ p. absurd (clash (p .1)))
@@ -199,7 +225,9 @@ module _ (b : Composition) (s : State) (e : ready b s ≡ true) where
             SaysInv (wrapperOf b) (labelled (m .label) (vw .c .side) (m .val)) l → Done x l m
         unfolding local
         local-done x l m sd r lim sy =
-            ⊎-elim (λ p. let a = need-done _ _ _ _ (p .1) in enter-done x l m (eqb-true (x .kind) 1 (p .0)) sd (eqb-true (x .i) 0 (fst _ _ (a .0))) (eqb-true (x .j) 0 (snd _ _ (a .0))) (a .1) sy)
+            ⊎-elim (λ p. let a = need-done _ _ _ _ (p .1) in
+            let entered = ap (λ (z : Setting). enter (z .wrapper .copies) (known s) (vw .core) (x .words)) (sym (vw .c-is)) ∙ a .1 in
+            enter-done x l m (eqb-true (x .kind) 1 (p .0)) sd (eqb-true (x .i) 0 (fst _ _ (a .0))) (eqb-true (x .j) 0 (snd _ _ (a .0))) entered sy)
             (λ p. ⊎-elim (λ q. let a = need-done _ _ _ _ (q .1) in let g = bind-done _ _ _ (a .1) in
             taking x l m (g .0) (eqb-true (x .kind) 8 (q .0)) (empty-words (x .words) (a .0)) sd (ap (λ (z : Setting). routeTo (z .wrapper .routes) (vw .c .side) (x .j)) (sym (vw .c-is)) ∙ g .1)
             (g .2) sy) (λ q. inner-done x l m sd (q .1) lim sy) (choose-done _ _ _ _ (p .1)))

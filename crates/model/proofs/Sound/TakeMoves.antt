@@ -23,6 +23,7 @@ use Rattle.model.specs.WellFormed.{ready, shelfOf}
 use Rattle.model.specs.Step.{routeTo}
 use Rattle.model.specs.Process.{Mark, shelf, taker, ownName, valOf, bySide, shelfItem, shelfItems, isGone, sideItems, enters, passes, confOf, newOf, takes as taking}
 use Rattle.calculus.proofs.Bags.{item, Bag, bag-eq, bag-trans, bag-cons, ritems, ritems-app}
+use Rattle.model.proofs.Basics.Sides.{described-by}
 use Rattle.model.proofs.Basics.Tests.{fst, choose-done, get-every, or-cases, or-right as bool-right}
 use Rattle.model.proofs.Formed.Keeping.{done-inj}
 use Rattle.model.proofs.Basics.Items.{clash}
@@ -61,12 +62,13 @@ map-get (q ∷ rs) (suc k) r e =
 
 -- one side alone takes
 pub sole : (w n k : ℕ) → takesAny (described w) n ≡ true → takesAny (described w) k ≡ true → n ≡ k
-sole w n k p q = go (eqb w 1) (eqb w 2) p q
+sole w n k = described-by (λ d. takesAny d n ≡ true → takesAny d k ≡ true → n ≡ k) (λ p q. absurd (false≢true p)) two (λ p q. absurd (false≢true p)) (λ p q. absurd (false≢true p)) w
   where
-    go : (t u : Bool) → takesAny (cond t (described 1) (cond u (described 2) (described 0))) n ≡ true → takesAny (cond t (described 1) (cond u (described 2) (described 0))) k ≡ true → n ≡ k
-    go true u p q = absurd (false≢true p)
-    go false true p q = ⊎-elim (λ a. ⊎-elim (λ c. sym (eqb-true 2 n a) ∙ eqb-true 2 k c) (λ c. absurd (false≢true c)) (or-cases (eqb 2 k) false q)) (λ a. absurd (false≢true a)) (or-cases (eqb 2 n) false p)
-    go false false p q = absurd (false≢true p)
+    is-2 : (n : ℕ) → eqb 2 n || false ≡ true → 2 ≡ n
+    is-2 n p = ⊎-elim (λ a. eqb-true 2 n a) (λ a. absurd (false≢true a)) (or-cases (eqb 2 n) false p)
+
+    two : eqb 2 n || false ≡ true → eqb 2 k || false ≡ true → n ≡ k
+    two p q = sym (is-2 n p) ∙ is-2 k q
 
 -- a shelf of which one place more is taken
 pub shelf-same : (gone gone′ : ℕ → Bool) (q n : ℕ) (l : List (List ℕ)) → ((x : ℕ) → n ≤ x → x < n + length l → gone′ x ≡ gone x) → shelfItems forget gone′ q n l ≡ shelfItems forget gone q n l
@@ -270,7 +272,9 @@ module _ (b : Composition) (s : State) (e : ready b s ≡ true) (n : ℕ) (h : h
 
       moves : Goes b s s′ tau (joint (shelf m i) (taker m (r .receiver)))
       moves = goes-silent b s e s′ same-new same-boxes
-          (moves-to (go-on (All b s) (confOf b s .boxes) (wf-all b s e) (rooted-all b s e) midName (ichild (ownName m)) (root-all b s e) FA (FB ++ (Xs ++ on .P)) (on .Q ++ (Ys ++ O)) is-now (items-each b s e ids))
+          (moves-to
+          (go-on (All b s) (confOf b s .boxes) (wf-all b s e) (rooted-all b s e) [] midName (ichild (ownName (r .receiver))) (valOf v) midName (ichild (ownName m)) (root-all b s e)
+          FA (FB ++ (Xs ++ on .P)) (on .Q ++ (Ys ++ O)) is-now (items-each b s e ids))
           (bag-trans (bag-cons _ (bag-eq (ap (ritems forget) left-is))) taken-bag))
 
     pub took-goes : hasTaken (side s n .core) m i ≡ false → Goes b s s′ tau (joint (shelf m i) (taker m (r .receiver)))

@@ -1,4 +1,4 @@
-use Rattle.wrappers.proofs.Described.{filter-side, first-side, second-side, no-sides}
+use Rattle.wrappers.proofs.Described.{filter-side, first-side, second-side, logged-side, no-sides}
 use Rattle.wrappers.proofs.has_side.Statement.{statement}
 use Rattle.wrappers.proofs.has_side.Tie as tie
 
@@ -12,7 +12,10 @@ returns-3 : tie.Need-returns-3
 returns-3 c = let a = c .before .before .before .args in second-side (a .w) (c .before .if2 .taken) (a .n) (c .if3 .left)
 
 returns-4 : tie.Need-returns-4
-returns-4 c = let a = c .before .before .args in no-sides (a .w) (c .if2 .left) (a .n) (c .before .if1 .left)
+returns-4 c = let a = c .before .before .before .args in logged-side (a .w) (c .if4 .taken) (a .n)
+
+returns-5 : tie.Need-returns-5
+returns-5 c = let a = c .before .before .before .args in no-sides (a .w) (c .before .if2 .left) (a .n) (c .before .before .if1 .left) (c .if4 .left)
 
 pub has-side-spec : {M : Type 1} → statement M
 has-side-spec = tie.close
@@ -20,4 +23,5 @@ has-side-spec = tie.close
     returns
     returns-2
     returns-3
-    returns-4)
+    returns-4
+    returns-5)

@@ -1,6 +1,6 @@
 use mathlib.Core.Path.{sym, _∙_}
 use Rattle.values.specs.Env.{viewValue}
-use Rattle.dispatch.proofs.AllSides.{marked-out, marked-not}
+use Rattle.dispatch.proofs.AllSides.{marked-left, marked-not}
 use borrow.Author.Needs.{needs}
 use Rattle.dispatch.proofs.all_sides.mark_left.Statement.{statement}
 use Rattle.dispatch.proofs.all_sides.mark_left.Tie as tie
@@ -11,14 +11,14 @@ returns c =
     let at-out = at-if1 .before in
     let at-place = at-out .before in
     let a = at-place .before .args in
-    let out = sym (at-out .is-out .ensures) ∙ at-if1 .if1 .taken in
-    marked-out (a .said) (viewValue (a .v)) (a .marks .now) _ _ _ out (at-place .place-of .ensures) (c .mark-all .ensures)
+    let out = sym (at-out .says-left .ensures) ∙ at-if1 .if1 .taken in
+    marked-left (a .said) (viewValue (a .v)) (a .marks .now) _ _ _ out (at-place .place-of .ensures) (c .mark-all .ensures)
 
 returns-2 : tie.Need-returns-2
 returns-2 c =
     let at-out = c .before in
     let a = at-out .before .before .args in
-    marked-not (a .said) (viewValue (a .v)) (a .marks .now) _ (sym (at-out .is-out .ensures) ∙ c .if1 .left)
+    marked-not (a .said) (viewValue (a .v)) (a .marks .now) _ (sym (at-out .says-left .ensures) ∙ c .if1 .left)
 
 pub mark-left-spec : {M : Type 1} → statement M
 mark-left-spec =

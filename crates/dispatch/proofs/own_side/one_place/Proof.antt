@@ -1,4 +1,5 @@
 use Rattle.model.specs.Step.{goDown, up, pass, leave, settled}
+use Rattle.wrappers.specs.Copies.{logIf}
 use Rattle.sides.specs.Sides.{coreOf}
 use Rattle.steps.specs.Asked.{withShelf}
 use Rattle.dispatch.specs.Stepping.{onePlace}
@@ -16,7 +17,8 @@ returns c =
     let k = x .args .kind in
     let s = coreOf l o in
     let b = withShelf (x .args .shelving) in
-    step-by (settled (onePlace b s k i)) (settled (goDown s i)) l o _ _ (one-down b s k i (c .before .before .before .before .if1 .taken)) (c .before .before .down .ensures)
+    let cs = logIf (x .args .logging) in
+    step-by (settled (onePlace b cs s k i)) (settled (goDown s i)) l o _ _ (one-down b cs s k i (c .before .before .before .before .if1 .taken)) (c .before .before .down .ensures)
 
 returns-2 : tie.Need-returns-2
 returns-2 c =
@@ -27,7 +29,8 @@ returns-2 c =
     let k = x .args .kind in
     let s = coreOf l o in
     let b = withShelf (x .args .shelving) in
-    step-by (settled (onePlace b s k i)) (settled (up b s i)) l o _ _ (one-up b s k i (c .before .before .before .before .if2 .taken)) (c .before .before .up .ensures)
+    let cs = logIf (x .args .logging) in
+    step-by (settled (onePlace b cs s k i)) (settled (up b s i)) l o _ _ (one-up b cs s k i (c .before .before .before .before .if2 .taken)) (c .before .before .up .ensures)
 
 returns-3 : tie.Need-returns-3
 returns-3 c =
@@ -38,7 +41,8 @@ returns-3 c =
     let k = x .args .kind in
     let s = coreOf l o in
     let b = withShelf (x .args .shelving) in
-    step-by (settled (onePlace b s k i)) (settled (pass s i)) l o _ _ (one-pass b s k i (c .before .before .if3 .taken)) (c .pass .ensures)
+    let cs = logIf (x .args .logging) in
+    step-by (settled (onePlace b cs s k i)) (settled (pass cs s i)) l o _ _ (one-pass b cs s k i (c .before .before .if3 .taken)) (c .pass .ensures)
 
 returns-4 : tie.Need-returns-4
 returns-4 c =
@@ -52,8 +56,9 @@ returns-4 c =
     let k = x .args .kind in
     let s = coreOf l o in
     let b = withShelf (x .args .shelving) in
-    let seven = one-leave b s k i (x .pre .1) (at-if1 .if1 .left) (at-if2 .if2 .left) (at-if3 .if3 .left) in
-    step-by (settled (onePlace b s k i)) (settled (leave s i)) l o _ _ seven (c .leave .ensures)
+    let cs = logIf (x .args .logging) in
+    let seven = one-leave b cs s k i (x .pre .1) (at-if1 .if1 .left) (at-if2 .if2 .left) (at-if3 .if3 .left) in
+    step-by (settled (onePlace b cs s k i)) (settled (leave s i)) l o _ _ seven (c .leave .ensures)
 
 pub one-place-spec : {M : Type 1} → statement M
 one-place-spec =

@@ -37,7 +37,8 @@ returns c =
     let s = coreOf l o in
     let k = x .args .kind in
     let b = settingOf (x .args .wrapper) (x .args .side) (x .args .nodes .now) (x .args .pool .now) in
-    step-by (settled (local b f sh s (asked k n i j ws))) (settled (local b f sh s (asked 1 n i j ws))) l o _ _ (kind-is b f sh s n i j ws k 1 (c .before .before .if1 .taken)) (c .entering .ensures b sh n)
+    step-by (settled (local b f sh s (asked k n i j ws))) (settled (local b f sh s (asked 1 n i j ws))) l o _ _
+    (kind-is b f sh s n i j ws k 1 (c .before .before .if1 .taken)) (c .entering .ensures (b .side) (x .args .nodes .now) (x .args .pool .now) sh n)
 
 returns-2 : tie.Need-returns-2
 returns-2 c =

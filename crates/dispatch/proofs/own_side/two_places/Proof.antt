@@ -3,6 +3,7 @@ use Prim.Native.Nat.{_≤_}
 use Rattle.model.specs.Step.{descend, meet, settled}
 use Rattle.sides.specs.Sides.{coreOf}
 use Rattle.meeting.specs.Meeting.{withTable}
+use Rattle.wrappers.proofs.Described.{copies-are}
 use Rattle.steps.proofs.Held.{if-at, if-refused}
 use Rattle.dispatch.specs.Stepping.{settingOf, twoPlaces}
 use Rattle.dispatch.proofs.ByKind.{own-sane, step-by, ten-is, two-descend, two-meet, two-one, two-bad}
@@ -65,7 +66,7 @@ returns-3 c =
 
 one-place-requires : tie.Need-one-place-requires
 one-place-requires c κs =
-    let at-a = c .before .before .before in
+    let at-a = c .before .before .before .before in
     let at-place = at-a .before .before in
     let at-if2 = at-place .before in
     let at-if1 = at-if2 .before in
@@ -79,7 +80,8 @@ one-place-requires c κs =
 returns-4 : tie.Need-returns-4
 returns-4 c =
     let at-one = c .before .before in
-    let at-shelf = at-one .before .before in
+    let at-log = at-one .before .before in
+    let at-shelf = at-log .before in
     let at-a = at-shelf .before .before in
     let at-place = at-a .before .before in
     let at-if2 = at-place .before in
@@ -95,7 +97,7 @@ returns-4 c =
     let w = at-place .place-offer in
     let p = if-at ((2 ≤ k) × (k ≤ 7) × (j ≡ 0)) i 10 (w .result) (w .ensures) _ (at-a .a .given .1) in
     let t = at-shelf .has-shelf in
-    let same = two-one b s k i j (at-if1 .if1 .left) (at-if2 .if2 .left) (p .1 .2) (t .result) (t .ensures) _ (p .0) in
+    let same = two-one b s k i j (at-if1 .if1 .left) (at-if2 .if2 .left) (p .1 .2) (t .result) (t .ensures) _ (copies-are (x .args .wrapper) _ (at-log .has-log .ensures)) _ (p .0) in
     step-by (settled (twoPlaces b s k i j)) _ l o _ _ same (at-one .one-place .ensures)
 
 pub two-places-spec : {M : Type 1} → statement M
@@ -114,6 +116,7 @@ two-places-spec =
     (λ c κs. search needs)
     (λ c κs. search needs)
     returns-3
+    (λ c κs. search needs)
     (λ c κs. search needs)
     one-place-requires
     (λ c. search needs)

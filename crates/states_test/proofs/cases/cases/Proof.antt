@@ -1,11 +1,11 @@
--- `states_test::cases::cases` meets its contract: the loop reads rows below the end of the part, at most 47.
+-- `states_test::cases::cases` meets its contract: the loop reads rows below the end of the part, at most 55.
 use Prim.Native.Nat.{_-_, _≤_}
 use borrow.Author.Needs.{needs}
 use Rattle.states_test.proofs.cases.cases.Statement.{statement}
 use Rattle.states_test.proofs.cases.cases.Tie as tie
 
 abbrev Inv-loop : tie.InvT-loop
-Inv-loop start side from to k₀ k = to ≤ 47
+Inv-loop start side from to k₀ k = to ≤ 55
 
 abbrev μ-loop : tie.MeasureT-loop
 μ-loop start side from to k₀ k = to - k

@@ -48,15 +48,16 @@ element-copy-out-m : tie.Need-element-copy-out-m
 element-copy-out-m c = let h = in-lobby (c .before .before) in omega (arith, h .0, h .1)
 
 without-requires : tie.Need-without-requires
-without-requires c κs = in-lobby (c .before .before .before .before)
+without-requires c κs = in-lobby (c .before .before .before .before .before)
 
 returns-2 : tie.Need-returns-2
 returns-2 c =
     let at-without = c .before in
-    let p = at-without .before .before .before .before .before in
+    let at-said = at-without .before .before in
+    let p = at-said .before .before .before .before in
     let x = start p in
-    leave-did (x .args .rows .now) (x .args .o) (x .args .i) _ (found p .0) (x .pre) (full x) _ _ (at-without .without .result) (c .with-lobby .result) _
-    (found p .1) (at-without .without .ensures) (c .with-lobby .ensures) refl
+    leave-did (x .args .rows .now) (x .args .o) (x .args .i) _ (found p .0) (x .pre) (full x) _ _ (at-said .leaving-on .result) (at-without .without .result) (c .with-lobby .result) _
+    (found p .1) (at-said .leaving-on .ensures) (at-without .without .ensures) (c .with-lobby .ensures) refl
 
 pub leave-spec : {M : Type 1} → statement M
 leave-spec =
@@ -70,6 +71,7 @@ leave-spec =
     returns
     mul-m
     element-copy-out-m
+    (λ c κs. search needs)
     without-requires
     (λ c κs. search needs)
     returns-2)

@@ -1,5 +1,5 @@
 use mathlib.Core.Path.{_≡_, ap, _∙_}
-use Prim.Native.Nat.{ℕ, _<_}
+use Prim.Native.Nat.{ℕ, _+_, _<_, _≤_}
 use lib.ListN.{getD}
 use Rattle.values.proofs.Lists.{unmap}
 use Rattle.sides.specs.Layout.{rowAt}
@@ -24,7 +24,8 @@ found p =
     let a = start p .args in
     let n = a .o .lobby .len in
     let w = p .before .before .lobby-offer in
-    if-at (n < 16) (a .i) 17 (w .result) (w .ensures) _ (p .a .given .1)
+    let r = if-at (n + 1 ≤ 16) (a .i) 17 (w .result) (w .ensures) _ (p .a .given .1) in
+    (r .0, omega (arith, r .1))
 
 held : (p : tie.After-a) → p .a .given .0 .0 < start p .args .o .particles
 held p = omega (arith, found p .0, start p .pre .1)
@@ -38,7 +39,7 @@ in-rows p = omega (arith, held p, rows-cap (start p .args .rows .now) (start p .
 lobby-offer-requires : tie.Need-lobby-offer-requires
 lobby-offer-requires c κs =
     let x = c .before .before in
-    lobby-cap (x .args .rows .now) (x .args .o) (x .pre .0)
+    (lobby-cap (x .args .rows .now) (x .args .o) (x .pre .0), omega arith)
 
 returns : tie.Need-returns
 returns c =
@@ -52,8 +53,8 @@ returns c =
     let i = x .args .i in
     let n = o .lobby .len in
     let w = at-offer .lobby-offer in
-    let no = if-refused (n < 16) i 17 (w .result) (w .ensures) _ (at-number .number .result) (at-told .enum-told .given .1) (at-number .number .ensures) in
-    lobby-full l o i (x .pre .0) s _ _ (no .0) (c .plain .ensures) (channelIn l i) e (full x) (no .1)
+    let no = if-refused (n + 1 ≤ 16) i 17 (w .result) (w .ensures) _ (at-number .number .result) (at-told .enum-told .given .1) (at-number .number .ensures) in
+    lobby-full l o i (x .pre .0) s _ _ (no .0) (c .plain .ensures) (channelIn l i) e (full x) (λ room. no .1 (omega (arith, room)))
 
 word-at-requires : tie.Need-word-at-requires
 word-at-requires c κs = let p = c .before .before in (start p .pre .0 .long, in-rows p, search needs)

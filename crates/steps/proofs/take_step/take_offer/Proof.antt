@@ -46,7 +46,7 @@ returns-2 c =
 lobby-offer-requires : tie.Need-lobby-offer-requires
 lobby-offer-requires c κs =
     let x = c .before .before .before .before .before .before .before in
-    lobby-cap (x .args .rows .now) (x .args .o) (x .pre .0)
+    (lobby-cap (x .args .rows .now) (x .args .o) (x .pre .0), omega arith)
 
 returns-3 : tie.Need-returns-3
 returns-3 c =

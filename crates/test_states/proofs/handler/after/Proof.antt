@@ -1,11 +1,11 @@
--- `test_states::handler::after` meets its contract: the loop goes over steps below the end of the part, at most 25.
+-- `test_states::handler::after` meets its contract: the loop goes over steps below the end of the part, at most 34.
 use Prim.Native.Nat.{_-_, _≤_}
 use borrow.Author.Needs.{needs}
 use Rattle.test_states.proofs.handler.after.Statement.{statement}
 use Rattle.test_states.proofs.handler.after.Tie as tie
 
 abbrev Inv-loop : tie.InvT-loop
-Inv-loop wrapper from to s₀ k₀ s k = to ≤ 25
+Inv-loop wrapper from to s₀ k₀ s k = to ≤ 34
 
 abbrev μ-loop : tie.MeasureT-loop
 μ-loop wrapper from to s₀ k₀ s k = to - k

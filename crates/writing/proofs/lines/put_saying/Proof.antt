@@ -1,6 +1,6 @@
 -- `writing::lines::put_saying` meets its contract.
 use Rattle.writing.proofs.WrittenLaws.{joined, spelled}
-use Rattle.writing.proofs.LineLaws.{says-silent, says-enters, says-leaves, says-refused}
+use Rattle.writing.proofs.LineLaws.{says-silent, says-enters, says-leaves, says-logs, says-refused}
 use native.Mathlib.Omega.{arith}
 use borrow.Author.Needs.{needs}
 use Rattle.writing.proofs.lines.put_saying.Statement.{statement}
@@ -68,6 +68,25 @@ slice-aggregate-put-4 c = search needs
 put-requires-4 : tie.Need-put-requires-4
 put-requires-4 c κs = search needs
 
+put-value-requires-3 : tie.Need-put-value-requires-3
+put-value-requires-3 c κs = search needs
+
+same-length-4 : tie.Need-same-length-4
+same-length-4 c = search needs
+
+returns-4 : tie.Need-returns-4
+returns-4 c =
+    let a = c .before .before .before .before .before .before .before .before .before .before .before .before .before .before .before .before .args in
+    let first = c .before .before .before .before .before .before .put4 .ensures in
+    let value = c .before .before .put-value3 .ensures in
+    (spelled (says-logs (a .words .now) (c .before .before .before .before .before .before .before .before .before .if4 .taken)) (joined first (value .0)), omega (arith, first .end, value .1))
+
+slice-aggregate-put-5 : tie.Need-slice-aggregate-put-5
+slice-aggregate-put-5 c = search needs
+
+put-requires-5 : tie.Need-put-requires-5
+put-requires-5 c κs = search needs
+
 shared-slice-read-wide : tie.Need-shared-slice-read-wide
 shared-slice-read-wide c = search needs
 
@@ -77,18 +96,20 @@ wide-requires c κs = search needs
 put-field-requires : tie.Need-put-field-requires
 put-field-requires c κs = search needs
 
-same-length-4 : tie.Need-same-length-4
-same-length-4 c = search needs
+same-length-5 : tie.Need-same-length-5
+same-length-5 c = search needs
 
-returns-4 : tie.Need-returns-4
-returns-4 c =
-    let a = c .before .before .before .before .before .before .before .before .before .before .before .before .before .before .before .before .before .args in
+returns-5 : tie.Need-returns-5
+returns-5 c =
+    let at-if4 = c .before .before .before .before .before .before .before .before .before .before .before in
+    let at-if3 = at-if4 .before in
+    let at-if2 = at-if3 .before in
+    let at-if1 = at-if2 .before in
+    let a = at-if1 .before .before .before .before .args in
     let word = c .before .before .before .wide .ensures in
-    let first = c .before .before .before .before .before .before .before .before .put4 .ensures in
+    let first = c .before .before .before .before .before .before .before .before .put5 .ensures in
     let field = c .before .before .put-field .ensures in (
-      spelled (says-refused (a .words .now) _ (c .before .before .before .before .before .before .before .before .before .before .before .before .before .if1 .left)
-          (c .before .before .before .before .before .before .before .before .before .before .before .before .if2 .left)
-          (c .before .before .before .before .before .before .before .before .before .before .before .if3 .left) (word .0)) (joined first (field .0)),
+      spelled (says-refused (a .words .now) _ (at-if1 .if1 .left) (at-if2 .if2 .left) (at-if3 .if3 .left) (at-if4 .if4 .left) (word .0)) (joined first (field .0)),
       omega (arith, first .end, field .1 .1 (word .1)),
     )
 
@@ -113,8 +134,13 @@ put-saying-spec =
     returns-3
     slice-aggregate-put-4
     put-requires-4
+    put-value-requires-3
+    same-length-4
+    returns-4
+    slice-aggregate-put-5
+    put-requires-5
     shared-slice-read-wide
     wide-requires
     put-field-requires
-    same-length-4
-    returns-4)
+    same-length-5
+    returns-5)
