@@ -1,7 +1,7 @@
 -- The wrappers' descriptions at their numbers: a law for each way that the code goes.
 use mathlib.Core.Path.{_≡_, refl, sym, ap, _∙_}
 use mathlib.Core.Bool.{Bool, true, false, cond, _||_}
-use mathlib.Core.List.{List, []}
+use mathlib.Core.List.{List, [], _∷_}
 use Prim.Native.Nat.{ℕ, _<_, _≤_}
 use native.Mathlib.Omega.{arith}
 use borrow.Author.Tests.{eq-eqb, ne-eqb, eqb-true, eqb-false}
@@ -76,11 +76,9 @@ module _ (w : ℕ) where
     pub no-sides : (w ≡ 1 → ⊥) → (w ≡ 3 → ⊥) → false ≡ hasSide (described w) n
     no-sides a c = rw (ne-eqb w 1 a, ne-eqb w 2 b, ne-eqb w 3 c) refl
 
-  pub filter-side : w ≡ 1 → (n : ℕ) → eqb n 1 ≡ hasSide (described w) n
-  filter-side e n = rw e (alone (eqb n 1))
-
-  pub logged-side : w ≡ 3 → (n : ℕ) → eqb n 1 ≡ hasSide (described w) n
-  logged-side e n = rw e (alone (eqb n 1))
+  -- a wrapper of side 1 alone
+  pub sole-side : (m : ℕ) → described m .sides ≡ 1 ∷ [] → w ≡ m → (n : ℕ) → eqb n 1 ≡ hasSide (described w) n
+  sole-side m q e n = rw (e, q) (alone (eqb n 1))
 
   module _ (e : w ≡ 2) (n : ℕ) where
     pub first-side : n ≡ 1 → true ≡ hasSide (described w) n

@@ -1,5 +1,6 @@
 // The line of an answer that is given in 20 words.
 ghost use mathlib.Core.Path.{_≡_};
+ghost use mathlib.Core.List.{_++_};
 ghost use Prim.Native.Nat.{_+_, _*_, _≤_, _<_, min};
 ghost use lib.ListN.{length};
 ghost use Rattle.writing.specs.Written.{Written};
@@ -35,6 +36,18 @@ fn put_value(out: &mut [u8], at: usize, words: &[u32]) -> usize
     put_fields(out, p, &words[AnswerWords::HEAD..e])
 }
 
+// A label's word, the side and the value words.
+fn put_label(out: &mut [u8], at: usize, word: &[u8], words: &[u32]) -> usize
+    requires { ⌜ length (now words) ≡ 20 ⌝ }
+    requires { ⌜ length (now word) ≤ 3 ⌝ }
+    requires { ⌜ at + 220 ≤ length (now out) ⌝ }
+    ensures { λ r. ⌜ Written (now (out .entry)) at (now (word .entry) ++ valueIn (now (words .entry))) r (now (out .exit)) ⌝ }
+    ensures { λ r. ⌜ r ≤ at + 189 ⌝ }
+{
+    let p = put(out, at, word);
+    put_value(out, p, words)
+}
+
 // What the answer says.
 fn put_saying(out: &mut [u8], at: usize, words: &[u32]) -> usize
     requires { ⌜ length (now words) ≡ 20 ⌝ }
@@ -47,16 +60,13 @@ fn put_saying(out: &mut [u8], at: usize, words: &[u32]) -> usize
         return put(out, at, b"tau");
     }
     if said == 1 {
-        let p = put(out, at, b"in");
-        return put_value(out, p, words);
+        return put_label(out, at, b"in", words);
     }
     if said == 2 {
-        let p = put(out, at, b"out");
-        return put_value(out, p, words);
+        return put_label(out, at, b"out", words);
     }
     if said == 4 {
-        let p = put(out, at, b"log");
-        return put_value(out, p, words);
+        return put_label(out, at, b"log", words);
     }
     let p = put(out, at, b"no");
     put_field(out, p, wide(words[1]))

@@ -20,72 +20,64 @@ same-length c = search needs
 
 returns : tie.Need-returns
 returns c =
-    let a = c .before .before .before .before .before .before .before .before .before .args in
-    let first = c .before .before .put .ensures in
-    (spelled (says-silent (a .words .now) (c .before .before .before .before .before .if1 .taken)) first, omega (arith, first .end))
+    let at-if1 = c .before .before .before .before .before in
+    let a = at-if1 .before .before .before .before .args in
+    let word = c .before .before .put .ensures in
+    (spelled (says-silent (a .words .now) (at-if1 .if1 .taken)) word, omega (arith, word .end))
 
-slice-aggregate-put-2 : tie.Need-slice-aggregate-put-2
-slice-aggregate-put-2 c = search needs
+slice-aggregate-put-label : tie.Need-slice-aggregate-put-label
+slice-aggregate-put-label c = search needs
 
-put-requires-2 : tie.Need-put-requires-2
-put-requires-2 c κs = search needs
-
-put-value-requires : tie.Need-put-value-requires
-put-value-requires c κs = search needs
+put-label-requires : tie.Need-put-label-requires
+put-label-requires c κs = search needs
 
 same-length-2 : tie.Need-same-length-2
 same-length-2 c = search needs
 
 returns-2 : tie.Need-returns-2
 returns-2 c =
-    let a = c .before .before .before .before .before .before .before .before .before .before .before .before .before .before .args in
-    let first = c .before .before .before .before .before .before .put2 .ensures in
-    let value = c .before .before .put-value .ensures in
-    (spelled (says-enters (a .words .now) (c .before .before .before .before .before .before .before .before .before .if2 .taken)) (joined first (value .0)), omega (arith, first .end, value .1))
+    let at-if2 = c .before .before .before .before .before in
+    let a = at-if2 .before .before .before .before .before .args in
+    let label = c .before .before .put-label .ensures in
+    (spelled (says-enters (a .words .now) (at-if2 .if2 .taken)) (label .0), label .1)
 
-slice-aggregate-put-3 : tie.Need-slice-aggregate-put-3
-slice-aggregate-put-3 c = search needs
+slice-aggregate-put-label-2 : tie.Need-slice-aggregate-put-label-2
+slice-aggregate-put-label-2 c = search needs
 
-put-requires-3 : tie.Need-put-requires-3
-put-requires-3 c κs = search needs
-
-put-value-requires-2 : tie.Need-put-value-requires-2
-put-value-requires-2 c κs = search needs
+put-label-requires-2 : tie.Need-put-label-requires-2
+put-label-requires-2 c κs = search needs
 
 same-length-3 : tie.Need-same-length-3
 same-length-3 c = search needs
 
 returns-3 : tie.Need-returns-3
 returns-3 c =
-    let a = c .before .before .before .before .before .before .before .before .before .before .before .before .before .before .before .args in
-    let first = c .before .before .before .before .before .before .put3 .ensures in
-    let value = c .before .before .put-value2 .ensures in
-    (spelled (says-leaves (a .words .now) (c .before .before .before .before .before .before .before .before .before .if3 .taken)) (joined first (value .0)), omega (arith, first .end, value .1))
+    let at-if3 = c .before .before .before .before .before in
+    let a = at-if3 .before .before .before .before .before .before .args in
+    let label = c .before .before .put-label2 .ensures in
+    (spelled (says-leaves (a .words .now) (at-if3 .if3 .taken)) (label .0), label .1)
 
-slice-aggregate-put-4 : tie.Need-slice-aggregate-put-4
-slice-aggregate-put-4 c = search needs
+slice-aggregate-put-label-3 : tie.Need-slice-aggregate-put-label-3
+slice-aggregate-put-label-3 c = search needs
 
-put-requires-4 : tie.Need-put-requires-4
-put-requires-4 c κs = search needs
-
-put-value-requires-3 : tie.Need-put-value-requires-3
-put-value-requires-3 c κs = search needs
+put-label-requires-3 : tie.Need-put-label-requires-3
+put-label-requires-3 c κs = search needs
 
 same-length-4 : tie.Need-same-length-4
 same-length-4 c = search needs
 
 returns-4 : tie.Need-returns-4
 returns-4 c =
-    let a = c .before .before .before .before .before .before .before .before .before .before .before .before .before .before .before .before .args in
-    let first = c .before .before .before .before .before .before .put4 .ensures in
-    let value = c .before .before .put-value3 .ensures in
-    (spelled (says-logs (a .words .now) (c .before .before .before .before .before .before .before .before .before .if4 .taken)) (joined first (value .0)), omega (arith, first .end, value .1))
+    let at-if4 = c .before .before .before .before .before in
+    let a = at-if4 .before .before .before .before .before .before .before .args in
+    let label = c .before .before .put-label3 .ensures in
+    (spelled (says-logs (a .words .now) (at-if4 .if4 .taken)) (label .0), label .1)
 
-slice-aggregate-put-5 : tie.Need-slice-aggregate-put-5
-slice-aggregate-put-5 c = search needs
+slice-aggregate-put-2 : tie.Need-slice-aggregate-put-2
+slice-aggregate-put-2 c = search needs
 
-put-requires-5 : tie.Need-put-requires-5
-put-requires-5 c κs = search needs
+put-requires-2 : tie.Need-put-requires-2
+put-requires-2 c κs = search needs
 
 shared-slice-read-wide : tie.Need-shared-slice-read-wide
 shared-slice-read-wide c = search needs
@@ -106,11 +98,11 @@ returns-5 c =
     let at-if2 = at-if3 .before in
     let at-if1 = at-if2 .before in
     let a = at-if1 .before .before .before .before .args in
-    let word = c .before .before .before .wide .ensures in
-    let first = c .before .before .before .before .before .before .before .before .put5 .ensures in
+    let number = c .before .before .before .wide .ensures in
+    let word = c .before .before .before .before .before .before .before .before .put2 .ensures in
     let field = c .before .before .put-field .ensures in (
-      spelled (says-refused (a .words .now) _ (at-if1 .if1 .left) (at-if2 .if2 .left) (at-if3 .if3 .left) (at-if4 .if4 .left) (word .0)) (joined first (field .0)),
-      omega (arith, first .end, field .1 .1 (word .1)),
+      spelled (says-refused (a .words .now) _ (at-if1 .if1 .left) (at-if2 .if2 .left) (at-if3 .if3 .left) (at-if4 .if4 .left) (number .0)) (joined word (field .0)),
+      omega (arith, word .end, field .1 .1 (number .1)),
     )
 
 pub put-saying-spec : {M : Type 1} → statement M
@@ -122,23 +114,20 @@ put-saying-spec =
     put-requires
     same-length
     returns
-    slice-aggregate-put-2
-    put-requires-2
-    put-value-requires
+    slice-aggregate-put-label
+    put-label-requires
     same-length-2
     returns-2
-    slice-aggregate-put-3
-    put-requires-3
-    put-value-requires-2
+    slice-aggregate-put-label-2
+    put-label-requires-2
     same-length-3
     returns-3
-    slice-aggregate-put-4
-    put-requires-4
-    put-value-requires-3
+    slice-aggregate-put-label-3
+    put-label-requires-3
     same-length-4
     returns-4
-    slice-aggregate-put-5
-    put-requires-5
+    slice-aggregate-put-2
+    put-requires-2
     shared-slice-read-wide
     wide-requires
     put-field-requires
