@@ -10,7 +10,7 @@ use Rattle.format.specs.Lines.{Input}
 use Rattle.reading.specs.declared.Places.{Places}
 use Rattle.reading.specs.declared.lines.After.{After}
 use Rattle.reading.specs.Lists.{Lists, lists, placesOf, Holds, AfterIs}
-use Rattle.reading.proofs.PieceLaws.{take-of-drop}
+use Rattle.delimiters.proofs.SliceLaws.{take-of-drop}
 
 -- an answer by what a line gives
 abbrev pub notTaken : Places → After

@@ -12,10 +12,10 @@ use Rattle.model.specs.Basics.{choose}
 use Rattle.format.specs.Lines.{Line, Input, lineOf, onW, onN, onV, onS, onLine, withLine}
 use Rattle.reading.specs.declared.Places.{Places}
 use Rattle.reading.specs.declared.lines.After.{After}
-use Rattle.reading.specs.Fields.{viewLine, shortLine, short, afterLine}
+use Rattle.reading.specs.Fields.{lineIn, shortLine, short, afterLine}
 use Rattle.reading.specs.Lists.{Lists, placesOf, Holds, AfterIs}
 use Rattle.model.proofs.Basics.Tests.{both}
-use Rattle.reading.proofs.LineLaws.{struct, view-line, view-none, is-short, is-long}
+use Rattle.reading.proofs.LineLaws.{view-line, view-none, is-short, is-long}
 use Rattle.reading.proofs.TestLaws.{first-fails, second-fails, above, passes, fails, same-either}
 use Rattle.reading.proofs.AnswerLaws.{is-fault, is-next, notTaken, takenTo, places, first-of, size-of}
 use Rattle.reading.proofs.NamedLaws.{another-size}
@@ -71,14 +71,14 @@ module _ (i : Input) (ns : List ℕ) where
 
 -- the answer for a struct's line, where it is not at fault, from the answer for its letter
 module _ (i : Input) (c len : ℕ) (ws : List ℕ) (old l : Lists) where
-  pub by-letter : (r : After) → len ≤ 21 → (o : Option Input) → onLine i (record { letter = c; words = take len ws }) ≡ o → AfterIs i o r old l → AfterIs i (afterLine i (viewLine (struct c ws len))) r old l
+  pub by-letter : (r : After) → len ≤ 21 → (o : Option Input) → onLine i (record { letter = c; words = take len ws }) ≡ o → AfterIs i o r old l → AfterIs i (afterLine i (lineIn c ws len)) r old l
   by-letter r few o e a = rw (view-line c len ws few, e) a
 
   -- a line of no letter, and one that is at fault as it stands
-  pub by-none : (p : Places) → p ≡ placesOf i → Holds i old l → len ≤ 21 → onLine i (record { letter = c; words = take len ws }) ≡ none → AfterIs i (afterLine i (viewLine (struct c ws len))) (notTaken p) old l
+  pub by-none : (p : Places) → p ≡ placesOf i → Holds i old l → len ≤ 21 → onLine i (record { letter = c; words = take len ws }) ≡ none → AfterIs i (afterLine i (lineIn c ws len)) (notTaken p) old l
   by-none p at h few e = by-letter (notTaken p) few none e (is-fault i none p old l at h refl)
 
-  pub by-length : (p : Places) → p ≡ placesOf i → Holds i old l → 21 < len → AfterIs i (afterLine i (viewLine (struct c ws len))) (notTaken p) old l
+  pub by-length : (p : Places) → p ≡ placesOf i → Holds i old l → 21 < len → AfterIs i (afterLine i (lineIn c ws len)) (notTaken p) old l
   by-length p at h m = is-fault i _ p old l at h (ap (afterLine i) (view-none c len ws m))
 
 -- a line of more than 21 numbers gives nothing, whatever its letter

@@ -1,6 +1,7 @@
 pub mod TestLaws
 pub mod NumberLaws
 pub mod PieceLaws
+pub mod EndLaws
 pub mod LineLaws
 pub mod StoreLaws
 pub mod LaidLaws

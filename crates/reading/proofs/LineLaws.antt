@@ -8,18 +8,16 @@ use Prim.Native.Nat.{ℕ, _+_, _-_, _<_, _≤_}
 use native.Mathlib.Omega.{arith}
 use native.Mathlib.Numerals.{add-one}
 use borrow.Author.Tests.{le-leb, lt-leb, leb-true, leb-false, eq-eqb, ne-eqb}
-use lib.Dec.{leb, eqb}
+use lib.Dec.{leb, ltb, eqb}
 use lib.ListN.{length, getD, take, set, length-append, length-set, length-take}
 use lib.Seq.{take-suc-set, slice-cons, length-slice}
 use Rattle.model.specs.Basics.{choose}
 use Rattle.format.specs.Lines.{tab, pieces, number, numbers, Line, lineOf}
-use Rattle.reading.specs.declared.fields.Line as code
 use Rattle.bytes.specs.Bytes.{slice, indexOf}
 use Rattle.reading.proofs.PieceLaws.{last, next, first}
-use Rattle.reading.specs.Fields.{viewLine, shortLine, short, pushed, lineWith}
-
-abbrev pub struct : ℕ → List ℕ → ℕ → code.Line
-struct c ws n = record { letter = c; words = ws; len = n }
+use Rattle.reading.proofs.EndLaws.{end-up, end-fits, end-behind, field-end, field-fits, at-newline, before-newline}
+use Rattle.reading.specs.Fields.{lineIn, shortLine, short, pushed, lineWith, lineEnd, ended}
+use Rattle.delimiters.specs.Delimiters.{delimiterFrom}
 
 abbrev pub line : ℕ → List ℕ → Line
 line c ns = record { letter = c; words = ns }
@@ -32,15 +30,15 @@ pub is-long : (c : ℕ) (ns : List ℕ) → 21 < length ns → shortLine (line c
 unfolding shortLine choose
 is-long c ns h = rw (lt-leb (length ns) 21 h)
 
-pub view-line : (c n : ℕ) (ws : List ℕ) → n ≤ 21 → viewLine (struct c ws n) ≡ some (line c (take n ws))
-unfolding viewLine choose
+pub view-line : (c n : ℕ) (ws : List ℕ) → n ≤ 21 → lineIn c ws n ≡ some (line c (take n ws))
+unfolding lineIn choose
 view-line c n ws h = rw (le-leb n 21 h)
 
-pub view-empty : (c : ℕ) (ws : List ℕ) → viewLine (struct c ws 0) ≡ lineWith c (some [])
+pub view-empty : (c : ℕ) (ws : List ℕ) → lineIn c ws 0 ≡ lineWith c (some [])
 view-empty c ws = view-line c 0 ws (omega arith)
 
-pub view-none : (c n : ℕ) (ws : List ℕ) → 21 < n → viewLine (struct c ws n) ≡ none
-unfolding viewLine choose
+pub view-none : (c n : ℕ) (ws : List ℕ) → 21 < n → lineIn c ws n ≡ none
+unfolding lineIn choose
 view-none c n ws h = rw (lt-leb n 21 h)
 
 -- one number more, in the array or past it
@@ -48,23 +46,23 @@ module _ (c n w : ℕ) (ws : List ℕ) (full : length ws ≡ 21) where
   longer : n ≤ 21 → length (take n ws ++ (w ∷ [])) ≡ n + 1
   longer h = omega (arith, length-append (take n ws) (w ∷ []), length-take n ws)
 
-  pub push-in : n < 21 → viewLine (struct c (set ws n w) (n + 1)) ≡ pushed w (viewLine (struct c ws n))
+  pub push-in : n < 21 → lineIn c (set ws n w) (n + 1) ≡ pushed w (lineIn c ws n)
   push-in h =
       let e : take (n + 1) (set ws n w) ≡ take n ws ++ (w ∷ []) = rw add-one (take-suc-set ws n w (omega arith)) in
       view-line c (n + 1) (set ws n w) (omega arith) ∙ ap (λ (l : List ℕ). some (line c l)) e
       ∙ sym (ap (pushed w) (view-line c n ws (omega arith)) ∙ is-short c (take n ws ++ (w ∷ [])) (omega (arith, longer (omega arith))))
 
-  pub push-out : (m : ℕ) → 21 ≤ n → 21 < m → viewLine (struct c ws m) ≡ pushed w (viewLine (struct c ws n))
+  pub push-out : (m : ℕ) → 21 ≤ n → 21 < m → lineIn c ws m ≡ pushed w (lineIn c ws n)
   push-out m h g = view-none c m ws g ∙ sym (go (leb n 21) refl)
     where
-      go : (b : Bool) → leb n 21 ≡ b → pushed w (viewLine (struct c ws n)) ≡ none
+      go : (b : Bool) → leb n 21 ≡ b → pushed w (lineIn c ws n) ≡ none
       go true e = ap (pushed w) (view-line c n ws (leb-true n 21 e)) ∙ is-long c (take n ws ++ (w ∷ [])) (omega (arith, longer (leb-true n 21 e)))
       go false e = ap (pushed w) (view-none c n ws (leb-false n 21 e))
 
   -- whichever of the two
-  pub push-either : (vs : List ℕ) (m : ℕ) → ((n < 21) × (vs ≡ set ws n w) × (m ≡ n + 1)) ⊎ ((21 ≤ n) × (vs ≡ ws) × (m ≡ 22)) → (length vs ≡ 21) × (viewLine (struct c vs m) ≡ pushed w (viewLine (struct c ws n)))
-  push-either vs m (inl (h, a, b)) = (ap length a ∙ length-set ws n w ∙ full, ap₂ (λ (l : List ℕ) (k : ℕ). viewLine (struct c l k)) a b ∙ push-in h)
-  push-either vs m (inr (h, a, b)) = (ap length a ∙ full, ap₂ (λ (l : List ℕ) (k : ℕ). viewLine (struct c l k)) a b ∙ push-out 22 h (omega arith))
+  pub push-either : (vs : List ℕ) (m : ℕ) → ((n < 21) × (vs ≡ set ws n w) × (m ≡ n + 1)) ⊎ ((21 ≤ n) × (vs ≡ ws) × (m ≡ 22)) → (length vs ≡ 21) × (lineIn c vs m ≡ pushed w (lineIn c ws n))
+  push-either vs m (inl (h, a, b)) = (ap length a ∙ length-set ws n w ∙ full, ap₂ (λ (l : List ℕ) (k : ℕ). lineIn c l k) a b ∙ push-in h)
+  push-either vs m (inr (h, a, b)) = (ap length a ∙ full, ap₂ (λ (l : List ℕ) (k : ℕ). lineIn c l k) a b ∙ push-out 22 h (omega arith))
 
 -- a line with some numbers more, none where there are none
 abbrev pub after : Option Line → Option (List ℕ) → Option Line
@@ -168,39 +166,71 @@ a-letter l f fs c e h g = of-pieces l f fs e ∙ rw (eq-eqb (length f) 1 h, ofPi
 pub start-line : (c : ℕ) (v : Option Line) (o : Option (List ℕ)) → v ≡ lineWith c (some []) → short (lineWith c o) ≡ after v o
 start-line c v o e = before-all c o ∙ ap (λ (x : Option Line). after x o) (sym e)
 
--- the first of the fields from one place up to another, which ends at q
-module _ (s : List ℕ) (from to q : ℕ) (up : from ≤ to) (fits : to ≤ length s) (found : q ≡ from + indexOf tab (slice from to s)) where
-  pub field-bad : q ≤ to → (v : Option Line) → number (slice from q s) ≡ none → after v (numbers (pieces tab (slice from to s))) ≡ none
-  field-bad h v e =
-      let f = first tab s from to q up fits found h in
-      ap (λ (ps : List (List ℕ)). after v (numbers ps)) (f .1) ∙ no-number v _ (f .0) e
+-- the line from a place on, whose first field ends at q
+module _ (s : List ℕ) (at q : ℕ) (up : at ≤ length s) (is : q ≡ delimiterFrom at s) where
+  abbrev end : ℕ
+  end = lineEnd at s
 
-  pub field-last : q ≡ to → (v : Option Line) (n : ℕ) → number (slice from q s) ≡ some n → after v (numbers (pieces tab (slice from to s))) ≡ pushed n v
-  field-last h v n e = ap (λ (ps : List (List ℕ)). after v (numbers ps)) (last tab s from to q up fits found h) ∙ last-number v _ n e
+  found : q ≡ at + indexOf tab (slice at end s)
+  found = is ∙ field-end s at up
 
-  pub field-next : q < to → (v u : Option Line) (n : ℕ) → number (slice from q s) ≡ some n → u ≡ pushed n v → after v (numbers (pieces tab (slice from to s))) ≡ after u (numbers (pieces tab (slice (q + 1) to s)))
-  field-next h v u n e p =
-      let rest = pieces tab (slice (q + 1) to s) in
-      ap (λ (ps : List (List ℕ)). after v (numbers ps)) (next tab s from to q up fits found h) ∙ a-number v _ rest n e ∙ ap (λ (x : Option Line). after x (numbers rest)) (sym p)
+  pub inside : (at ≤ q) × (q ≤ end) × (end ≤ length s)
+  inside = (omega (arith, found), omega (arith, is, field-fits s at up), end-fits s at up)
 
-  size : q ≤ to → length (slice from q s) ≡ q - from
+  -- there ends the input, or the line, or a field before others
+  pub to-newline : (q ≡ length s → ⊥) → getD s q 0 ≡ 10 → q ≡ end
+  to-newline n e = is ∙ at-newline s at up (omega (arith, is, n, inside .1, inside .2)) (ap (λ (k : ℕ). getD s k 0) (sym is) ∙ e)
+
+  pub to-tab : (q ≡ length s → ⊥) → (getD s q 0 ≡ 10 → ⊥) → q < end
+  to-tab n e =
+      let h = before-newline s at up (omega (arith, is, n, inside .1, inside .2)) (λ z. e (ap (λ (k : ℕ). getD s k 0) is ∙ z)) in
+      omega (arith, is, h)
+
+  -- the same line behind a field
+  pub same-end : q < end → lineEnd (q + 1) s ≡ end
+  same-end h = end-behind s at q (inside .0) h up
+
+  module _ (v : Option Line) where
+    pub field-bad : number (slice at q s) ≡ none → after v (numbers (pieces tab (slice at end s))) ≡ none
+    field-bad e =
+        let f = first tab s at end q (end-up s at up) (inside .2) found (inside .1) in
+        ap (λ (ps : List (List ℕ)). after v (numbers ps)) (f .1) ∙ no-number v _ (f .0) e
+
+    module _ (n : ℕ) (e : number (slice at q s) ≡ some n) where
+      pub field-last : q ≡ end → after v (numbers (pieces tab (slice at end s))) ≡ pushed n v
+      field-last h = ap (λ (ps : List (List ℕ)). after v (numbers ps)) (last tab s at end q (end-up s at up) (inside .2) found h) ∙ last-number v _ n e
+
+      pub field-next : q < end → (u : Option Line) → u ≡ pushed n v → after v (numbers (pieces tab (slice at end s))) ≡ after u (numbers (pieces tab (slice (q + 1) (lineEnd (q + 1) s) s)))
+      field-next h u p =
+          let rest = pieces tab (slice (q + 1) end s) in
+          ap (λ (ps : List (List ℕ)). after v (numbers ps)) (next tab s at end q (end-up s at up) (inside .2) found h) ∙ a-number v _ rest n e
+          ∙ ap₂ (λ (x : Option Line) (k : ℕ). after x (numbers (pieces tab (slice (q + 1) k s)))) (sym p) (sym (same-end h))
+
+  -- its first field is its letter
+  size : length (slice at q s) ≡ q - at
   unfolding slice
-  size h = length-slice from q s (omega arith)
+  size = length-slice at q s (omega (arith, inside .1, inside .2))
 
-  letter : q - from ≡ 1 → q ≤ to → getD (slice from q s) 0 0 ≡ getD s from 0
+  letter : q - at ≡ 1 → getD (slice at q s) 0 0 ≡ getD s at 0
   unfolding slice
-  letter e h = ap (λ (l : List ℕ). getD l 0 0) (slice-cons from q s 0 (omega arith) (omega arith))
+  letter e = ap (λ (l : List ℕ). getD l 0 0) (slice-cons at q s 0 (omega arith) (omega (arith, inside .1, inside .2)))
 
-  pub line-bad : q ≤ to → (q - from ≡ 1 → ⊥) → short (lineOf (slice from to s)) ≡ none
-  line-bad h k = let f = first tab s from to q up fits found h in no-letter _ _ (f .0) (f .1) (λ e. k (sym (size h) ∙ e))
+  pub line-bad : (q - at ≡ 1 → ⊥) → short (lineOf (slice at end s)) ≡ none
+  line-bad k =
+      let f = first tab s at end q (end-up s at up) (inside .2) found (inside .1) in
+      no-letter _ _ (f .0) (f .1) (λ e. k (sym size ∙ e))
 
-  pub line-alone : q ≡ to → q - from ≡ 1 → short (lineOf (slice from to s)) ≡ lineWith (getD s from 0) (some [])
+  pub line-alone : q ≡ end → q - at ≡ 1 → short (lineOf (slice at end s)) ≡ lineWith (getD s at 0) (some [])
   unfolding numbers
   line-alone h k =
-      let m : q ≤ to = omega arith in
-      ap short (a-letter _ _ [] (getD s from 0) (last tab s from to q up fits found h) (size m ∙ k) (letter k m)) ∙ is-short (getD s from 0) [] (omega arith)
+      ap short (a-letter _ _ [] (getD s at 0) (last tab s at end q (end-up s at up) (inside .2) found h) (size ∙ k) (letter k)) ∙ is-short (getD s at 0) [] (omega arith)
 
-  pub line-numbers : q < to → q - from ≡ 1 → short (lineOf (slice from to s)) ≡ short (lineWith (getD s from 0) (numbers (pieces tab (slice (q + 1) to s))))
+  pub line-numbers : q < end → q - at ≡ 1 → short (lineOf (slice at end s)) ≡ short (lineWith (getD s at 0) (numbers (pieces tab (slice (q + 1) (lineEnd (q + 1) s) s))))
   line-numbers h k =
-      let m : q ≤ to = omega arith in
-      ap short (a-letter _ _ _ (getD s from 0) (next tab s from to q up fits found h) (size m ∙ k) (letter k m))
+      ap short (a-letter _ _ _ (getD s at 0) (next tab s at end q (end-up s at up) (inside .2) found h) (size ∙ k) (letter k))
+      ∙ ap (λ (n : ℕ). short (lineWith (getD s at 0) (numbers (pieces tab (slice (q + 1) n s))))) (sym (same-end h))
+
+-- a line from another place on, with the same end
+pub ended-same : (from at : ℕ) (s : List ℕ) (l : Option Line) → lineEnd at s ≡ lineEnd from s → ended at s l ≡ ended from s l
+unfolding ended
+ended-same from at s l e = ap (λ (k : ℕ). choose (ltb k (length s)) l none) e

@@ -3,15 +3,15 @@ use mathlib.Core.Path.{_≡_, refl, sym, ap, _∙_}
 use mathlib.Core.Bool.{Bool, true, false}
 use mathlib.Core.List.{List, [], _∷_}
 use Prim.Native.Nat.{ℕ, zero, suc, _+_, _-_, _<_, _≤_}
-use native.Mathlib.Nat.{zero-add, suc-add}
 use native.Mathlib.Omega.{arith}
 use borrow.Author.Tests.{ltb-true, ltb-false}
 use lib.Dec.{ltb, eqb}
 use lib.ListN.{length, take, drop}
-use lib.Seq.{take-take, take-all, take-nil, drop-nil, drop-drop, length-slice}
+use lib.Seq.{take-take, take-all, drop-drop, length-slice}
 use Rattle.model.specs.Basics.{choose}
 use Rattle.format.specs.Lines.{toFirst, pieces}
 use Rattle.bytes.specs.Bytes.{slice, indexOf, indexAfter}
+use Rattle.delimiters.proofs.SliceLaws.{take-of-drop}
 
 -- a number that is nowhere in the list parts nothing
 last-step : (c x : ℕ) (xs : List ℕ) (b : Bool) → indexAfter b (indexOf c xs) ≡ suc (length xs) → (indexOf c xs ≡ length xs → pieces c xs ≡ xs ∷ []) → choose b ([] ∷ pieces c xs) (toFirst x (pieces c xs)) ≡ (x ∷ xs) ∷ []
@@ -35,11 +35,6 @@ next-piece : (c : ℕ) (l : List ℕ) → indexOf c l < length l → pieces c l 
 unfolding pieces indexOf
 next-piece c [] e = absurd (omega arith)
 next-piece c (x ∷ xs) e = next-step c x xs (eqb x c) e (next-piece c xs)
-
-pub take-of-drop : (f k : ℕ) (l : List ℕ) → take k (drop f l) ≡ drop f (take (f + k) l)
-take-of-drop zero k l = rw zero-add
-take-of-drop (suc f) k [] = take-nil k ∙ sym (ap (drop (suc f)) (take-nil (suc f + k)) ∙ drop-nil (suc f))
-take-of-drop (suc f) k (x ∷ xs) = rw suc-add (take-of-drop f k xs)
 
 -- the part of a list from one place up to another, parted by c, which is found at q or not at all
 module _ (c : ℕ) (s : List ℕ) (from to q : ℕ) (up : from ≤ to) (fits : to ≤ length s) (found : q ≡ from + indexOf c (slice from to s)) where

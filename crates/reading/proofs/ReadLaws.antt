@@ -1,16 +1,18 @@
 -- The lines of an input, one after the other.
 use mathlib.Core.Path.{_≡_, refl, sym, ap, subst, _∙_}
+use mathlib.Core.Logic.{_⊎_, ⊎-elim}
 use mathlib.Core.Bool.{Bool, true, false, false≢true}
 use mathlib.Core.List.{List, [], _∷_, map}
 use mathlib.Core.Option.{Option, none, some}
 use Prim.Native.Nat.{ℕ, zero, suc, _+_, _-_, _<_, _≤_}
 use native.Mathlib.Omega.{arith}
 use native.Mathlib.Numerals.{add-one}
-use borrow.Author.Tests.{lt-ltb, le-leb, lt-leb, eq-eqb, ne-eqb}
-use lib.Dec.{leb, eqb}
+use borrow.Author.Tests.{lt-ltb, le-leb, lt-leb, ltb-true, ltb-false, ne-eqb}
+use lib.Dec.{leb, ltb, eqb}
 use lib.ListN.{length, getD}
-use lib.Seq.{length-slice}
+use lib.Seq.{length-slice, slice-empty}
 use Rattle.model.specs.Basics.{_&_, choose}
+use Rattle.model.proofs.Basics.Tests.{no-some}
 use Rattle.model.specs.Wrapper.{allSides}
 use Rattle.format.specs.Lines.{newline, toFirst, pieces, lineOf, Input, noInput, withLine, fault, whole, readFrom, reading, soFar, readSoFar}
 use Rattle.bytes.specs.Bytes.{slice, indexOf}
@@ -19,9 +21,10 @@ use Rattle.reading.specs.declared.Verdict.{Verdict}
 use Rattle.reading.specs.declared.Verdict.the-variants.{Fault, Whole}
 use Rattle.reading.specs.declared.lines.After.{After}
 use Rattle.reading.specs.declared.fields.Line as code
-use Rattle.reading.specs.Fields.{viewLine, short, afterLine}
+use Rattle.reading.specs.Fields.{viewLine, short, lineEnd, ended, afterLine}
 use Rattle.reading.specs.Lists.{Lists, placesOf, readingOf, Holds, AfterIs, ReadIs}
 use Rattle.reading.proofs.PieceLaws as part
+use Rattle.reading.proofs.EndLaws.{end-fits, ended-yes, ended-no}
 use Rattle.reading.proofs.LaidLaws.{laid-none}
 use Rattle.reading.proofs.AnswerLaws.{same-lists}
 use Rattle.reading.proofs.LetterLaws.{with-line}
@@ -58,19 +61,19 @@ so-far-last : (i : Input) (f : List ℕ) → soFar i (f ∷ []) ≡ i
 unfolding soFar
 so-far-last i f = refl
 
--- what stands behind the last newline
-module _ (n : ℕ) (i : Input) (f : List ℕ) where
-  pub rest-some : 0 < length f → readingOf (Fault n) i ≡ readFrom n i (f ∷ [])
+-- what stands behind the last newline: nothing, or a line without its newline
+module _ (n : ℕ) (i : Input) where
+  pub no-line : i .rank ≡ 0 → readingOf (Fault n) i ≡ readFrom n i ([] ∷ [])
   unfolding readFrom _&_ choose
-  rest-some e = let q : readFrom n i (f ∷ []) ≡ fault n = rw (ne-eqb (length f) 0 (λ q. omega arith)) in sym q
+  no-line z = let q : readFrom n i ([] ∷ []) ≡ fault n = rw z in sym q
 
-  pub rest-none : length f ≤ 0 → i .rank ≡ 0 → readingOf (Fault n) i ≡ readFrom n i (f ∷ [])
+  pub no-more : (i .rank ≡ 0 → ⊥) → readingOf Whole i ≡ readFrom n i ([] ∷ [])
   unfolding readFrom _&_ choose
-  rest-none e z = let q : readFrom n i (f ∷ []) ≡ fault n = rw (eq-eqb (length f) 0 (omega arith), z) in sym q
+  no-more z = let q : readFrom n i ([] ∷ []) ≡ whole i = rw (lt-ltb 0 (i .rank) (omega (arith, z))) in sym q
 
-  pub rest-whole : length f ≤ 0 → (i .rank ≡ 0 → ⊥) → readingOf Whole i ≡ readFrom n i (f ∷ [])
+  no-newline : (f : List ℕ) → 0 < length f → readingOf (Fault n) i ≡ readFrom n i (f ∷ [])
   unfolding readFrom _&_ choose
-  rest-whole e z = let q : readFrom n i (f ∷ []) ≡ whole i = rw (eq-eqb (length f) 0 (omega arith), lt-ltb 0 (i .rank) (omega (arith, z))) in sym q
+  no-newline f h = let q : readFrom n i (f ∷ []) ≡ fault n = rw (ne-eqb (length f) 0 (λ e. omega arith)) in sym q
 
 -- an answer of a line, taken apart
 gave-none : (i : Input) (o : Option Input) (r : After) (old new : Lists) → r .taken ≡ false → AfterIs i o r old new → (o ≡ none) × (r .places ≡ placesOf i) × Holds i old new
@@ -117,41 +120,75 @@ pub before-lines : (s : List ℕ) → length s ≤ 65536 → SoFar s 1 (pieces n
 unfolding reading readSoFar choose
 before-lines s h = record { verdict = rw (le-leb (length s) 65536 h, part.whole s); given = rw (le-leb (length s) 65536 h, part.whole s) }
 
--- line n of an input, from place `at` up to q, where the lines before it give i
-module _ (s : List ℕ) (at to q n : ℕ) (i : Input) (up : at ≤ to) (fits : to ≤ length s) (found : q ≡ at + indexOf newline (slice at to s)) (so-far : SoFar s n (pieces newline (slice at to s)) i) where
-  more : q < to → (m : List ℕ) × (ms : List (List ℕ)) × (pieces newline (slice (q + 1) to s) ≡ m ∷ ms) × SoFar s n (slice at q s ∷ m ∷ ms) i
+-- line n of an input, from place `at` on, where the lines before it give i
+module _ (s : List ℕ) (at n : ℕ) (i : Input) (up : at ≤ length s) (so-far : SoFar s n (pieces newline (slice at (length s) s)) i) where
+  abbrev end : ℕ
+  end = lineEnd at s
+
+  abbrev own : List ℕ
+  own = slice at end s
+
+  found : end ≡ at + indexOf newline (slice at (length s) s)
+  unfolding lineEnd
+  found = refl
+
+  -- the line with its newline, and others behind it
+  more : end < length s → (m : List ℕ) × (ms : List (List ℕ)) × (pieces newline (slice (end + 1) (length s) s) ≡ m ∷ ms) × SoFar s n (own ∷ m ∷ ms) i
   more h =
-      let x = some-piece newline (slice (q + 1) to s) in
-      let e = part.next newline s at to q up fits found h ∙ ap (λ (ps : List (List ℕ)). slice at q s ∷ ps) (x .2) in
+      let x = some-piece newline (slice (end + 1) (length s) s) in
+      let e = part.next newline s at (length s) end up (omega arith) found h ∙ ap (λ (ps : List (List ℕ)). own ∷ ps) (x .2) in
       (x .0, x .1, x .2, subst (λ (ps : List (List ℕ)). SoFar s n ps i) e so-far)
 
-  line-of : (c : code.Line) → viewLine c ≡ short (lineOf (slice at q s)) → withLine i (slice at q s) ≡ afterLine i (viewLine c)
-  line-of c e = with-line i (slice at q s) ∙ ap (afterLine i) (sym e)
+  -- the line without one
+  last : end ≡ length s → SoFar s n (own ∷ []) i
+  last h = subst (λ (ps : List (List ℕ)). SoFar s n ps i) (part.last newline s at (length s) end up (omega arith) found h) so-far
 
-  module _ (h : q < to) (c : code.Line) (r : After) (old l : Lists) (view : viewLine c ≡ short (lineOf (slice at q s))) (a : AfterIs i (afterLine i (viewLine c)) r old l) where
-    pub line-fault : r .taken ≡ false → ReadIs s (record { verdict = Fault n; places = r .places }) old l
-    line-fault f =
-        let x = more h in
-        let y = gave-none i _ r old l f a in
-        let w = line-of c view ∙ y .0 in
-        answered s (Fault n) (r .places) i old l (sym (x .3 .verdict ∙ line-none n i _ (x .0) (x .1) w)) (x .3 .given ∙ so-far-none i _ (x .0) (x .1) w) (y .1) (y .2)
+  module _ (c : code.Line) (r : After) (old l : Lists) (view : viewLine c ≡ ended at s (short (lineOf own))) (a : AfterIs i (afterLine i (viewLine c)) r old l) where
+    line-of : end < length s → withLine i own ≡ afterLine i (viewLine c)
+    line-of h = with-line i own ∙ ap (afterLine i) (sym (view ∙ ended-yes at s _ h))
 
-    pub line-taken : r .taken ≡ true → (j : Input) × (r .places ≡ placesOf j) × Holds j old l × SoFar s (n + 1) (pieces newline (slice (q + 1) to s)) j
-    line-taken f =
-        let x = more h in
+    no-line-of : end ≡ length s → afterLine i (viewLine c) ≡ none
+    no-line-of h = ap (afterLine i) (view ∙ ended-no at s _ (omega (arith, h)))
+
+    size : end ≡ length s → length own ≡ length s - at
+    unfolding slice
+    size h = length-slice at end s (omega (arith, h)) ∙ ap (λ (k : ℕ). k - at) h
+
+    pub line-refused : at < length s → r .taken ≡ false → ReadIs s (record { verdict = Fault n; places = r .places }) old l
+    line-refused inside f = go (ltb end (length s)) refl
+      where
+        y : (afterLine i (viewLine c) ≡ none) × (r .places ≡ placesOf i) × Holds i old l
+        y = gave-none i _ r old l f a
+
+        go : (b : Bool) → ltb end (length s) ≡ b → ReadIs s (record { verdict = Fault n; places = r .places }) old l
+        go true e =
+            let h = ltb-true end (length s) e in
+            let x = more h in
+            let w = line-of h ∙ y .0 in
+            answered s (Fault n) (r .places) i old l (sym (x .3 .verdict ∙ line-none n i _ (x .0) (x .1) w)) (x .3 .given ∙ so-far-none i _ (x .0) (x .1) w) (y .1) (y .2)
+        go false e =
+            let h : end ≡ length s = omega (arith, ltb-false end (length s) e, end-fits s at up) in
+            let x = last h in
+            answered s (Fault n) (r .places) i old l (no-newline n i own (omega (arith, size h)) ∙ sym (x .verdict)) (x .given ∙ so-far-last i own) (y .1) (y .2)
+
+    -- the line's end is then known, and the next line begins behind it
+    pub line-taken : (viewLine c ≡ none) ⊎ (c .end ≡ end) → r .taken ≡ true →
+        (at ≤ c .end) × (c .end < length s) × ((j : Input) × (r .places ≡ placesOf j) × Holds j old l × SoFar s (n + 1) (pieces newline (slice (c .end + 1) (length s) s)) j)
+    line-taken place f =
         let y = gave-some i _ r old l f a in
-        let w = line-of c view ∙ y .1 in
+        let is : c .end ≡ end = ⊎-elim (λ e. absurd (no-some (sym (ap (afterLine i) e) ∙ y .1))) (λ e. e) place in
+        let some-newline : end ≡ length s → ⊥ = λ e. no-some (sym (no-line-of e) ∙ y .1) in
+        let h : end < length s = omega (arith, some-newline, end-fits s at up) in
+        let x = more h in
+        let w = line-of h ∙ y .1 in
+        let rest : pieces newline (slice (c .end + 1) (length s) s) ≡ x .0 ∷ x .1 = ap (λ (k : ℕ). pieces newline (slice (k + 1) (length s) s)) is ∙ x .2 in
         let z : SoFar s (suc n) (x .0 ∷ x .1) (y .0) = record { verdict = x .3 .verdict ∙ line-some n i (y .0) _ (x .0) (x .1) w; given = x .3 .given ∙ so-far-some i (y .0) _ (x .0) (x .1) w } in
-        (y .0, y .2, y .3, rw (add-one, x .2) z)
+        (omega (arith, is, found), omega (arith, is, h), (y .0, y .2, y .3, rw (add-one, rest) z))
 
-  size : q ≡ to → length (slice at q s) ≡ to - at
-  unfolding slice
-  size e = rw e (length-slice at to s fits)
-
-  pub no-newline : q ≡ to → (v : Verdict) (p : Places) (old l : Lists) → p ≡ placesOf i → Holds i old l →
-      ((j : Input) (rest : List ℕ) → p .rank ≡ j .rank → length rest ≡ to - at → readingOf v j ≡ readFrom n j (rest ∷ [])) → ReadIs s (record { verdict = v; places = p }) old l
-  no-newline e v p old l g h f =
-      let last = part.last newline s at to q up fits found e in
-      answered s v p i old l
-      (f i (slice at q s) (ap (λ (x : Places). x .rank) g) (size e) ∙ sym (so-far .verdict ∙ ap (readFrom n i) last))
-      (so-far .given ∙ ap (soFar i) last ∙ so-far-last i (slice at q s)) g h
+  -- behind the last newline there is nothing
+  pub all-read : at ≡ length s → (v : Verdict) (p : Places) (old l : Lists) → p ≡ placesOf i → Holds i old l →
+      ((j : Input) → p .rank ≡ j .rank → readingOf v j ≡ readFrom n j ([] ∷ [])) → ReadIs s (record { verdict = v; places = p }) old l
+  unfolding pieces slice
+  all-read e v p old l g h f =
+      let none-left : pieces newline (slice at (length s) s) ≡ [] ∷ [] = ap (pieces newline) (ap (λ (k : ℕ). slice at k s) (sym e) ∙ slice-empty at s) in
+      answered s v p i old l (f i (ap (λ (x : Places). x .rank) g) ∙ sym (so-far .verdict ∙ ap (readFrom n i) none-left)) (so-far .given ∙ ap (soFar i) none-left ∙ so-far-last i []) g h

@@ -18,7 +18,7 @@ use Rattle.format.specs.Words.{stepWords, allStepWords}
 use Rattle.format.specs.Lines.{Input, between, stepOf, onS}
 use Rattle.reading.specs.declared.Places.{Places}
 use Rattle.reading.specs.Lists.{Lists, lists, placesOf, Holds, AfterIs}
-use Rattle.reading.proofs.PieceLaws.{take-of-drop}
+use Rattle.delimiters.proofs.SliceLaws.{take-of-drop}
 use Rattle.reading.proofs.TestLaws.{first-fails, second-fails, inside, below, above, passes, fails}
 use Rattle.reading.proofs.AnswerLaws.{is-fault, is-next, notTaken, takenTo, places, same-places, same-lists, size-of}
 

@@ -2,12 +2,13 @@
 use mathlib.Core.List.{List, [], _∷_, _++_}
 use mathlib.Core.Option.{Option, none, some}
 use mathlib.Core.Bool.{Bool}
-use Prim.Native.Nat.{ℕ}
-use lib.Dec.{leb, eqb}
+use Prim.Native.Nat.{ℕ, _+_}
+use lib.Dec.{leb, ltb, eqb}
 use lib.ListN.{length, getD, take}
 use Rattle.model.specs.Basics.{_&_, choose}
 use Rattle.model.specs.Wrapper.{allSides}
-use Rattle.format.specs.Lines.{Line, Input, between, onLine}
+use Rattle.bytes.specs.Bytes.{slice, indexOf}
+use Rattle.format.specs.Lines.{newline, Line, Input, between, onLine}
 use Rattle.reading.specs.declared.fields.Number.{Number}
 use Rattle.reading.specs.declared.fields.Number.the-variants.{Word, Bad}
 use Rattle.reading.specs.declared.fields.Line as code
@@ -23,9 +24,13 @@ numberOf Bad = none
 abbrev pub wordsOf : code.Line → List ℕ
 wordsOf r = take (r .len) (r .words)
 
--- the line that a struct holds; none where its length says that the line is at fault
-unfoldable pub viewLine : code.Line → Option Line
-viewLine r = choose (leb (r .len) 21) (some (record { letter = r .letter; words = wordsOf r })) none
+-- the line of a letter and the first `len` of some numbers; none where the length says that the line is at fault
+unfoldable pub lineIn : (letter : ℕ) → List ℕ → (len : ℕ) → Option Line
+lineIn c ws len = choose (leb len 21) (some (record { letter = c; words = take len ws })) none
+
+-- the line that a struct holds
+abbrev pub viewLine : code.Line → Option Line
+viewLine r = lineIn (r .letter) (r .words) (r .len)
 
 -- a line that has at most 21 numbers
 unfoldable pub shortLine : Line → Option Line
@@ -45,6 +50,14 @@ pushed w (some l) = shortLine (record { letter = l .letter; words = l .words ++ 
 abbrev pub lineWith : ℕ → Option (List ℕ) → Option Line
 lineWith c none = none
 lineWith c (some ns) = some (record { letter = c; words = ns })
+
+-- the place of the first newline from a place on, or the length where there is none
+unfoldable pub lineEnd : (from : ℕ) → List ℕ → ℕ
+lineEnd from s = from + indexOf newline (slice from (length s) s)
+
+-- a line from a place on, where a newline ends it
+unfoldable pub ended : (from : ℕ) → List ℕ → Option Line → Option Line
+ended from s l = choose (ltb (lineEnd from s) (length s)) l none
 
 -- what is read with a line more, or none where the line is at fault
 abbrev pub afterLine : Input → Option Line → Option Input

@@ -1,12 +1,14 @@
 // A line's fields: its letter, and its numbers.
 ghost use mathlib.Core.Path.{_≡_};
+ghost use mathlib.Core.Logic.{_⊎_};
 ghost use mathlib.Core.List.{[]};
 ghost use mathlib.Core.Option.{none, some};
 ghost use Prim.Native.Nat.{_≤_};
 ghost use lib.ListN.{length};
 ghost use Rattle.bytes.specs.Bytes.{slice};
 ghost use Rattle.format.specs.Lines.{tab, number, pieces, numbers, lineOf};
-ghost use Rattle.reading.specs.Fields.{numberOf, viewLine, short, lineWith};
+ghost use Rattle.reading.specs.Fields.{numberOf, viewLine, short, lineWith, lineEnd, ended};
+use delimiters::next_delimiter;
 
 // A field as a number.
 pub(crate) enum Number {
@@ -14,11 +16,13 @@ pub(crate) enum Number {
     Bad,
 }
 
-// A line's letter and numbers. A length of 22 says that the line is at fault, or has more than 21 numbers.
+// A line's letter and numbers, and the place of its newline. A length of 22 says that the line is at fault, or has more than 21
+// numbers; its end says nothing then.
 pub(crate) struct Line {
     pub(crate) letter: u8,
     pub(crate) words: [u32; Line::MOST],
     pub(crate) len: usize,
+    pub(crate) end: usize,
 }
 
 // A byte as a wider number.
@@ -71,31 +75,34 @@ impl Line {
             letter: 0,
             words: [0; Line::MOST],
             len: Line::FAULT,
+            end: 0,
         }
     }
 
-    // A letter alone.
-    fn alone(letter: u8) -> Line
-        ensures { λ r. ⌜ viewLine r ≡ lineWith letter (some []) ⌝ }
+    // A letter alone, with a newline at a place.
+    fn alone(letter: u8, end: usize) -> Line
+        ensures { λ r. ⌜ (viewLine r ≡ lineWith letter (some [])) × (r .end ≡ end) ⌝ }
     {
         Line {
             letter,
             words: [0; Line::MOST],
             len: 0,
+            end,
         }
     }
 }
 
-// A letter's line with the numbers of the fields from one place up to another. It is at fault with more than 21 of them.
-fn with_numbers(letter: u8, s: &[u8], from: usize, to: usize) -> Line
-    requires { ⌜ (from ≤ to) × (to ≤ length (now s)) ⌝ }
-    ensures { λ r. ⌜ viewLine r ≡ short (lineWith letter (numbers (pieces tab (slice from to (now (s .entry)))))) ⌝ }
+// A letter's line with the numbers of the fields from a place on. It is at fault with more than 21 of them, and without a newline.
+fn with_numbers(letter: u8, s: &[u8], from: usize) -> Line
+    requires { ⌜ from ≤ length (now s) ⌝ }
+    ensures { λ r. ⌜ viewLine r ≡ ended from (now (s .entry)) (short (lineWith letter (numbers (pieces tab (slice from (lineEnd from (now (s .entry))) (now (s .entry))))))) ⌝ }
+    ensures { λ r. ⌜ (viewLine r ≡ none) ⊎ (r .end ≡ lineEnd from (now (s .entry))) ⌝ }
 {
     let mut words = [0u32; Line::MOST];
     let mut len: usize = 0;
     let mut at = from;
     loop {
-        let q = bytes::scan::find(s, at, to, 9);
+        let q = next_delimiter(s, at);
         let Number::Word(w) = number_at(s, at, q) else {
             return Line::bad();
         };
@@ -105,25 +112,37 @@ fn with_numbers(letter: u8, s: &[u8], from: usize, to: usize) -> Line
         } else {
             len = Line::FAULT;
         }
-        if q == to {
-            return Line { letter, words, len };
+        if q == s.len() {
+            return Line::bad();
+        }
+        if s[q] == 10 {
+            return Line {
+                letter,
+                words,
+                len,
+                end: q,
+            };
         }
         at = q + 1;
     }
 }
 
-// The line in the bytes from one place up to another.
-pub(crate) fn line_at(s: &[u8], from: usize, to: usize) -> Line
-    requires { ⌜ (from ≤ to) × (to ≤ length (now s)) ⌝ }
-    ensures { λ r. ⌜ viewLine r ≡ short (lineOf (slice from to (now (s .entry)))) ⌝ }
+// The line from a place on, up to its newline.
+pub(crate) fn line_at(s: &[u8], from: usize) -> Line
+    requires { ⌜ from ≤ length (now s) ⌝ }
+    ensures { λ r. ⌜ viewLine r ≡ ended from (now (s .entry)) (short (lineOf (slice from (lineEnd from (now (s .entry))) (now (s .entry))))) ⌝ }
+    ensures { λ r. ⌜ (viewLine r ≡ none) ⊎ (r .end ≡ lineEnd from (now (s .entry))) ⌝ }
 {
-    let q = bytes::scan::find(s, from, to, 9);
+    let q = next_delimiter(s, from);
     if q - from != 1 {
         return Line::bad();
     }
-    let letter = s[from];
-    if q == to {
-        return Line::alone(letter);
+    if q == s.len() {
+        return Line::bad();
     }
-    with_numbers(letter, s, q + 1, to)
+    let letter = s[from];
+    if s[q] == 10 {
+        return Line::alone(letter, q);
+    }
+    with_numbers(letter, s, q + 1)
 }

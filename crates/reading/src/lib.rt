@@ -3,9 +3,7 @@ mod fields;
 mod lines;
 
 ghost use mathlib.Core.Path.{_≡_};
-ghost use mathlib.Core.List.{List, [], _∷_};
-ghost use Prim.Native.Nat.{ℕ};
-ghost use lib.ListN.{length};
+ghost use mathlib.Core.List.{[], _∷_};
 ghost use Rattle.format.specs.Lines.{Input, noInput, readFrom};
 ghost use Rattle.reading.specs.Lists.{lists, placesOf, readingOf, ReadIs};
 use fields::line_at;
@@ -64,13 +62,10 @@ impl Places {
     }
 }
 
-// The verdict on an input's last line n, which has no newline and so many bytes, behind lines of some rank.
-fn ended(rank: usize, n: usize, bytes: usize) -> Verdict
-    ensures { λ r. ⌜ ((i : Input) (rest : List ℕ) → rank ≡ i .rank → length rest ≡ bytes → readingOf r i ≡ readFrom n i (rest ∷ [])) ⌝ }
+// The verdict on an input that ends behind line n - 1, of some rank.
+fn at_end(rank: usize, n: usize) -> Verdict
+    ensures { λ r. ⌜ ((i : Input) → rank ≡ i .rank → readingOf r i ≡ readFrom n i ([] ∷ [])) ⌝ }
 {
-    if 0 < bytes {
-        return Verdict::Fault(n);
-    }
     if rank == 0 {
         return Verdict::Fault(n);
     }
@@ -94,13 +89,8 @@ pub fn read(
     }
     let mut n: usize = 1;
     let mut at: usize = 0;
-    loop {
-        let q = bytes::scan::find(input, at, len, 10);
-        if q == len {
-            let verdict = ended(places.rank, n, len - at);
-            return Reading { verdict, places };
-        }
-        let l = line_at(input, at, q);
+    while at < len {
+        let l = line_at(input, at);
         let a = on_line(l, places, nodes, pools, steps);
         places = a.places;
         if !a.taken {
@@ -108,6 +98,8 @@ pub fn read(
             return Reading { verdict, places };
         }
         n += 1;
-        at = q + 1;
+        at = l.end + 1;
     }
+    let verdict = at_end(places.rank, n);
+    Reading { verdict, places }
 }

@@ -1,0 +1,45 @@
+// The search for the next tab or newline, by which a field or a line ends.
+mod words;
+
+ghost use mathlib.Core.Path.{_≡_};
+ghost use Rattle.delimiters.specs.Delimiters.{delimiterFrom};
+use words::marks;
+use words::word_at;
+
+// The search byte by byte.
+fn by_bytes(s: &[u8], start: usize) -> usize
+    ensures { λ r. ⌜ r ≡ delimiterFrom start (now (s .entry)) ⌝ }
+{
+    let mut at = start;
+    while at < s.len() {
+        let b = s[at];
+        if b == 9 {
+            return at;
+        }
+        if b == 10 {
+            return at;
+        }
+        at += 1;
+    }
+    s.len()
+}
+
+// The first place from `start` on with a tab or a newline, or the length where there is none; so it is the length too where the
+// start is past the end. Eight bytes are looked at as one word, the last few by themselves.
+pub fn next_delimiter(s: &[u8], start: usize) -> usize
+    ensures { λ r. ⌜ r ≡ delimiterFrom start (now (s .entry)) ⌝ }
+{
+    let len = s.len();
+    if len < start {
+        return len;
+    }
+    let mut at = start;
+    while 8 <= len - at {
+        let m = marks(word_at(s, at));
+        if m != 0 {
+            return at + (u64::trailing_zeros(m) / 8) as usize;
+        }
+        at += 8;
+    }
+    by_bytes(s, at)
+}
