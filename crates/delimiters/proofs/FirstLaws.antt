@@ -1,31 +1,17 @@
 -- The first marked byte of a word, by the zeros below its mark.
-use mathlib.Core.Path.{_≡_, refl, sym, ap, ap₂, subst, _∙_}
+use mathlib.Core.Path.{_≡_, refl, sym, ap, ap₂, _∙_}
 use mathlib.Core.Bool.{Bool, true, false}
 use mathlib.Core.List.{List, [], _∷_}
-use Prim.Native.Nat.{ℕ, zero, suc, _+_, _-_, _*_, _/_, _%_, _^_, _<_, _≤_}
-use native.Mathlib.Nat.{zero-add, suc-add, mul-one, add-zero, pow-suc, pow-le-pow-right, lt-of-lt-of-le}
+use Prim.Native.Nat.{ℕ, zero, suc, _+_, _*_, _/_, _%_, _^_, _<_}
+use native.Mathlib.Nat.{zero-add, suc-add, mul-one, add-zero}
 use native.Mathlib.Omega.{arith}
-use lib.Arith.{digits-lt, digits-div, digits-mod}
+use lib.Arith.{digits-div, digits-mod}
 use lib.Bits.{shifted-half, shifted-even}
 use lib.Count.{trailingZeros, under}
-use lib.ListN.{length, getD}
+use lib.ListN.{length}
 use Rattle.model.specs.Basics.{choose}
 use Rattle.delimiters.specs.Delimiters.{isDelimiter, delimiterFrom, word, mark, marked}
-
--- each element is a byte
-abbrev pub Bytes : List ℕ → Type 0
-Bytes bs = (k : ℕ) → k < length bs → getD bs k 0 < 256
-
--- a word of 8 - k bytes, and with a byte more; where there is room for one, the product with 256 fits
-pub byte-more : (k w b : ℕ) → 0 < k → k ≤ 8 → w < 256 ^ (8 - k) → b < 256 → w * 256 + b < 256 ^ (8 - (k - 1))
-byte-more k w b h m q r =
-    let more : 256 ^ (8 - (k - 1)) ≡ 256 ^ (8 - k) * 256 = ap (λ (n : ℕ). 256 ^ n) (omega arith) ∙ pow-suc 256 (8 - k) in
-    subst (λ (n : ℕ). w * 256 + b < n) (sym more) (digits-lt q r)
-
-pub room : (k w : ℕ) → 0 < k → w < 256 ^ (8 - k) → w < 256 ^ 7
-room k w h q =
-    let few : 8 - k ≤ 7 = omega arith in
-    lt-of-lt-of-le q (pow-le-pow-right (omega arith) few)
+use Rattle.delimiters.proofs.WordLaws.{Bytes}
 
 -- j zeros more
 zeros-below : (j k a : ℕ) → trailingZeros (j + k) (a * 2 ^ j) ≡ j + trailingZeros k a
@@ -76,7 +62,7 @@ first-mark (b ∷ bs) bytes =
     ap (λ (x : ℕ). trailingZeros (8 * suc n) x / 8) (marked-suc n (word bs) b (bytes 0 (omega arith)))
     ∙ first-step n (word bs) b (delimiterFrom 0 bs) (first-mark bs (λ k q. bytes (suc k) (omega arith)))
 
--- a word without a mark has neither, and a word with one has one
+-- bytes without a tab and a newline have no mark
 pub no-mark : (bs : List ℕ) → Bytes bs → delimiterFrom 0 bs ≡ length bs → marked (length bs) (word bs) ≡ 0
 unfolding word delimiterFrom marked choose mark
 no-mark [] bytes e = refl

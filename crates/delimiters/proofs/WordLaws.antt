@@ -1,31 +1,35 @@
--- What the marks of eight bytes say of the next tab or newline.
+-- Bytes as one number, byte by byte.
 use mathlib.Core.Path.{_≡_, sym, ap, subst, _∙_}
 use mathlib.Core.List.{List}
-use Prim.Native.Nat.{ℕ, _+_, _*_, _/_, _<_, _≤_}
+use Prim.Native.Nat.{ℕ, suc, _+_, _-_, _*_, _^_, _<_, _≤_}
+use native.Mathlib.Nat.{pow-suc, pow-le-pow-right, lt-of-lt-of-le}
 use native.Mathlib.Omega.{arith}
-use lib.Count.{trailingZeros, trailing-of-zero}
-use lib.ListN.{length}
+use lib.Arith.{digits-lt}
+use lib.ListN.{length, getD}
+use lib.Seq.{slice-empty, slice-cons}
 use Rattle.bytes.specs.Bytes.{slice}
-use Rattle.delimiters.specs.Delimiters.{delimiterFrom, word, marked}
-use Rattle.delimiters.proofs.FirstLaws.{Bytes, first-mark, no-mark}
-use Rattle.delimiters.proofs.SearchLaws.{size, in-part, found-in, found-behind, part-bytes}
+use Rattle.delimiters.specs.Delimiters.{word}
 
-module _ (s : List ℕ) (at m : ℕ) (fits : at + 8 ≤ length s) (bytes : Bytes s) (marks : m ≡ marked 8 (word (slice at (at + 8) s))) where
-  own : Bytes (slice at (at + 8) s)
-  own = part-bytes s at 8 fits bytes
+-- each element is a byte
+abbrev pub Bytes : List ℕ → Type 0
+Bytes bs = (k : ℕ) → k < length bs → getD bs k 0 < 256
 
-  zeros : trailingZeros 64 m / 8 ≡ delimiterFrom 0 (slice at (at + 8) s)
-  zeros = ap (λ (x : ℕ). trailingZeros 64 x / 8) marks
-      ∙ subst (λ (n : ℕ). trailingZeros (8 * n) (marked n (word (slice at (at + 8) s))) / 8 ≡ delimiterFrom 0 (slice at (at + 8) s)) (size s at 8 fits) (first-mark (slice at (at + 8) s) own)
+-- the word of no byte, and with the byte before it
+pub no-bytes : (to : ℕ) (l : List ℕ) → word (slice to to l) ≡ 0
+unfolding slice word
+no-bytes to l = ap word (slice-empty to l)
 
-  pub hit : (m ≡ 0 → ⊥) → delimiterFrom at s ≡ at + trailingZeros 64 m / 8
-  hit h =
-      let some : delimiterFrom 0 (slice at (at + 8) s) ≡ 8 → ⊥ = λ e. h
-      (marks ∙ subst (λ (n : ℕ). marked n (word (slice at (at + 8) s)) ≡ 0) (size s at 8 fits) (no-mark (slice at (at + 8) s) own (e ∙ sym (size s at 8 fits)))) in
-      let within : delimiterFrom 0 (slice at (at + 8) s) < 8 = omega (arith, in-part s at 8 fits, some) in
-      found-in s at 8 fits within ∙ ap (λ (k : ℕ). at + k) (sym zeros)
+pub byte-before : (from to : ℕ) (l : List ℕ) → from < to → to ≤ length l → word (slice from to l) ≡ word (slice (suc from) to l) * 256 + getD l from 0
+unfolding slice word
+byte-before from to l h k = ap word (slice-cons from to l 0 h k)
 
-  pub miss : m ≡ 0 → delimiterFrom at s ≡ delimiterFrom (at + 8) s
-  miss e =
-      let all : trailingZeros 64 m / 8 ≡ 8 = ap (λ (x : ℕ). trailingZeros 64 x / 8) e ∙ ap (λ (k : ℕ). k / 8) (trailing-of-zero 64) in
-      found-behind s at 8 fits (sym zeros ∙ all)
+-- a word of 8 - k bytes, and with a byte more; where there is room for one, the product with 256 fits
+pub byte-more : (k w b : ℕ) → 0 < k → k ≤ 8 → w < 256 ^ (8 - k) → b < 256 → w * 256 + b < 256 ^ (8 - (k - 1))
+byte-more k w b h m q r =
+    let more : 256 ^ (8 - (k - 1)) ≡ 256 ^ (8 - k) * 256 = ap (λ (n : ℕ). 256 ^ n) (omega arith) ∙ pow-suc 256 (8 - k) in
+    subst (λ (n : ℕ). w * 256 + b < n) (sym more) (digits-lt q r)
+
+pub room : (k w : ℕ) → 0 < k → w < 256 ^ (8 - k) → w < 256 ^ 7
+room k w h q =
+    let few : 8 - k ≤ 7 = omega arith in
+    lt-of-lt-of-le q (pow-le-pow-right (omega arith) few)

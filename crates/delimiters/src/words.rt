@@ -20,7 +20,8 @@ pub(crate) fn word_at(s: &[u8], at: usize) -> u64
 }
 
 // The word with each byte replaced by its mark: bit 7 where the byte is a tab or a newline. Without its own bit 7 a byte is at
-// most 127, so each sum stays within its byte: the first has bit 7 where the byte is 9 or more, the second where it is 11 or more.
+// most 127, so that each sum stays within its byte: the first has bit 7 where the byte is 9 or more (9 + 0x77 is 128), the second
+// where it is 11 or more (11 + 0x75 is 128).
 pub(crate) fn marks(x: u64) -> u64
     ensures { λ r. ⌜ r ≡ marked 8 x ⌝ }
 {

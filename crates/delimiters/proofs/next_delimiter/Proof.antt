@@ -5,9 +5,8 @@ use native.Mathlib.Omega.{arith}
 use lib.Count.{trailing-le}
 use lib.ListN.{length}
 use Rattle.delimiters.specs.Delimiters.{delimiterFrom, marked}
-use Rattle.delimiters.proofs.FirstLaws.{Bytes}
-use Rattle.delimiters.proofs.SearchLaws.{past}
-use Rattle.delimiters.proofs.WordLaws.{hit, miss}
+use Rattle.delimiters.proofs.WordLaws.{Bytes}
+use Rattle.delimiters.proofs.SearchLaws.{past, hit, miss}
 use borrow.Author.Needs.{needs}
 use Rattle.delimiters.proofs.next_delimiter.Statement.{statement}
 use Rattle.delimiters.proofs.next_delimiter.Tie as tie

@@ -5,8 +5,7 @@ use native.Mathlib.Omega.{arith}
 use lib.ListN.{getD}
 use Rattle.bytes.specs.Bytes.{slice}
 use Rattle.delimiters.specs.Delimiters.{word}
-use Rattle.delimiters.proofs.FirstLaws.{room, byte-more}
-use Rattle.delimiters.proofs.SliceLaws.{no-bytes, byte-before}
+use Rattle.delimiters.proofs.WordLaws.{no-bytes, byte-before, byte-more, room}
 use borrow.Author.Needs.{needs}
 use Rattle.delimiters.proofs.words.word_at.Statement.{statement}
 use Rattle.delimiters.proofs.words.word_at.Tie as tie
