@@ -2,6 +2,7 @@
 mod words;
 
 ghost use mathlib.Core.Path.{_≡_};
+ghost use Prim.Native.Nat.{_-_};
 ghost use Rattle.delimiters.specs.Delimiters.{delimiterFrom};
 use words::marks;
 use words::word_at;
@@ -24,17 +25,21 @@ fn by_bytes(s: &[u8], start: usize) -> usize
     s.len()
 }
 
+// How many places of a list of some length have eight bytes from there on.
+fn eights(len: usize) -> usize
+    ensures { λ r. ⌜ r ≡ len - 7 ⌝ }
+{
+    if len < 7 { 0 } else { len - 7 }
+}
+
 // The first place from `start` on with a tab or a newline, or the length where there is none; so it is the length too where the
 // start is past the end. Eight bytes are looked at as one word, the last few by themselves.
 pub fn next_delimiter(s: &[u8], start: usize) -> usize
     ensures { λ r. ⌜ r ≡ delimiterFrom start (now (s .entry)) ⌝ }
 {
-    let len = s.len();
-    if len < start {
-        return len;
-    }
+    let words = eights(s.len());
     let mut at = start;
-    while 8 <= len - at {
+    while at < words {
         let m = marks(word_at(s, at));
         if m != 0 {
             return at + (u64::trailing_zeros(m) / 8) as usize;
