@@ -8,7 +8,7 @@ use lib.Dec.{eqb}
 use lib.Bits.{bitAnd, bitXor, and-le-r}
 use Rattle.model.specs.Basics.{_&_, choose, _or_}
 use Rattle.model.proofs.Basics.Tests.{fst, snd}
-use Rattle.delimiters.specs.Delimiters.{isDelimiter, mark}
+use Rattle.delimiters.specs.Delimiters.{isDelimiter, flag}
 
 -- the test on a byte: `low` is the byte without its bit 7
 abbrev pub byteTest : ℕ → ℕ
@@ -30,6 +30,6 @@ below p (suc n) zero e h = fst _ _ e
 below p (suc n) (suc k) e h = below (λ m. p (suc m)) n k (snd _ _ e) (omega arith)
 
 -- all 256 bytes, one by one
-pub byte-test : (b : ℕ) → b < 256 → byteTest b ≡ mark b
-unfolding allBelow _&_ mark isDelimiter choose _or_
-byte-test b h = eqb-true _ _ (below (λ (n : ℕ). eqb (byteTest n) (mark n)) 256 b refl h)
+pub byte-test : (b : ℕ) → b < 256 → byteTest b ≡ flag b
+unfolding allBelow _&_ flag isDelimiter choose _or_
+byte-test b h = eqb-true _ _ (below (λ (n : ℕ). eqb (byteTest n) (flag n)) 256 b refl h)

@@ -2,6 +2,6 @@ pub mod PlaceLaws
 pub mod SliceLaws
 pub mod WordLaws
 pub mod ByteLaws
-pub mod MarkLaws
+pub mod FlagLaws
 pub mod FirstLaws
 pub mod SearchLaws

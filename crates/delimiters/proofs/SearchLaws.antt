@@ -12,10 +12,10 @@ use lib.Seq.{drop-drop, length-slice}
 use Rattle.bytes.specs.Bytes.{slice}
 use Rattle.model.specs.Basics.{_or_, choose}
 use Rattle.format.specs.Lines.{tab, newline}
-use Rattle.delimiters.specs.Delimiters.{isDelimiter, delimiterFrom, word, marked}
+use Rattle.delimiters.specs.Delimiters.{isDelimiter, delimiterFrom, word, flagged}
 use Rattle.delimiters.proofs.SliceLaws.{take-of-drop, getD-slice}
 use Rattle.delimiters.proofs.WordLaws.{Bytes}
-use Rattle.delimiters.proofs.FirstLaws.{first-mark, no-mark}
+use Rattle.delimiters.proofs.FirstLaws.{first-flag, no-flag}
 
 -- a start at the end or past it
 pub past : (start : ℕ) (s : List ℕ) → length s ≤ start → delimiterFrom start s ≡ length s
@@ -120,19 +120,19 @@ module _ (s : List ℕ) (at n : ℕ) (fits : at + n ≤ length s) where
       let q : k < n = omega (arith, size) in
       subst (λ (b : ℕ). b < 256) (sym (getD-slice at (at + n) s k (omega arith))) (bytes (at + k) (omega arith))
 
--- what the marks of eight bytes say
-module _ (s : List ℕ) (at m : ℕ) (fits : at + 8 ≤ length s) (bytes : Bytes s) (marks : m ≡ marked 8 (word (slice at (at + 8) s))) where
+-- what the flags of eight bytes say
+module _ (s : List ℕ) (at m : ℕ) (fits : at + 8 ≤ length s) (bytes : Bytes s) (flags : m ≡ flagged 8 (word (slice at (at + 8) s))) where
   own : Bytes (slice at (at + 8) s)
   own = part-bytes s at 8 fits bytes
 
   zeros : trailingZeros 64 m / 8 ≡ delimiterFrom 0 (slice at (at + 8) s)
-  zeros = ap (λ (x : ℕ). trailingZeros 64 x / 8) marks
-      ∙ subst (λ (n : ℕ). trailingZeros (8 * n) (marked n (word (slice at (at + 8) s))) / 8 ≡ delimiterFrom 0 (slice at (at + 8) s)) (size s at 8 fits) (first-mark (slice at (at + 8) s) own)
+  zeros = ap (λ (x : ℕ). trailingZeros 64 x / 8) flags
+      ∙ subst (λ (n : ℕ). trailingZeros (8 * n) (flagged n (word (slice at (at + 8) s))) / 8 ≡ delimiterFrom 0 (slice at (at + 8) s)) (size s at 8 fits) (first-flag (slice at (at + 8) s) own)
 
   pub hit : (m ≡ 0 → ⊥) → delimiterFrom at s ≡ at + trailingZeros 64 m / 8
   hit h =
       let some : delimiterFrom 0 (slice at (at + 8) s) ≡ 8 → ⊥ = λ e. h
-      (marks ∙ subst (λ (n : ℕ). marked n (word (slice at (at + 8) s)) ≡ 0) (size s at 8 fits) (no-mark (slice at (at + 8) s) own (e ∙ sym (size s at 8 fits)))) in
+      (flags ∙ subst (λ (n : ℕ). flagged n (word (slice at (at + 8) s)) ≡ 0) (size s at 8 fits) (no-flag (slice at (at + 8) s) own (e ∙ sym (size s at 8 fits)))) in
       let within : delimiterFrom 0 (slice at (at + 8) s) < 8 = omega (arith, in-part s at 8 fits, some) in
       found-in s at 8 fits within ∙ ap (λ (k : ℕ). at + k) (sym zeros)
 

@@ -33,11 +33,11 @@ unfoldable pub word : List ℕ → ℕ
 word [] = 0
 word (b ∷ bs) = word bs * 256 + b
 
--- a byte's mark: bit 7, where it ends a field or a line
-unfoldable pub mark : ℕ → ℕ
-mark b = choose (isDelimiter b) 128 0
+-- a byte's flag: bit 7, where it ends a field or a line
+unfoldable pub flag : ℕ → ℕ
+flag b = choose (isDelimiter b) 128 0
 
--- the n low bytes of a word, each replaced by its mark
-unfoldable pub marked : (n x : ℕ) → ℕ
-marked zero x = 0
-marked (suc n) x = marked n (x / 256) * 256 + mark (x % 256)
+-- the n low bytes of a word, each replaced by its flag
+unfoldable pub flagged : (n x : ℕ) → ℕ
+flagged zero x = 0
+flagged (suc n) x = flagged n (x / 256) * 256 + flag (x % 256)

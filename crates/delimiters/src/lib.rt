@@ -4,7 +4,7 @@ mod words;
 ghost use mathlib.Core.Path.{_≡_};
 ghost use Prim.Native.Nat.{_-_};
 ghost use Rattle.delimiters.specs.Delimiters.{delimiterFrom};
-use words::marks;
+use words::flags;
 use words::word_at;
 
 // The search byte by byte.
@@ -37,12 +37,12 @@ fn eights(len: usize) -> usize
 pub fn next_delimiter(s: &[u8], start: usize) -> usize
     ensures { λ r. ⌜ r ≡ delimiterFrom start (now (s .entry)) ⌝ }
 {
-    let words = eights(s.len());
+    let end = eights(s.len());
     let mut at = start;
-    while at < words {
-        let m = marks(word_at(s, at));
-        if m != 0 {
-            return at + (u64::trailing_zeros(m) / 8) as usize;
+    while at < end {
+        let found = flags(word_at(s, at));
+        if found != 0 {
+            return at + (u64::trailing_zeros(found) / 8) as usize;
         }
         at += 8;
     }

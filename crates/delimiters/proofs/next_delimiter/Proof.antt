@@ -4,7 +4,7 @@ use Prim.Native.Nat.{_+_, _-_, _≤_}
 use native.Mathlib.Omega.{arith}
 use lib.Count.{trailing-le}
 use lib.ListN.{length}
-use Rattle.delimiters.specs.Delimiters.{delimiterFrom, marked}
+use Rattle.delimiters.specs.Delimiters.{delimiterFrom, flagged}
 use Rattle.delimiters.proofs.WordLaws.{Bytes}
 use Rattle.delimiters.proofs.SearchLaws.{hit, miss}
 use borrow.Author.Needs.{needs}
@@ -12,10 +12,10 @@ use Rattle.delimiters.proofs.next_delimiter.Statement.{statement}
 use Rattle.delimiters.proofs.next_delimiter.Tie as tie
 
 abbrev Inv-loop : tie.InvT-loop
-Inv-loop s start words at₀ at = delimiterFrom start s ≡ delimiterFrom at s
+Inv-loop s start end at₀ at = delimiterFrom start s ≡ delimiterFrom at s
 
 abbrev μ-loop : tie.MeasureT-loop
-μ-loop s start words at₀ at = words - at
+μ-loop s start end at₀ at = end - at
 
 loop-holds : tie.Need-loop-holds Inv-loop μ-loop
 loop-holds c = search needs
@@ -24,13 +24,13 @@ word-at-requires : tie.Need-word-at-requires Inv-loop μ-loop
 word-at-requires c κs = omega (arith, c .loop-test .taken, c .before .before .eights .ensures)
 
 cast-result : tie.Need-cast-result Inv-loop μ-loop
-cast-result c = record { fits = omega (arith, trailing-le 64 (c .before .marks .result)) }
+cast-result c = record { fits = omega (arith, trailing-le 64 (c .before .flags .result)) }
 
 add-result : tie.Need-add-result Inv-loop μ-loop
 add-result c =
     let turn = c .before .before .before in
     let start = turn .before .before .before .before in
-    record { fits = omega (arith, trailing-le 64 (c .before .marks .result), turn .loop-test .taken, turn .before .before .eights .ensures, start .good .0) }
+    record { fits = omega (arith, trailing-le 64 (c .before .flags .result), turn .loop-test .taken, turn .before .before .eights .ensures, start .good .0) }
 
 returns : tie.Need-returns Inv-loop μ-loop
 returns c =
@@ -39,7 +39,7 @@ returns c =
     let known = turn .before .before .before in
     let s = known .before .args .s .now in
     let bytes : Bytes s = λ k h. known .shared-slice-known .given k .fits in
-    let is = c .before .marks .ensures ∙ ap (marked 8) (c .before .before .word-at .ensures) in
+    let is = c .before .flags .ensures ∙ ap (flagged 8) (c .before .before .word-at .ensures) in
     let fits : l .at + 8 ≤ length s = omega (arith, turn .loop-test .taken, turn .before .before .eights .ensures) in
     sym (l .inv ∙ hit s (l .at) _ fits bytes is (c .if1 .taken))
 
@@ -58,7 +58,7 @@ loop-again c =
     let known = turn .before .before .before in
     let s = known .before .args .s .now in
     let bytes : Bytes s = λ k h. known .shared-slice-known .given k .fits in
-    let is = c .before .marks .ensures ∙ ap (marked 8) (c .before .before .word-at .ensures) in
+    let is = c .before .flags .ensures ∙ ap (flagged 8) (c .before .before .word-at .ensures) in
     let fits : l .at + 8 ≤ length s = omega (arith, turn .loop-test .taken, turn .before .before .eights .ensures) in
     l .inv ∙ miss s (l .at) _ fits bytes is (c .if1 .left)
 

@@ -1,9 +1,9 @@
 -- The test on a word of eight bytes.
 use native.Mathlib.Omega.{arith}
 use lib.Bits.{and-le-r}
-use Rattle.delimiters.proofs.MarkLaws.{filled, test, test-is}
-use Rattle.delimiters.proofs.words.marks.Statement.{statement}
-use Rattle.delimiters.proofs.words.marks.Tie as tie
+use Rattle.delimiters.proofs.FlagLaws.{filled, test, test-is}
+use Rattle.delimiters.proofs.words.flags.Statement.{statement}
+use Rattle.delimiters.proofs.words.flags.Tie as tie
 
 add-from-tab : tie.Need-add-from-tab
 add-from-tab c = record { fits = omega (arith, and-le-r (c .args .x) 0x7f7f_7f7f_7f7f_7f7f) }
@@ -16,5 +16,5 @@ returns : tie.Need-returns
 unfolding test filled
 returns c = test-is 8 (c .args .x)
 
-pub marks-spec : {M : Type 1} → statement M
-marks-spec = tie.close (tie.spec add-from-tab add-above-newline returns)
+pub flags-spec : {M : Type 1} → statement M
+flags-spec = tie.close (tie.spec add-from-tab add-above-newline returns)

@@ -4,7 +4,7 @@ use Prim.Native.Nat.{ℕ, zero, suc, _+_, _*_, _/_, _%_, _<_}
 use native.Mathlib.Nat.{mod-lt, div-add-mod'}
 use native.Mathlib.Omega.{arith}
 use lib.Bits.{bitAnd, bitXor, and-block, xor-block, and-zero-r, and-lt, xor-lt}
-use Rattle.delimiters.specs.Delimiters.{mark, marked}
+use Rattle.delimiters.specs.Delimiters.{flag, flagged}
 use Rattle.delimiters.proofs.ByteLaws.{byteTest, byte-test, sum-below}
 
 -- n bytes that are all c
@@ -49,9 +49,9 @@ module _ (n a b : ℕ) (h : b < 256) where
       ap₂ (λ (u v : ℕ). bitAnd (bitAnd u v) (filled n 128 * 256 + 128)) (ap₂ bitXor (sum-suc 119) (sum-suc 117) ∙ x) y
       ∙ ap (λ (u : ℕ). bitAnd u (filled n 128 * 256 + 128)) z ∙ w
 
--- the law, over the width: the test gives each byte's mark
-pub test-is : (n x : ℕ) → test n x ≡ marked n x
-unfolding test filled marked
+-- the law, over the width: the test gives each byte's flag
+pub test-is : (n x : ℕ) → test n x ≡ flagged n x
+unfolding test filled flagged
 test-is zero x = and-zero-r (bitAnd (bitXor (sum 0 119 x) (sum 0 117 x)) (bitXor x 0))
 test-is (suc n) x =
     let a = x / 256 in
