@@ -32,22 +32,23 @@ module _ (n a b : ℕ) (h : b < 256) where
   unfolding filled
   sum-suc c = omega (arith, low-suc)
 
+  -- each operation works on the low byte and on the others apart
   pub test-suc : test (suc n) (a * 256 + b) ≡ test n a * 256 + byteTest b
   unfolding filled test
   test-suc =
-      let differ = bitXor (bitAnd b 127 + 119) (bitAnd b 127 + 117) in
+      let between = bitXor (sum n 119 a) (sum n 117 a) in
+      let between-low = bitXor (bitAnd b 127 + 119) (bitAnd b 127 + 117) in
+      let top = bitXor a (filled n 128) in
+      let top-low = bitXor b 128 in
       let s₁ = sum-below b 119 (omega arith) in
       let s₂ = sum-below b 117 (omega arith) in
-      let x = xor-block 8 (sum n 119 a) (sum n 117 a) (bitAnd b 127 + 119) (bitAnd b 127 + 117) s₁ s₂ in
-      let y = xor-block 8 a (filled n 128) b 128 h (omega arith) in
-      let p = bitXor (sum n 119 a) (sum n 117 a) in
-      let q = bitXor a (filled n 128) in
-      let below : differ < 256 = xor-lt 8 _ _ s₁ s₂ in
-      let other : bitXor b 128 < 256 = xor-lt 8 _ _ h (omega arith) in
-      let z = and-block 8 p q differ (bitXor b 128) below other in
-      let w = and-block 8 (bitAnd p q) (filled n 128) (bitAnd differ (bitXor b 128)) 128 (and-lt 8 _ _ below other) (omega arith) in
-      ap₂ (λ (u v : ℕ). bitAnd (bitAnd u v) (filled n 128 * 256 + 128)) (ap₂ bitXor (sum-suc 119) (sum-suc 117) ∙ x) y
-      ∙ ap (λ (u : ℕ). bitAnd u (filled n 128 * 256 + 128)) z ∙ w
+      let h₁ : between-low < 256 = xor-lt 8 _ _ s₁ s₂ in
+      let h₂ : top-low < 256 = xor-lt 8 _ _ h (omega arith) in
+      let e₁ = ap₂ bitXor (sum-suc 119) (sum-suc 117) ∙ xor-block 8 (sum n 119 a) (sum n 117 a) (bitAnd b 127 + 119) (bitAnd b 127 + 117) s₁ s₂ in
+      let e₂ = xor-block 8 a (filled n 128) b 128 h (omega arith) in
+      let e₃ = and-block 8 between top between-low top-low h₁ h₂ in
+      let e₄ = and-block 8 (bitAnd between top) (filled n 128) (bitAnd between-low top-low) 128 (and-lt 8 _ _ h₁ h₂) (omega arith) in
+      ap (λ (u : ℕ). bitAnd u (filled n 128 * 256 + 128)) (ap₂ bitAnd e₁ e₂ ∙ e₃) ∙ e₄
 
 -- the law, over the width: the test gives each byte's flag
 pub test-is : (n x : ℕ) → test n x ≡ flagged n x

@@ -13,26 +13,14 @@ use Rattle.bytes.specs.Bytes.{slice}
 use Rattle.model.specs.Basics.{_or_, choose}
 use Rattle.format.specs.Lines.{tab, newline}
 use Rattle.delimiters.specs.Delimiters.{isDelimiter, delimiterFrom, word, flagged}
+use Rattle.delimiters.proofs.PlaceLaws.{first-place}
 use Rattle.delimiters.proofs.SliceLaws.{take-of-drop, getD-slice}
 use Rattle.delimiters.proofs.WordLaws.{Bytes}
 use Rattle.delimiters.proofs.FirstLaws.{first-flag, no-flag}
 
 -- a start at the end or past it
 pub past : (start : ℕ) (s : List ℕ) → length s ≤ start → delimiterFrom start s ≡ length s
-unfolding delimiterFrom
-past start [] h = refl
-past zero (b ∷ bs) h = absurd (omega arith)
-past (suc n) (b ∷ bs) h = ap suc (past n bs (le-of-suc-le-suc h))
-
--- the place is at most the length
-inside : (s : List ℕ) → delimiterFrom 0 s ≤ length s
-unfolding delimiterFrom choose
-inside [] = omega arith
-inside (b ∷ bs) = go (isDelimiter b) (inside bs)
-  where
-    go : (t : Bool) → delimiterFrom 0 bs ≤ length bs → choose t 0 (suc (delimiterFrom 0 bs)) ≤ suc (length bs)
-    go true h = omega arith
-    go false h = omega arith
+past start s h = sym (first-place start s .1 (length s) (record { inside = omega arith; none-before = λ p k q. absurd (omega arith); one-there = λ k. absurd (omega arith) }))
 
 -- a start within the list is a start at the rest's first place
 pub from-drop : (at : ℕ) (s : List ℕ) → at ≤ length s → delimiterFrom at s ≡ at + delimiterFrom 0 (drop at s)
@@ -56,10 +44,7 @@ is-neither b h k = rw (ne-eqb b tab h, ne-eqb b newline k)
 
 -- the byte at the start
 pub here : (at : ℕ) (s : List ℕ) → at < length s → isDelimiter (getD s at 0) ≡ true → delimiterFrom at s ≡ at
-unfolding delimiterFrom choose
-here at [] h e = absurd (omega arith)
-here zero (b ∷ bs) h e = rw e
-here (suc n) (b ∷ bs) h e = ap suc (here n bs (le-of-suc-le-suc h) e)
+here at s h e = sym (first-place at s .1 at (record { inside = omega arith; none-before = λ p k q. absurd (omega arith); one-there = λ k. (omega arith, e) }))
 
 pub later : (at : ℕ) (s : List ℕ) → at < length s → isDelimiter (getD s at 0) ≡ false → delimiterFrom at s ≡ delimiterFrom (suc at) s
 unfolding delimiterFrom choose
@@ -112,7 +97,7 @@ module _ (s : List ℕ) (at n : ℕ) (fits : at + n ≤ length s) where
       omega (arith, split, later, back, size)
 
   pub in-part : delimiterFrom 0 (slice at (at + n) s) ≤ n
-  in-part = omega (arith, inside (slice at (at + n) s), size)
+  in-part = omega (arith, first-place 0 (slice at (at + n) s) .0 .inside, size)
 
   pub part-bytes : Bytes s → Bytes (slice at (at + n) s)
   unfolding slice

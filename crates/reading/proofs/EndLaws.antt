@@ -54,21 +54,23 @@ first-of-line (b ∷ bs) = go (eqb b newline) refl (eqb b tab) refl (first-of-li
     go false p true q e = rw q refl
     go false p false q e = rw q (ap suc e)
 
--- it is the first newline itself, or stands before it
-newline-or-before : (l : List ℕ) → delimiterFrom 0 l < length l →
-    ((getD l (delimiterFrom 0 l) 0 ≡ 10) × (delimiterFrom 0 l ≡ indexOf newline l)) ⊎ ((getD l (delimiterFrom 0 l) 0 ≡ 10 → ⊥) × (delimiterFrom 0 l < indexOf newline l))
+-- the byte at d is the newline at e, or it is none and stands before e
+abbrev AtOrBefore : List ℕ → (d e : ℕ) → Type 0
+AtOrBefore l d e = ((getD l d 0 ≡ 10) × (d ≡ e)) ⊎ ((getD l d 0 ≡ 10 → ⊥) × (d < e))
+
+-- the first tab or newline is the first newline, or stands before it
+newline-or-before : (l : List ℕ) → delimiterFrom 0 l < length l → AtOrBefore l (delimiterFrom 0 l) (indexOf newline l)
 unfolding delimiterFrom isDelimiter indexOf indexAfter choose _or_
 newline-or-before [] h = absurd (omega arith)
-newline-or-before (b ∷ bs) h = go (eqb b tab) refl (eqb b newline) refl h (newline-or-before bs)
+newline-or-before (b ∷ bs) h = go (eqb b tab) (eqb b newline) refl h (newline-or-before bs)
   where
-    go : (t : Bool) → eqb b tab ≡ t → (n : Bool) → eqb b newline ≡ n → choose (t or n) 0 (suc (delimiterFrom 0 bs)) < suc (length bs) →
-        (delimiterFrom 0 bs < length bs → ((getD bs (delimiterFrom 0 bs) 0 ≡ 10) × (delimiterFrom 0 bs ≡ indexOf newline bs)) ⊎ ((getD bs (delimiterFrom 0 bs) 0 ≡ 10 → ⊥) × (delimiterFrom 0 bs < indexOf newline bs))) →
-        ((getD (b ∷ bs) (choose (t or n) 0 (suc (delimiterFrom 0 bs))) 0 ≡ 10) × (choose (t or n) 0 (suc (delimiterFrom 0 bs)) ≡ indexAfter n (indexOf newline bs)))
-        ⊎ ((getD (b ∷ bs) (choose (t or n) 0 (suc (delimiterFrom 0 bs))) 0 ≡ 10 → ⊥) × (choose (t or n) 0 (suc (delimiterFrom 0 bs)) < indexAfter n (indexOf newline bs)))
-    go true p true q h f = inl (eqb-true b newline q, refl)
-    go true p false q h f = inr ((λ e. eqb-false b newline q e), omega arith)
-    go false p true q h f = inl (eqb-true b newline q, refl)
-    go false p false q h f = ⊎-elim (λ x. inl (x .0, ap suc (x .1))) (λ x. inr (x .0, omega (arith, x .1))) (f (le-of-suc-le-suc h))
+    go : (t n : Bool) → eqb b newline ≡ n → choose (t or n) 0 (suc (delimiterFrom 0 bs)) < suc (length bs) →
+        (delimiterFrom 0 bs < length bs → AtOrBefore bs (delimiterFrom 0 bs) (indexOf newline bs)) →
+        AtOrBefore (b ∷ bs) (choose (t or n) 0 (suc (delimiterFrom 0 bs))) (indexAfter n (indexOf newline bs))
+    go true true q h f = inl (eqb-true b newline q, refl)
+    go true false q h f = inr (eqb-false b newline q, omega arith)
+    go false true q h f = inl (eqb-true b newline q, refl)
+    go false false q h f = ⊎-elim (λ x. inl (x .0, ap suc (x .1))) (λ x. inr (x .0, omega (arith, x .1))) (f (le-of-suc-le-suc h))
 
 -- the field and the line that begin at a place
 module _ (s : List ℕ) (at : ℕ) (up : at ≤ length s) where
@@ -100,16 +102,12 @@ module _ (s : List ℕ) (at : ℕ) (up : at ≤ length s) where
   unfolding slice
   field-fits = omega (arith, field-end, index-le tab (slice at (lineEnd at s) s), length-slice at (lineEnd at s) s end-fits, end-up)
 
-  pub field-up : at ≤ delimiterFrom at s
-  field-up = omega (arith, field-end)
-
-  -- with the line, where a newline stands there or nothing, and else before the line's end
+  -- the byte there: where it is a newline the line ends too, and else it stands before the line's end
   here : getD s (delimiterFrom at s) 0 ≡ getD (drop at s) (delimiterFrom 0 (drop at s)) 0
   here = ap (λ (k : ℕ). getD s k 0) (from-drop at s up) ∙ sym (getD-drop at s (delimiterFrom 0 (drop at s)) 0)
 
   module _ (inside : delimiterFrom at s < length s) where
-    either : ((getD (drop at s) (delimiterFrom 0 (drop at s)) 0 ≡ 10) × (delimiterFrom 0 (drop at s) ≡ indexOf newline (drop at s))) ⊎
-        ((getD (drop at s) (delimiterFrom 0 (drop at s)) 0 ≡ 10 → ⊥) × (delimiterFrom 0 (drop at s) < indexOf newline (drop at s)))
+    either : AtOrBefore (drop at s) (delimiterFrom 0 (drop at s)) (indexOf newline (drop at s))
     either = newline-or-before (drop at s) (omega (arith, from-drop at s up, size))
 
     pub at-newline : getD s (delimiterFrom at s) 0 ≡ 10 → delimiterFrom at s ≡ lineEnd at s
