@@ -6,6 +6,7 @@
 
 pub mod generator;
 pub mod lines;
+pub mod program;
 pub mod random;
 pub mod state;
 pub mod steps;

@@ -125,9 +125,13 @@ impl State {
         }
     }
 
-    /// True for a public name and for one that has left by either outlet.
+    /// True for a public name, for one from outside, and for a minted one that
+    /// has left by either outlet.
     fn is_known(&self, name: &Name) -> bool {
-        matches!(name, Name::Public(_)) || self.sides.iter().any(|side| side.left.contains(name))
+        match name {
+            Name::Public(_) | Name::Outside(_) => true,
+            Name::Minted { .. } => self.sides.iter().any(|side| side.left.contains(name)),
+        }
     }
 
     /// Kind 3: an output moves to the parent box; from box 0 to the lobby or

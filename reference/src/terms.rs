@@ -19,6 +19,10 @@ pub const LAST_PUBLIC: u32 = 63;
 pub const MINT_FACTOR: u32 = 65_536;
 /// How many names a side can mint; serials are below it.
 pub const MINT_LIMIT: u32 = 256;
+/// The first name that the environment can bring.
+pub const FIRST_OUTSIDE: u32 = 196_608;
+/// The last name that the environment can bring.
+pub const LAST_OUTSIDE: u32 = 196_863;
 /// The most words of a value or pattern.
 pub const WORD_LIMIT: usize = 16;
 
@@ -29,6 +33,9 @@ pub enum Name {
     Public(u32),
     /// A name made by a `new` of side 1 or 2.
     Minted { side: u32, serial: u32 },
+    /// A name that no table has and no side mints: the environment brings it
+    /// in a value. It is written as this number.
+    Outside(u32),
 }
 
 /// The public name `in`.
@@ -44,21 +51,27 @@ impl Name {
     /// The number this name is written as.
     pub fn word(self) -> u32 {
         match self {
-            Name::Public(number) => number,
+            Name::Public(number) | Name::Outside(number) => number,
             Name::Minted { side, serial } => MINT_FACTOR * side + serial,
         }
     }
 
-    /// The name a number stands for: public, or minted with side 1 or 2 and a
-    /// serial up to 255.
+    /// The name a number stands for: public, minted with side 1 or 2 and a
+    /// serial up to 255, or from outside.
     pub fn from_word(word: u32) -> Option<Name> {
         let (side, serial) = (word / MINT_FACTOR, word % MINT_FACTOR);
         match side {
             0 if word <= LAST_PUBLIC => Some(Name::Public(word)),
             1 | 2 if serial < MINT_LIMIT => Some(Name::Minted { side, serial }),
+            _ if is_outside(word) => Some(Name::Outside(word)),
             _ => None,
         }
     }
+}
+
+/// True for the numbers of names from outside.
+pub fn is_outside(word: u32) -> bool {
+    (FIRST_OUTSIDE..=LAST_OUTSIDE).contains(&word)
 }
 
 /// A tuple-structured item: values, patterns and the values inside a process

@@ -204,6 +204,8 @@ fn values_in_the_pool() {
         64,
         65_536,
         131_072,
+        196_608,
+        196_863,
         3_999_999,
         4_000_016,
         4_999_999,
@@ -248,7 +250,10 @@ fn patterns_in_the_pool() {
     assert_eq!(pattern_fault(&[4_999_999]), 0);
     assert_eq!(pattern_fault(&[4_999_998]), 5);
     assert_eq!(pattern_fault(&[5_000_000]), 5);
-    assert_eq!(pattern_fault(&[64]), 5);
+    for word in [64, 65_536, 131_072, 196_608, 196_863] {
+        assert_eq!(pattern_fault(&[word]), 5, "{word}");
+        assert_eq!(pattern_fault(&[4_000_002, 10, word]), 5, "{word}");
+    }
     assert_eq!(pattern_fault(&[4_000_002, 10, 11]), 0);
     assert_eq!(pattern_fault(&[4_000_002, 10, 10]), 5);
     assert_eq!(pattern_fault(&[4_000_002, 4_999_999, 4_999_999]), 0);

@@ -3,13 +3,14 @@
 
 use reference::generator::sketch::{self, pattern_names, Sketch};
 use reference::generator::tally::Tally;
-use reference::generator::{generate, handlers, lay_out, schedule};
+use reference::generator::{generate, handlers, lay_out, newcomers, schedule};
 use reference::lines::{read_script, Script};
 use reference::load_script;
 use reference::random::Random;
 use reference::state::{Act, Origin, OutputTag, Side, Stage, State, Wrapper};
 use reference::steps::{Label, Refusal};
 use reference::terms::{Direction, Expression, Name, Process, Subject, Value, LOG, MID};
+use std::collections::BTreeSet;
 
 /// The names of a tag.
 fn tag_names(tag: OutputTag) -> Vec<Name> {
@@ -134,10 +135,11 @@ fn longest_value(state: &State) -> usize {
     values.into_iter().map(Value::length).max().unwrap_or(0)
 }
 
-/// A minted name is below its own side's count.
-fn is_minted(state: &State, name: Name) -> bool {
+/// A name passes 11, and a minted one is below its own side's count.
+fn may_be_held(state: &State, name: Name) -> bool {
     match name {
         Name::Public(number) => number <= 63,
+        Name::Outside(number) => (196_608..=196_863).contains(&number),
         Name::Minted { side, serial } => {
             let owner = state.sides.iter().find(|known| known.number == side);
             owner.is_some_and(|owner| serial < owner.minted)
@@ -162,7 +164,9 @@ fn check(state: &State) {
         }
         assert!(held_names(side)
             .into_iter()
-            .all(|name| is_minted(state, name)));
+            .all(|name| may_be_held(state, name)));
+        let minted = |name: &Name| matches!(name, Name::Minted { .. });
+        assert!(side.left.iter().all(minted));
         let mid_arrived = side.lobby.iter().any(|m| m.stage == Stage::Arrived(MID));
         assert!(!mid_arrived || state.wrapper != Wrapper::Pipeline || side.number == 2);
         let logged = side.lobby.iter().any(|m| m.stage == Stage::Leaving(LOG));
@@ -172,7 +176,7 @@ fn check(state: &State) {
     assert!(state.shelf.len() <= 32);
     assert!(state.taken.iter().all(|&place| place < state.shelf.len()));
     let on_shelf = state.shelf.iter().flat_map(Value::leaves);
-    assert!(on_shelf.into_iter().all(|&name| is_minted(state, name)));
+    assert!(on_shelf.into_iter().all(|&name| may_be_held(state, name)));
     let alone = state.wrapper != Wrapper::Pipeline;
     assert_eq!(state.sides.len(), if alone { 1 } else { 2 });
     assert!(!alone || state.shelf.is_empty());
@@ -210,11 +214,40 @@ fn reached_states_are_well_formed() {
     assert!(reached > 5_000, "{reached}");
 }
 
+/// The names from outside among some names.
+fn from_outside(names: Vec<Name>) -> BTreeSet<Name> {
+    let outside = names.into_iter();
+    outside.filter(|n| matches!(n, Name::Outside(_))).collect()
+}
+
+#[test]
+fn side_1_and_the_shelf_hold_only_what_side_1_brought_from_outside() {
+    let (mut on_side_2_only, mut held_by_1) = (0, 0);
+    for script in (0..300).filter_map(newcomers::make) {
+        let mut state = load_script(&script).expect("tables that load");
+        let mut brought = [BTreeSet::new(), BTreeSet::new()];
+        for step in &script.steps {
+            if let Ok(Label::In(value)) = state.step(step).outcome {
+                let names = value.leaves().into_iter().copied().collect();
+                brought[step.side as usize - 1].extend(from_outside(names));
+            }
+            let on_shelf = state.shelf.iter().flat_map(Value::leaves);
+            let mut first = from_outside(on_shelf.copied().collect());
+            first.extend(from_outside(held_names(&state.sides[0])));
+            assert!(first.is_subset(&brought[0]));
+            held_by_1 += usize::from(!first.is_empty());
+            on_side_2_only += usize::from(!brought[1].is_subset(&brought[0]));
+        }
+    }
+    assert!(held_by_1 > 5_000, "{held_by_1}");
+    assert!(on_side_2_only > 5_000, "{on_side_2_only}");
+}
+
 /// The steps refused with 17, by the limit that is full, and the limits
 /// reached without passing them.
 #[derive(Debug, Default)]
 struct Limits {
-    full: std::collections::BTreeSet<&'static str>,
+    full: BTreeSet<&'static str>,
     made: [usize; 9],
 }
 
@@ -297,7 +330,7 @@ fn generated_runs_reach_every_label_and_number() {
 #[test]
 fn the_generator_is_deterministic() {
     assert!((0..50).all(|seed| generate(seed) == generate(seed)));
-    let different: std::collections::BTreeSet<Vec<u8>> = (0..50).map(generate).collect();
+    let different: BTreeSet<Vec<u8>> = (0..50).map(generate).collect();
     assert!(different.len() > 40);
 }
 

@@ -144,9 +144,11 @@ fn down_adds_a_received_output_last() {
 #[test]
 fn entered_values() {
     let mut bench = Bench::filter(Sketch::Nil);
-    let good: [&[u32]; 6] = [
+    let good: [&[u32]; 8] = [
         &[0],
         &[63],
+        &[196_608],
+        &[196_863],
         &[EMPTY],
         &[PAIR, 20, PAIR, 1, 2],
         &[4_000_015, 1, 2, 3, 4, 5, 6, 7, 8, 9, 10, 11, 12, 13, 14, 15],
@@ -156,14 +158,26 @@ fn entered_values() {
         let answer = bench.enter(1, words);
         assert!(answer.starts_with("in1 "), "{words:?} {answer}");
     }
-    let bad: [&[u32]; 16] = [
+    assert_eq!(
+        bench
+            .enter(1, &[vec![4_000_001; 15], vec![20]].concat())
+            .len(),
+        3 + 8 * 15 + 3
+    );
+}
+
+#[test]
+fn words_that_do_not_enter() {
+    let mut bench = Bench::filter(Sketch::Nil);
+    let bad: [&[u32]; 17] = [
         &[],
         &[64],
         &[65_535],
         &[65_792],
         &[131_071],
         &[131_328],
-        &[196_608],
+        &[196_607],
+        &[196_864],
         &[4_999_999],
         &[4_000_016],
         &[5_000_000],
@@ -179,12 +193,6 @@ fn entered_values() {
     for words in bad {
         assert_eq!(bench.enter(1, words), "no 11", "{words:?}");
     }
-    assert_eq!(
-        bench
-            .enter(1, &[vec![4_000_001; 15], vec![20]].concat())
-            .len(),
-        3 + 8 * 15 + 3
-    );
     assert_eq!(
         bench.enter(1, &[vec![4_000_001; 16], vec![20]].concat()),
         "no 11"

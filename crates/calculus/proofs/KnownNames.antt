@@ -193,14 +193,14 @@ weaken-new {A = A} (Res2 {P = P} x s h i j d) =
 weaken-new (Struct d e) = let r = weaken-new d in (r .0, λ u k. Struct (r .1 u k) e)
 
 -- and one that the label does not name
-AllT-names : (o : Tag ℕ) → AllT o (λ y. T (mem y (tnames o)))
+pub AllT-names : (o : Tag ℕ) → AllT o (λ y. T (mem y (tnames o)))
 AllT-names (plain within) = tt
 AllT-names (plain parent) = tt
 AllT-names (plain (child n)) = or-left (eqb n n) false (eqb-refl n)
 AllT-names receivedParent = tt
 AllT-names (receivedChild n) = or-left (eqb n n) false (eqb-refl n)
 
-lren-fix : (l : Label) (f : ℕ → ℕ) → ((z : ℕ) → T (mem z (lnames l)) → f z ≡ z) → lren l f ≡ l
+pub lren-fix : (l : Label) (f : ℕ → ℕ) → ((z : ℕ) → T (mem z (lnames l)) → f z ≡ z) → lren l f ≡ l
 lren-fix tau f h = refl
 lren-fix (send x o v) f h = λ k. send (h x (or-left (eqb x x) (mem x (tnames o ++ names v)) (eqb-refl x)) k)
     ((tren-agree o f (λ z. z) (AllT-map o (λ z j. h z (or-right (eqb z x) (mem z (tnames o ++ names v)) (mem-left z (tnames o) (names v) j))) (AllT-names o)) ∙ tren-id o) k)
@@ -209,7 +209,7 @@ lren-fix (recv x o v) f h = λ k. recv (h x (or-left (eqb x x) (mem x (tnames o 
     ((tren-agree o f (λ z. z) (AllT-map o (λ z j. h z (or-right (eqb z x) (mem z (tnames o ++ names v)) (mem-left z (tnames o) (names v) j))) (AllT-names o)) ∙ tren-id o) k)
     ((vren-agree v f (λ z. z) (AllV-map v (λ z j. h z (or-right (eqb z x) (mem z (tnames o ++ names v)) (mem-right z (tnames o) (names v) j))) (AllV-names v)) ∙ vren-id v) k)
 
-ren-fix : {M : Type 0} (P : Proc M []) (f : ℕ → ℕ) → AllN P (λ z. f z ≡ z) → ren {r = []} P f ≡ P
+pub ren-fix : {M : Type 0} (P : Proc M []) (f : ℕ → ℕ) → AllN P (λ z. f z ≡ z) → ren {r = []} P f ≡ P
 ren-fix P f h = ren-agree {r = []} P f (λ z. z) h ∙ ren-id P
 
 pub weaken : {M : Type 0} {A : List ℕ} {P P' : Proc M []} {l : Label} {w : Participants M} (x : ℕ) → Out∉ A x → Out∉ (lnames l) x → Step A P l w P' → Step (x ∷ A) P l w P'

@@ -21,6 +21,9 @@ pub mod ScopeExamples
 pub mod Contexts
 pub mod Members
 pub mod KnownNames
+pub mod MoreNames
 pub mod CongruentInstances
 pub mod CongruentSteps
+pub mod Walls
 pub mod Purity
+pub mod NewNames

@@ -1,5 +1,6 @@
--- Laws of tests, lists, sides by number, terms, environments; what load's checks say.
+-- Laws of tests, names by their numbers, lists, sides by number, terms, environments; what load's checks say.
 pub mod Tests
+pub mod Names
 pub mod Sides
 pub mod Terms
 pub mod Items

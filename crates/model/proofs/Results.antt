@@ -2,5 +2,7 @@
 pub mod Trials
 pub mod FormedStates
 pub mod Purity
+pub mod Brought
 pub mod Corollaries
 pub mod WrapperRuns
+pub mod NewNames

@@ -1,7 +1,7 @@
 -- DEMAND 2: the bench agrees with the published calculus, for every state that is well formed for tables that load takes.
 use mathlib.Core.Path.{_≡_}
 use mathlib.Core.Logic.{_⊎_, _↔_}
-use mathlib.Core.List.{List, [], _∷_}
+use mathlib.Core.List.{List, [], _∷_, _++_}
 use mathlib.Core.Option.{some}
 use mathlib.Core.Bool.{Bool, true, false, not, _&&_, _||_}
 use Prim.Native.Nat.{ℕ, _+_, _≤_}
@@ -9,13 +9,13 @@ use lib.Dec.{eqb, ltb, T}
 use lib.ListN.{length, getElem?}
 use Rattle.calculus.specs.Syntax.{Val, nm, Vars, parent, Tag, plain, Proc, remark, ren, vren, tren, vsub, match}
 use Rattle.calculus.specs.Congruence.{_≋_}
-use Rattle.calculus.specs.Transitions.{Label, tau, send, recv, Participants, lone, joint, In, names, lnames}
+use Rattle.calculus.specs.Transitions.{Label, tau, send, recv, Participants, lone, joint, In, Fn⊆, names, lnames}
 use Rattle.calculus.specs.Transitions.{Step as Trans}
 use Rattle.calculus.specs.Named.{Code, cnil, cpar, cbox, cnew, cout, cinp, named, shape, withPat, public, proc}
 use Rattle.calculus.specs.Wrappers.{W1, W2, L, midName}
 use Rattle.calculus.specs.Tree.{process}
-use Rattle.model.specs.Basics.{has}
-use Rattle.model.specs.Values.{isTuple}
+use Rattle.model.specs.Basics.{has, every}
+use Rattle.model.specs.Values.{isTuple, isOutside}
 use Rattle.model.specs.Table.{Table, Term, inp}
 use Rattle.model.specs.Table.{term as termAt}
 use Rattle.model.specs.Side.{Particle, output, input, toParent, State, side}
@@ -25,7 +25,7 @@ use Rattle.model.specs.Wrapper.{Wrapper, Route, shelves}
 use Rattle.model.specs.Load.{Composition, wrapperOf, table, load, ok}
 use Rattle.model.specs.WellFormed.{envAt, ready}
 use Rattle.model.specs.Step.{Step, silent, enters, leaves, logs, Answer, labelled, refusal, step, known}
-use Rattle.model.specs.Process.{vwords, valOf, patOf, codeOf, envOf, Mark, part, boxed, lobby, shelf, enterer, passer, taker, confOf, knownOf}
+use Rattle.model.specs.Process.{vwords, valOf, patOf, codeOf, envOf, Mark, part, boxed, lobby, shelf, enterer, passer, taker, confOf, keep, knownOf}
 
 -- THE PLACE OF A STEP: who takes part in its transition, by kind, side, i and j
 pub data At (w : Wrapper) : Step → Participants Mark → Type 0 where
@@ -39,18 +39,21 @@ pub data At (w : Wrapper) : Step → Participants Mark → Type 0 where
   take : (k : ℕ) {i : ℕ} {r : Route} → getElem? (w .routes) k ≡ some r
       → At w (record { kind = 8; side = r .receiver; i = i; j = r .j; words = [] }) (joint (shelf (r .source) i) (taker (r .source) (r .receiver)))
 
--- NAMES IN LABELS, in document 01's numbers: public, or minted with serial up to 255
-abbrev pub enterable : ℕ → Bool
-enterable x = ltb x 64 || (not (ltb x 65536) && ltb x 65792) || (not (ltb x 131072) && ltb x 131328)
-
+-- NAMES IN LABELS, in the documents' numbers: minted with serial up to 255; from outside with serial up to 255; these, or public
 abbrev pub mintedNumber : ℕ → Bool
-mintedNumber x = not (ltb x 65536) && enterable x
+mintedNumber x = (not (ltb x 65536) && ltb x 65792) || (not (ltb x 131072) && ltb x 131328)
+
+abbrev pub outsideNumber : ℕ → Bool
+outsideNumber x = not (ltb x 196608) && ltb x 196864
+
+abbrev pub enterable : ℕ → Bool
+enterable x = ltb x 64 || mintedNumber x || outsideNumber x
 
 abbrev pub someName : (ℕ → Bool) → List ℕ → Bool
 someName f [] = false
 someName f (x ∷ l) = f x || someName f l
 
--- the value has a name that is neither public nor minted
+-- the value has a name that is neither public nor minted nor from outside
 abbrev pub foreign : Val ℕ → Bool
 foreign v = someName (λ n. not (enterable n)) (names v)
 
@@ -92,6 +95,23 @@ LoadAgrees = (b : Composition) (s : State) → load b ≡ ok s →
     × (b .wrapper ≡ 2 → processOf b s ≋ W2 tt (handler (table b 1)) (handler (table b 2)))
     × (b .wrapper ≡ 3 → processOf b s ≋ L tt (handler (table b 1)))
 
+-- THE NAMES BROUGHT FROM OUTSIDE are no part of a state. So the promises are about every list X of outside names with which the names known
+-- outside have the free names of the state's process among them, as document 004 asks of A ⊢ P
+pub record Brought (b : Composition) (s : State) (X : List ℕ) : Type 0 where
+  pub outside : every isOutside X ≡ true
+  pub free : Fn⊆ (processOf b s) (knownOf X s)
+
+-- the outside names of a label: X grows by them behind it
+abbrev pub outsideIn : Label → List ℕ
+outsideIn l = keep isOutside (lnames l)
+
+-- there is such an X in every state, any will do after a load, and one that has grown by a label will do behind it
+unfoldable pub BroughtKept : Type 0
+BroughtKept =
+    ((b : Composition) (s : State) → ready b s ≡ true → (X : List ℕ) × Brought b s X)
+    × ((b : Composition) (s : State) (X : List ℕ) → load b ≡ ok s → every isOutside X ≡ true → Brought b s X)
+    × ((b : Composition) (s : State) (X : List ℕ) (k : Step) (l : Label) → ready b s ≡ true → Brought b s X → Says (wrapperOf b) (step b s k .answer) l → Brought b (step b s k .after) (outsideIn l ++ X))
+
 -- SOUND: a label is given only where the calculus has that transition at that place, and the next state is where it leads
 
 -- an answer that is no refusal
@@ -99,20 +119,20 @@ abbrev pub IsLabelled : Answer → Type 0
 IsLabelled (labelled l n v) = Unit {0}
 IsLabelled (refusal k n) = ⊥
 
-unfoldable pub SoundAt : Composition → State → Step → Label → Type 0
-SoundAt b s k l = (w : Participants Mark) × At (wrapperOf b) k w × Asks k l × (answerSide (step b s k .answer) ≡ k .side)
-    × (R : Proc Mark []) × Trans (knownOf s) (process (confOf b s)) l w R × (plainly R ≋ processOf b (step b s k .after))
+unfoldable pub SoundAt : (A : List ℕ) → Composition → State → Step → Label → Type 0
+SoundAt A b s k l = (w : Participants Mark) × At (wrapperOf b) k w × Asks k l × (answerSide (step b s k .answer) ≡ k .side)
+    × (R : Proc Mark []) × Trans A (process (confOf b s)) l w R × (plainly R ≋ processOf b (step b s k .after))
 
 -- every answer that is no refusal has a label of the calculus; and each such label is of a transition
 unfoldable pub Sound : Type 0
-Sound = (b : Composition) (s : State) (k : Step) → ready b s ≡ true
+Sound = (b : Composition) (s : State) (X : List ℕ) (k : Step) → ready b s ≡ true → Brought b s X
     → (IsLabelled (step b s k .answer) → (l : Label) × Says (wrapperOf b) (step b s k .answer) l)
-    × ((l : Label) → Says (wrapperOf b) (step b s k .answer) l → SoundAt b s k l)
+    × ((l : Label) → Says (wrapperOf b) (step b s k .answer) l → SoundAt (knownOf X s) b s k l)
 
 -- THE NAMES KNOWN OUTSIDE grow by the names of a label that is given, and by nothing else
 unfoldable pub NamesGrow : Type 0
-NamesGrow = (b : Composition) (s : State) (k : Step) (l : Label) → ready b s ≡ true → Says (wrapperOf b) (step b s k .answer) l
-    → (z : ℕ) → In (knownOf (step b s k .after)) z ↔ (In (knownOf s) z ⊎ In (lnames l) z)
+NamesGrow = (b : Composition) (s : State) (X : List ℕ) (k : Step) (l : Label) → ready b s ≡ true → Says (wrapperOf b) (step b s k .answer) l
+    → (z : ℕ) → In (knownOf (outsideIn l ++ X) (step b s k .after)) z ↔ (In (knownOf X s) z ⊎ In (lnames l) z)
 
 -- WHAT EXCUSES THE REFUSAL OF A LEGAL TRANSITION, by document 01's numbers and not by what `step` answers
 
@@ -155,7 +175,7 @@ long (cnew n c) ρ = long c (withPat (named n) (λ x. nm 0) ρ)
 long (cout x i v) ρ = ltb 16 (length (vwords (vsub v ρ)))
 long (cinp m x i p c) ρ = false
 
--- 11: the label's value is over 16 words, or has a name that is neither public nor minted; 12: it has a minted name that has
+-- 11: the label's value is over 16 words, or has a name that is neither public nor minted nor from outside; 12: it has a minted name that has
 -- left by no outlet. Each cause is of the kinds that it may excuse: 11 and 12 of 1, 16 of 5, 17 of those in `Over`
 pub data Excused (b : Composition) (s : State) (k : Step) : Label → ℕ → Type 0 where
   by-11-long : {x : ℕ} {o : Tag ℕ} {v : Val ℕ} → k .kind ≡ 1 → T (ltb 16 (length (vwords v))) → Excused b s k (recv x o v) 11
@@ -182,9 +202,9 @@ renamed tau f = tau
 renamed (send x o v) f = send (f x) (tren o f) (vren v f)
 renamed (recv x o v) f = recv (f x) (tren o f) (vren v f)
 
--- the step has the transition's label and leads to its target, up to a renaming that keeps the known names
-pub record Met (b : Composition) (s : State) (l : Label) (R : Proc Mark []) (k : Step) : Type 0 where
-  pub names : Rename (knownOf s)
+-- the step has the transition's label and leads to its target, up to a renaming that keeps the names of A
+pub record Met (A : List ℕ) (b : Composition) (s : State) (l : Label) (R : Proc Mark []) (k : Step) : Type 0 where
+  pub names : Rename A
   pub label : Says (wrapperOf b) (step b s k .answer) (renamed l (names .to))
   pub side : answerSide (step b s k .answer) ≡ k .side
   pub target : plainly (ren {r = []} R (names .to)) ≋ processOf b (step b s k .after)
@@ -198,6 +218,7 @@ Written (recv x o v) = T (not (someName isTuple (names v)))
 -- each transition has a step at its place that asks for its label; and each such step has that label and leads to the
 -- transition's target, or is refused for a cause that excuses it
 unfoldable pub Complete : Type 0
-Complete = (b : Composition) (s : State) (l : Label) (w : Participants Mark) (R : Proc Mark []) → ready b s ≡ true → Trans (knownOf s) (process (confOf b s)) l w R → Written l
+Complete = (b : Composition) (s : State) (X : List ℕ) (l : Label) (w : Participants Mark) (R : Proc Mark []) → ready b s ≡ true → every isOutside X ≡ true
+    → Trans (knownOf X s) (process (confOf b s)) l w R → Written l
     → ((k : Step) × At (wrapperOf b) k w × Asks k l)
-    × ((k : Step) → At (wrapperOf b) k w → Asks k l → Met b s l R k ⊎ ((n : ℕ) × (step b s k .answer ≡ refusal n (k .side)) × Excused b s k l n))
+    × ((k : Step) → At (wrapperOf b) k w → Asks k l → Met (knownOf X s) b s l R k ⊎ ((n : ℕ) × (step b s k .answer ≡ refusal n (k .side)) × Excused b s k l n))

@@ -125,7 +125,7 @@ pub data Row10 (b : Composition) (s : State) (x : Step) : Type 0 where
   kind-8-alone : x .kind ≡ 8 → Alone b → Row10 b s x
   kind-8-side-1 : x .kind ≡ 8 → x .side ≡ 1 → Row10 b s x
 
--- 11: entered value malformed, empty or over 16 words, or a word not a tuple, public name or minted number with serial up to 255
+-- 11: entered value malformed, empty or over 16 words, or a word not a tuple, public name, or minted or outside number with serial up to 255
 pub data Row11 (x : Step) : Type 0 where
   malformed : x .kind ≡ 1 → shaped (x .words) ≡ false → Row11 x
   empty : x .kind ≡ 1 → x .words ≡ [] → Row11 x

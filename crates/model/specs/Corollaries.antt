@@ -66,4 +66,4 @@ labelsA = recv 0 (plain parent) (nm 20) ∷ tau ∷ tau ∷ tau ∷ tau ∷ send
 
 -- from W1 round the copier, listing A is a sequence of published transitions
 unfoldable pub ListingA : Type 0
-ListingA = (s : State) × (s' : State) × (load copier ≡ ok s) × (processOf copier s ≋ W1 tt copierProcess) × Path copier (knownOf s) s labelsA s'
+ListingA = (s : State) × (s' : State) × (load copier ≡ ok s) × (processOf copier s ≋ W1 tt copierProcess) × Path copier (knownOf [] s) s labelsA s'

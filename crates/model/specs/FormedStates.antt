@@ -236,7 +236,7 @@ abbrev pub notNameRows : List (ℕ → Side → Side) → List Row
 notNameRows [] = []
 notNameRows (place ∷ places) = unformed holding (on 1 (place 4000000)) ∷ notNameRows places
 
--- on side 1 with its shelf, on side 2; and serials up to 255, of two sides
+-- on side 1 with its shelf, on side 2; serials up to 255, of two sides; and names from outside, which have no count
 abbrev pub nameRows : List Row
 nameRows =
     placeRows 1 namePlaces ++ placeRows 1 valuePlaces ++ placeRows 1 ((λ w. putShelf ((4000001 ∷ w ∷ []) ∷ [])) ∷ []) ++ placeRows 2 namePlaces ++ placeRows 2 valuePlaces ++ notNameRows namePlaces
@@ -244,7 +244,12 @@ nameRows =
     ∷ unformed alone (both (on 1 (putMinted 256)) (on 1 (putParticles (output 0 65792 within (20 ∷ []) ∷ []))))
     ∷ formed joined (both (on 2 (putMinted 256)) (on 1 (putParticles (output 0 131327 within (20 ∷ []) ∷ []))))
     ∷ unformed joined (both (on 2 (putMinted 256)) (on 1 (putParticles (output 0 131328 within (20 ∷ []) ∷ []))))
-    ∷ unformed joined (both (on 2 (putMinted 256)) (on 1 (putParticles (output 0 196608 within (20 ∷ []) ∷ []))))
+    ∷ unformed joined (both (on 2 (putMinted 256)) (on 1 (putParticles (output 0 196607 within (20 ∷ []) ∷ []))))
+    ∷ formed joined (on 1 (putParticles (output 0 196608 within (20 ∷ []) ∷ [])))
+    ∷ formed joined (on 2 (putParticles (output 0 196863 (toChild 196608) (4000002 ∷ 196863 ∷ 196863 ∷ []) ∷ [])))
+    ∷ formed alone (on 1 (putLobby (record { status = arrived; chan = 196863; val = 196608 ∷ [] } ∷ [])))
+    ∷ unformed joined (on 1 (putParticles (output 0 196864 within (20 ∷ []) ∷ [])))
+    ∷ unformed joined (on 1 (putParticles (output 0 1 within (196864 ∷ []) ∷ [])))
     ∷ [])
 
 -- and so are those marked as left: side 1's names at places 0 to 255, side 2's at 256 to 511, on either side's record

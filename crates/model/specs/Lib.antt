@@ -11,6 +11,7 @@ pub mod Step
 pub mod Answer
 pub mod Stranded
 pub mod Runs
+pub mod NewNames
 pub mod Process
 pub mod Agreement
 pub mod Published
@@ -21,3 +22,4 @@ pub mod MoreTrials
 pub mod LoggingTrials
 pub mod FormedStates
 pub mod Corollaries
+pub mod OutsideTrials

@@ -10,8 +10,8 @@ use Rattle.calculus.specs.Syntax.{within as iwithin, parent as iparent, child a
 use Rattle.calculus.specs.Named.{NPat, NPats, any, named, parts, pno, pand, Code, cnil, cpar, cbox, cnew, cout, cinp, proc}
 use Rattle.calculus.specs.Wrappers.{inName, outName, midName, envIn, envOut, forward, forwardWith}
 use Rattle.calculus.specs.Tree.{Place, Item, Conf}
-use Rattle.model.specs.Basics.{oneOf, every}
-use Rattle.model.specs.Values.{isPublic, isMinted, isTuple, arity, distinct, Env, value}
+use Rattle.model.specs.Basics.{_or_, oneOf, every}
+use Rattle.model.specs.Values.{isPublic, isMinted, isOutside, isTuple, arity, distinct, Env, value}
 use Rattle.model.specs.Table.{Table, Term, nil, par, box, new, out, inp, term}
 use Rattle.model.specs.Side.{Particle, output, input, Box, Message, down, arrived, leaving, Core, State, side, hasTaken}
 use Rattle.model.specs.Side.{Status}
@@ -157,16 +157,18 @@ mintedOf s = bySide (λ n. upto (side s n .core .contents .minted) (mintOf n)) a
 unfoldable pub newOf : Composition → State → List ℕ
 newOf b s = map ownName (wrapperOf b .sides) ++ keep (λ x. not (known s x)) (mintedOf s)
 
--- the names known outside: the public ones and those of in1, out1 and so on, all up to 80; and those minted that have left
-unfoldable pub knownOf : State → List ℕ
-knownOf s = upto 81 (λ i. i) ++ keep (known s) (mintedOf s)
+-- the names known outside, document 004's A: the public ones and those of in1, out1 and so on, all up to 80; the names X that the
+-- environment has brought, which no state tells; and those minted that have left
+unfoldable pub knownOf : (X : List ℕ) → State → List ℕ
+knownOf X s = upto 81 (λ i. i) ++ (X ++ keep (known s) (mintedOf s))
 
--- the public names, those of the inlets and outlets under the pipeline, and the wrapper's own are different names, and none is minted
+-- the public names, those of the inlets and outlets under the pipeline, and the wrapper's own are different names; none is minted or from
+-- outside, and no minted name is from outside
 abbrev pub fixedNames : List ℕ
 fixedNames = upto 64 (λ i. i) ++ (map envIn allSides ++ (map envOut allSides ++ map ownName allSides))
 
 unfoldable pub NamesDistinct : Type 0
-NamesDistinct = (distinct fixedNames ≡ true) × (every (λ x. not (isMinted x)) fixedNames ≡ true)
+NamesDistinct = (distinct fixedNames ≡ true) × (every (λ x. not (isMinted x or isOutside x)) fixedNames ≡ true) × ((x : ℕ) → isMinted x ≡ true → isOutside x ≡ false)
 
 -- STATES
 

@@ -13,6 +13,8 @@ use Rattle.calculus.specs.Transitions.{Step as Trans}
 use Rattle.calculus.specs.Marks.{Published}
 use Rattle.calculus.specs.Wrappers.{logName}
 use Rattle.calculus.specs.Tree.{process}
+use Rattle.model.specs.Basics.{every}
+use Rattle.model.specs.Values.{isOutside}
 use Rattle.model.specs.Side.{State}
 use Rattle.model.specs.Wrapper.{hasSide}
 use Rattle.model.specs.Load.{Composition, wrapperOf}
@@ -20,7 +22,7 @@ use Rattle.model.specs.WellFormed.{ready}
 use Rattle.model.specs.Step.{Step, labelled, logs, refusal, step}
 use Rattle.model.specs.Runs.{afterAll}
 use Rattle.model.specs.Process.{Mark, confOf, knownOf}
-use Rattle.model.specs.Agreement.{At, Asks, Says, processOf, answerSide, Excused, Rename, renamed, Written}
+use Rattle.model.specs.Agreement.{At, Asks, Says, processOf, Brought, answerSide, Excused, Rename, renamed, Written}
 
 -- PURITY (document 004, Propositions 2 to 4)
 
@@ -37,11 +39,12 @@ pub data PureLabel (b : Composition) : Label → Type 0 where
 
 -- every transition of a state's process has such a label
 unfoldable pub Pure : Type 0
-Pure = (b : Composition) (s : State) (l : Label) (w : Participants Mark) (R : Proc Mark []) → ready b s ≡ true → Trans (knownOf s) (process (confOf b s)) l w R → PureLabel b l
+Pure = (b : Composition) (s : State) (X : List ℕ) (l : Label) (w : Participants Mark) (R : Proc Mark []) → ready b s ≡ true → every isOutside X ≡ true
+    → Trans (knownOf X s) (process (confOf b s)) l w R → PureLabel b l
 
 -- and so has every published transition of it
 unfoldable pub PurePublished : Type 0
-PurePublished = (b : Composition) (s : State) (l : Label) (Q : Proc (Unit {0}) []) → ready b s ≡ true → Published (knownOf s) (processOf b s) l Q → PureLabel b l
+PurePublished = (b : Composition) (s : State) (X : List ℕ) (l : Label) (Q : Proc (Unit {0}) []) → ready b s ≡ true → every isOutside X ≡ true → Published (knownOf X s) (processOf b s) l Q → PureLabel b l
 
 -- and no step of another wrapper than 3 is labelled log, in any state (document 02, request 2.1)
 unfoldable pub LogAlone : Type 0
@@ -49,22 +52,23 @@ LogAlone = (b : Composition) (s : State) (k : Step) (side : ℕ) (v : List ℕ) 
 
 -- COMPLETE FOR PUBLISHED TRANSITIONS
 
--- the step has the transition's label and leads to its target, up to a renaming that keeps the known names
-pub record MetPublished (b : Composition) (s : State) (l : Label) (Q : Proc (Unit {0}) []) (k : Step) : Type 0 where
-  pub names : Rename (knownOf s)
+-- the step has the transition's label and leads to its target, up to a renaming that keeps the names of A
+pub record MetPublished (A : List ℕ) (b : Composition) (s : State) (l : Label) (Q : Proc (Unit {0}) []) (k : Step) : Type 0 where
+  pub names : Rename A
   pub label : Says (wrapperOf b) (step b s k .answer) (renamed l (names .to))
   pub side : answerSide (step b s k .answer) ≡ k .side
   pub target : ren {r = []} Q (names .to) ≋ processOf b (step b s k .after)
 
 -- a published transition has a place with a step that asks for its label; and each such step has that label and leads to the
 -- transition's target, or is refused for a cause that excuses it
-abbrev pub Offered : Composition → State → Label → Proc (Unit {0}) [] → Type 0
-Offered b s l Q = (w : Participants Mark) × ((k : Step) × At (wrapperOf b) k w × Asks k l)
-    × ((k : Step) → At (wrapperOf b) k w → Asks k l → MetPublished b s l Q k ⊎ ((n : ℕ) × (step b s k .answer ≡ refusal n (k .side)) × Excused b s k l n))
+abbrev pub Offered : (A : List ℕ) → Composition → State → Label → Proc (Unit {0}) [] → Type 0
+Offered A b s l Q = (w : Participants Mark) × ((k : Step) × At (wrapperOf b) k w × Asks k l)
+    × ((k : Step) → At (wrapperOf b) k w → Asks k l → MetPublished A b s l Q k ⊎ ((n : ℕ) × (step b s k .answer ≡ refusal n (k .side)) × Excused b s k l n))
 
 -- so it is with each published transition of a state's process
 unfoldable pub CompletePublished : Type 0
-CompletePublished = (b : Composition) (s : State) (l : Label) (Q : Proc (Unit {0}) []) → ready b s ≡ true → Published (knownOf s) (processOf b s) l Q → Written l → Offered b s l Q
+CompletePublished = (b : Composition) (s : State) (X : List ℕ) (l : Label) (Q : Proc (Unit {0}) []) → ready b s ≡ true → every isOutside X ≡ true
+    → Published (knownOf X s) (processOf b s) l Q → Written l → Offered (knownOf X s) b s l Q
 
 -- RUNS
 
@@ -82,5 +86,5 @@ pub data SaysAll (b : Composition) : State → List Step → List Label → Type
 -- every run, refused steps among it, has its labels; and they are a sequence of published transitions, from the names known at its
 -- start, to the state after it
 unfoldable pub RunsAreTransitions : Type 0
-RunsAreTransitions = (b : Composition) (s : State) (ks : List Step) → ready b s ≡ true
-    → ((ls : List Label) × SaysAll b s ks ls) × ((ls : List Label) → SaysAll b s ks ls → Path b (knownOf s) s ls (afterAll b s ks))
+RunsAreTransitions = (b : Composition) (s : State) (X : List ℕ) (ks : List Step) → ready b s ≡ true → Brought b s X
+    → ((ls : List Label) × SaysAll b s ks ls) × ((ls : List Label) → SaysAll b s ks ls → Path b (knownOf X s) s ls (afterAll b s ks))

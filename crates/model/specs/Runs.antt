@@ -61,7 +61,7 @@ leftBy g (refusal k n) = []
 abbrev pub leftEarlier : (earlier : List ℕ) → List ℕ → Bool
 leftEarlier earlier ws = every (λ w. not (isMinted w) or has w earlier) ws
 
--- the premise: each name in a value that a kind-1 step of the group asks to enter, refused or not, is public or left
+-- the premise: each name in a value that a kind-1 step of the group asks to enter, refused or not, is public, from outside or left
 -- earlier in this run by an outlet of the group
 unfoldable pub premise : (group : List ℕ) → Composition → (earlier : List ℕ) → State → List Step → Bool
 premise g b earlier s [] = true

@@ -7,7 +7,8 @@
 //   fitsArrays  particles 33; output's words 17; input's values 9; input's words 17; boxes 17; messages 17; message's words 17;
 //               shelf 33; shelf's words 17; each also with the largest number
 //   held        64, 4000000 and 4999999, no names, as channel, to child, from child, box name, message's channel; 65537 and 131074,
-//               not minted (the filter's: 65538 and 131072); 65792 and 131328, past the largest serial
+//               not minted (the filter's: 65538 and 131072); 65792 and 131328, past the largest serial; 196607 and
+//               196864, beside the names from outside, which have no count
 //   heldWord    64 and those four as an output's, an input's, a message's and a shelf's value; in tuples
 //   wfValue     at those four: length 0; the wildcard; 4000016; 3999999; words left over; parts missing; length 17
 //   wfTag       to child and from child, as in held
@@ -39,6 +40,12 @@ fn largest_serials(side: u32) {
     write(b"with the names that were minted\n");
 }
 
+// The names from outside, and those beside them.
+fn from_outside(start: Start, side: u32) {
+    names(true, start, side, 10, 19, &[196608, 196863]);
+    names(false, start, side, 10, 19, &[196607, 196864]);
+}
+
 // What is by the counts of the state, under the pipeline: one name of side 1, two of side 2.
 fn pipeline(side: u32) {
     names(true, Start::Pipeline, side, 10, 19, &[63, 65536, 131073]);
@@ -65,10 +72,13 @@ fn filter() {
 fn main() {
     any_side(Start::Pipeline, 1);
     pipeline(1);
+    from_outside(Start::Pipeline, 1);
     largest_serials(1);
     any_side(Start::Pipeline, 2);
     pipeline(2);
+    from_outside(Start::Pipeline, 2);
     largest_serials(2);
     any_side(Start::Filter, 1);
     filter();
+    from_outside(Start::Filter, 1);
 }

@@ -1,6 +1,7 @@
-// The trials of the scope document by `run`, and those of the logging wrapper. What trial B strands is asked in run_test, and other runs are there.
+// The trials of the scope document by `run`, those of the logging wrapper and those of names from outside. What trial B strands is asked in run_test, and other runs are there.
 mod logging; // the logging wrapper
 mod others; // the trials that are not starred
+mod outside; // names brought from outside
 mod rounds; // the same steps many times
 mod starred; // the trials A to I
 
@@ -8,4 +9,5 @@ fn main() {
     starred::trials();
     others::trials();
     logging::trials();
+    outside::trials();
 }

@@ -6,7 +6,7 @@ use native.Mathlib.Omega.{arith}
 use borrow.Author.Tests.{le-leb, lt-leb, leb-true, leb-false}
 use lib.Dec.{leb, eqb}
 use Rattle.model.specs.Basics.{_&_, _or_}
-use Rattle.model.specs.Values.{isTuple, isMinted}
+use Rattle.model.specs.Values.{isTuple, isMinted, isOutside}
 use Rattle.values.specs.Span.{leafOf}
 use Rattle.values.specs.declared.Leaf.{Leaf}
 use Rattle.values.specs.declared.Leaf.the-variants.{Public, Pattern, Name}
@@ -19,6 +19,14 @@ module _ (w : ℕ) where
   pub tuple-high : 4000000 ≤ w → leb w 4000015 ≡ isTuple w
   unfolding _&_
   tuple-high h = rw (le-leb 4000000 w h)
+
+  pub outside-low : w < 196608 → false ≡ isOutside w
+  unfolding _&_
+  outside-low h = rw (lt-leb 196608 w h)
+
+  pub outside-high : 196608 ≤ w → leb w 196863 ≡ isOutside w
+  unfolding _&_
+  outside-high h = rw (le-leb 196608 w h)
 
   pub minted-none : w < 65536 → false ≡ isMinted w
   unfolding _&_ _or_
@@ -56,9 +64,13 @@ module _ (w : ℕ) where
   unfolding leafOf _or_
   leaf-pattern l e h = rw (e, lt-leb w 63 h)
 
-  pub leaf-name : (l : Leaf) → l ≡ Name → 63 < w → isMinted w ≡ leafOf l w
+  pub leaf-minted : (l : Leaf) → l ≡ Name → 63 < w → true ≡ isMinted w → true ≡ leafOf l w
   unfolding leafOf _or_
-  leaf-name l e h = rw (e, lt-leb w 63 h)
+  leaf-minted l e h m = rw (e, lt-leb w 63 h, ← m)
+
+  pub leaf-outside : (l : Leaf) → l ≡ Name → 63 < w → false ≡ isMinted w → isOutside w ≡ leafOf l w
+  unfolding leafOf _or_
+  leaf-outside l e h m = rw (e, lt-leb w 63 h, ← m)
 
 -- a conjunction fails where its first test fails
 pub left-false : (a b : Bool) → a ≡ false → a & b ≡ false

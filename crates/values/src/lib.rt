@@ -6,7 +6,7 @@ ghost use Prim.Native.Nat.{ℕ, _≤_};
 ghost use lib.Dec.{leb};
 ghost use lib.ListN.{length, take, drop};
 ghost use Rattle.model.specs.Basics.{has};
-ghost use Rattle.model.specs.Values.{isTuple, isMinted, matches, binders, distinct, at, isValue};
+ghost use Rattle.model.specs.Values.{isTuple, isMinted, isOutside, matches, binders, distinct, at, isValue};
 ghost use Rattle.values.specs.Span.{leafOf, spanOf, endOf, sizeOf};
 ghost use Rattle.values.specs.Match.{viewBound, partOf, fitOf, storedAfter};
 ghost use Rattle.values.specs.Env.{viewValue, Stores};
@@ -45,6 +45,13 @@ pub fn is_minted(w: u32) -> bool
     w % 65536 <= 255
 }
 
+// Whether w is a name from outside: 196,608 + serial, serial up to 255.
+pub fn is_outside(w: u32) -> bool
+    ensures { λ r. ⌜ r ≡ isOutside w ⌝ }
+{
+    if w < 196608 { false } else { w <= 196863 }
+}
+
 // Whether w is an item by itself.
 fn is_leaf(l: Leaf, w: u32) -> bool
     ensures { λ r. ⌜ r ≡ leafOf l w ⌝ }
@@ -55,7 +62,12 @@ fn is_leaf(l: Leaf, w: u32) -> bool
     match l {
         Leaf::Public => false,
         Leaf::Pattern => w == 4999999,
-        Leaf::Name => is_minted(w),
+        Leaf::Name => {
+            if is_minted(w) {
+                return true;
+            }
+            is_outside(w)
+        },
     }
 }
 

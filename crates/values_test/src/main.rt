@@ -87,7 +87,7 @@ fn match_line(label: &[u8], p: &[u32], v: &[u32]) {
     }
 }
 
-// Values: at most 16 words, names public or minted, every tuple with its parts and nothing behind.
+// Values: at most 16 words, names public, minted or from outside, every tuple with its parts and nothing behind.
 fn values_short() {
     value_line(b"value, no words:", &[]);
     value_line(b"value 63:", &[63]);
@@ -104,6 +104,17 @@ fn values_minted() {
     value_line(b"value 65792:", &[65792]);
     value_line(b"value 131327:", &[131327]);
     value_line(b"value 131328:", &[131328]);
+}
+
+fn values_outside() {
+    value_line(b"value 196607:", &[196607]);
+    value_line(b"value 196608:", &[196608]);
+    value_line(b"value 196863:", &[196863]);
+    value_line(b"value 196864:", &[196864]);
+    value_line(
+        b"value, a pair of one name from outside:",
+        &[4000002, 196608, 196608],
+    );
 }
 
 fn values_tuples() {
@@ -147,6 +158,24 @@ fn sizes() {
     size_line(b"size of a wildcard in a pattern:", Leaf::Pattern, &pool, 4);
     size_line(b"size of a minted name in a table:", Leaf::Public, &pool, 5);
     size_line(b"size of a minted name in a step:", Leaf::Name, &pool, 5);
+    size_line(
+        b"size of a name from outside in a value:",
+        Leaf::Public,
+        &[196608],
+        0,
+    );
+    size_line(
+        b"size of a name from outside in a pattern:",
+        Leaf::Pattern,
+        &[196608],
+        0,
+    );
+    size_line(
+        b"size of a name from outside in a step:",
+        Leaf::Name,
+        &[196608],
+        0,
+    );
 }
 
 fn sizes_at_the_end() {
@@ -239,6 +268,7 @@ fn matches_leaves() {
     match_line(b"_ with a pair:", &[4999999], &[4000002, 20, 21]);
     match_line(b"10 with a pair:", &[10], &[4000002, 20, 21]);
     match_line(b"10 with a minted name:", &[10], &[65536]);
+    match_line(b"10 with a name from outside:", &[10], &[196608]);
     match_line(
         b"((10) 11) with ((20) 21):",
         &[4000002, 4000001, 10, 11],
@@ -259,6 +289,7 @@ fn matches_leaves() {
 fn main() {
     values_short();
     values_minted();
+    values_outside();
     values_tuples();
     sizes();
     sizes_at_the_end();

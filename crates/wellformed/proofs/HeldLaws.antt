@@ -7,11 +7,24 @@ use borrow.Author.Tests.{le-leb, lt-leb, le-ltb}
 use lib.Dec.{ltb}
 use lib.ListN.{length, getD, List·getD-eq-default}
 use Rattle.model.specs.Basics.{_&_, _or_}
-use Rattle.model.specs.Values.{isMinted}
+use Rattle.model.specs.Values.{isMinted, isOutside}
 use Rattle.model.specs.WellFormed.{Counts, countOf, held, heldWord, wfTag}
+use Rattle.model.specs.Process.{NamesDistinct}
+use Rattle.model.proofs.Processes.KnownNames.{names-distinct}
 use Rattle.sides.specs.Views.{viewTag}
 use Rattle.sides.specs.declared.Tag.{Tag}
 use Rattle.sides.specs.declared.Tag.the-variants.{ToChild, FromChild}
+
+-- no minted name is from outside
+minted-inside : (w : ℕ) → isMinted w ≡ true → isOutside w ≡ false
+unfolding NamesDistinct
+minted-inside w e = names-distinct .2 w e
+
+-- where the tests before and behind it fail, a test stands alone
+alone : (t b : Bool) → t ≡ false or (t or (false & b))
+unfolding _or_ _&_
+alone true b = refl
+alone false b = refl
 
 module _ (k : Counts) where
   -- the count of a side: none for 0, none past the end, else its place
@@ -33,14 +46,14 @@ module _ (k : Counts) where
     held-public h = rw (le-leb w 63 h)
 
     module _ (h : 63 < w) where
-      pub held-not : isMinted w ≡ false → false ≡ held k w
-      unfolding held _or_ _&_
-      held-not e = rw (lt-leb w 63 h, e)
+      pub held-outside : isMinted w ≡ false → isOutside w ≡ held k w
+      unfolding held
+      held-outside e = rw (lt-leb w 63 h, e) (alone (isOutside w) (ltb (w % 65536) (countOf k (w / 65536))))
 
       -- below the count of its side, by its side s and its serial n
       pub held-minted : isMinted w ≡ true → (s n : ℕ) → s ≡ w / 65536 → n ≡ w % 65536 → ltb n (countOf k s) ≡ held k w
       unfolding held _or_ _&_
-      held-minted e s n p q = rw (lt-leb w 63 h, e, p, q)
+      held-minted e s n p q = rw (lt-leb w 63 h, minted-inside w e, e, p, q)
 
     pub word-tuple : 4000000 ≤ w → true ≡ heldWord k w
     unfolding heldWord _or_

@@ -10,6 +10,7 @@ use crate::wide;
 use sides::Tag;
 use values::Value;
 use values::is_minted;
+use values::is_outside;
 use values::is_value;
 
 // Whether n is below the count of a side; no side without a count has one.
@@ -25,7 +26,7 @@ pub(crate) fn below(counts: &[usize], side: usize, n: usize) -> bool
     n < counts[side - 1]
 }
 
-// Whether w is a name: public, or minted and below its side's count.
+// Whether w is a name: public, from outside, or minted and below its side's count.
 pub(crate) fn held(counts: &[usize], w: u32) -> bool
     ensures { λ r. ⌜ r ≡ heldName (now (counts .entry)) w ⌝ }
 {
@@ -35,7 +36,7 @@ pub(crate) fn held(counts: &[usize], w: u32) -> bool
     if is_minted(w) {
         return below(counts, wide(w / 65536), wide(w % 65536));
     }
-    false
+    is_outside(w)
 }
 
 // Whether a word of a value is a tuple word or such a name.

@@ -196,6 +196,7 @@ fn fixed_inputs() -> Vec<Fixed> {
         listings(REFUSED_TABLES),
         listings(STEPS),
         too_many_and_too_long(),
+        listings(FROM_OUTSIDE),
     ]
     .concat()
 }
@@ -361,6 +362,12 @@ const LOGGED: &[(&str, &str)] = &[
     ("logged, side 2's pool word", "W 3 | N 1 0 0 0 0 0 | V 2 7"),
     ("logged, side 1 before side 2", "W 3 | N 1 9 9 9 9 9 | N 2 0 0 0 0 0"),
     ("wrapper 4", "W 4 | N 1 9 9 9 9 9"),
+    (
+        "logged, an outside name in both copies",
+        "W 3 | N 1 6 0 1 0 1 | N 1 4 1 1 1 0 | V 1 10 | V 1 4000002 | V 1 10 | V 1 10 | \
+         S 1 1 0 0 196863 | S 7 1 0 0 | S 2 1 0 0 | S 5 1 1 0 | S 3 1 1 0 | S 6 1 0 0 | S 7 1 1 0 | \
+         S 7 1 0 0 | S 1 1 0 0 196863 | S 1 1 0 0 196864",
+    ),
 ];
 
 /// Lines that may look odd and are not at fault.
@@ -691,8 +698,8 @@ const STEPS: &[(&str, &str)] = &[
         "words that may enter and words that may not",
         "W 1 | N 1 0 0 0 0 0 | S 1 1 0 0 0 | S 1 1 0 0 63 | S 1 1 0 0 64 | S 1 1 0 0 65535 | \
          S 1 1 0 0 65536 | S 1 1 0 0 65791 | S 1 1 0 0 65792 | S 1 1 0 0 131071 | \
-         S 1 1 0 0 131072 | S 1 1 0 0 131327 | S 1 1 0 0 131328 | S 1 1 0 0 196608 | \
-         S 1 1 0 0 4000000 | S 1 1 0 0 4000001 | S 1 1 0 0 4000001 4000000 | \
+         S 1 1 0 0 131072 | S 1 1 0 0 131327 | S 1 1 0 0 131328 | S 1 1 0 0 196607 | \
+         S 1 1 0 0 196608 | S 1 1 0 0 196863 | S 1 1 0 0 196864 | S 1 1 0 0 4000000 | S 1 1 0 0 4000001 | S 1 1 0 0 4000001 4000000 | \
          S 1 1 0 0 4000002 65536 64 | S 1 1 0 0 20 20 | S 1 1 0 0 4000016 | S 1 1 0 0 4999999 | \
          S 1 1 0 0 5000000 | S 1 1 1 0 64 | S 1 1 0 1 64",
     ),
@@ -703,6 +710,48 @@ const STEPS: &[(&str, &str)] = &[
          S 3 1 0 0 | S 6 1 0 1 | S 6 1 0 0 20 | S 6 1 0 0 | S 7 1 0 1 | S 7 1 0 0 20 | S 7 1 0 0 | \
          S 2 2 0 1 | S 2 2 0 0 20 | S 2 2 0 0 | S 4 2 0 1 | S 4 2 0 0 20 | S 5 2 0 0 | S 5 2 0 0 20",
     ),
+];
+
+/// Names that the environment brings.
+const FROM_OUTSIDE: &[(&str, &str)] = &[
+    (
+        "an outside name crosses mid and leaves by the second outlet",
+        "W 2 | N 1 6 0 1 0 1 | N 1 4 2 1 0 0 | N 2 6 2 1 0 1 | N 2 4 1 1 0 0 | V 1 10 | V 2 10 | \
+         S 1 1 0 0 196608 | S 2 1 0 0 | S 5 1 1 0 | S 3 1 1 0 | S 8 2 0 0 | S 2 2 0 0 | S 5 2 1 0 | \
+         S 3 2 1 0 | S 6 2 0 0 | S 7 2 0 0 | S 1 2 0 0 196608",
+    ),
+    (
+        "an outside name of side 2 leaves by the first outlet only once side 1 brings it",
+        "W 2 | N 1 6 0 1 0 1 | N 1 4 1 1 1 0 | N 2 6 0 1 0 1 | N 2 1 2 3 0 0 | N 2 4 2 1 0 0 | \
+         N 2 4 1 1 0 0 | V 1 10 | V 1 4000002 | V 1 10 | V 1 10 | V 2 10 | \
+         S 1 2 0 0 196609 | S 2 2 0 0 | S 5 2 1 0 | S 3 2 1 0 | S 6 2 0 0 | S 3 2 1 0 | S 6 2 1 0 | \
+         S 7 2 1 0 | S 8 2 0 0 | S 1 1 0 0 20 | S 2 1 0 0 | S 5 1 1 0 | S 3 1 1 0 | S 6 1 0 0 | \
+         S 7 1 0 0 | S 1 1 0 0 196609 | S 2 1 0 0 | S 5 1 1 0 | S 3 1 1 0 | S 6 1 0 0 | S 7 1 0 0",
+    ),
+    (
+        "an outside name as channel, as tag and as box name",
+        "W 1 | N 1 6 0 1 0 1 | N 1 1 2 3 0 0 | N 1 4 5 12 0 0 | N 1 1 4 5 0 0 | N 1 2 10 6 0 0 | \
+         N 1 5 10 12 1 7 | N 1 5 5 1 1 8 | N 1 4 1 1 2 0 | N 1 4 10 1 1 0 | V 1 10 | V 1 11 | \
+         V 1 4000002 | V 1 10 | V 1 11 | S 1 1 0 0 196863 | S 2 1 0 0 | S 5 1 1 0 | S 4 1 1 1 | \
+         S 5 1 1 2 | S 3 1 2 0 | S 5 1 2 1 | S 3 1 1 0 | S 6 1 0 0 | S 7 1 0 0",
+    ),
+    (
+        "an outside name as the channel of what goes up",
+        "W 1 | N 1 6 0 1 0 1 | N 1 4 10 1 0 0 | V 1 10 | S 1 1 0 0 196700 | S 2 1 0 0 | S 5 1 1 0 | \
+         S 3 1 1 0 | S 6 1 0 0 | S 7 1 0 0",
+    ),
+    (
+        "a minted name beside an outside one still has to leave",
+        "W 1 | N 1 6 0 1 0 1 | N 1 3 9 2 0 0 | N 1 4 1 1 1 0 | V 1 10 | V 1 4000002 | V 1 9 | V 1 10 | \
+         S 1 1 0 0 4000002 196608 65536 | S 1 1 0 0 196608 | S 2 1 0 0 | S 5 1 1 0 | S 3 1 1 0 | \
+         S 6 1 0 0 | S 1 1 0 0 4000002 196608 65536 | S 7 1 0 0 | S 1 1 0 0 4000002 196608 65536 | \
+         S 1 1 0 0 4000002 196608 65537 | S 1 1 0 0 4000002 65537 196864 | S 1 1 0 0 4000002 196608 | \
+         S 1 1 0 0 196608 196608 | S 1 1 0 0 4000002 196608 196608",
+    ),
+    ("an outside name in a value", "W 1 | N 1 4 1 1 0 0 | V 1 196608"),
+    ("an outside name in a pattern", "W 1 | N 1 5 0 1 0 1 | N 1 0 0 0 0 0 | V 1 196863"),
+    ("an outside name as a channel of a table", "W 1 | N 1 4 196608 1 0 0 | V 1 20"),
+    ("an outside name in the pool where nothing is read", "W 1 | N 1 4 1 1 1 0 | V 1 196608 | V 1 20"),
 ];
 
 /// A body with 33 outputs and one whose value can be too long.
@@ -742,7 +791,8 @@ mod tests {
         for (name, input) in [listings(TRIALS), long_trials(), listings(SOUND_LINES)].concat() {
             assert!(!is_line(&input), "{name}");
         }
-        for (name, input) in [listings(REFUSED_TABLES), listings(STEPS)].concat() {
+        let others = [REFUSED_TABLES, STEPS, FROM_OUTSIDE].concat();
+        for (name, input) in listings(&others) {
             assert!(!is_line(&input), "{name}");
         }
     }

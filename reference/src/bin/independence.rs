@@ -5,14 +5,15 @@
 //! 1's answers must be the same.
 //!
 //! What side 1's kind-1 steps ask to enter keeps the premise: every name in it
-//! is public, or an `out1` label before it in the same run holds it. With
-//! `--without-premise` names may also be side 2's, and pairs do differ.
+//! is public or from outside, or an `out1` label before it in the same run
+//! holds it. With `--without-premise` names may also be side 2's, and pairs do
+//! differ.
 
 use reference::generator::pairs::{keeps_premise, own_steps, Pair};
-use reference::lines::{print_script, Script};
+use reference::lines::Script;
+use reference::program::{outside_names, printed_answers};
 use std::collections::BTreeSet;
-use std::io::{self, Write};
-use std::process::{Command, ExitCode, Stdio};
+use std::process::ExitCode;
 
 /// What was asked for on the command line.
 struct Options {
@@ -24,8 +25,9 @@ struct Options {
 
 /// What came of a pair.
 enum Verdict {
-    /// Side 1's answers are the same; so many of them.
-    Same(usize),
+    /// Side 1's answers are the same; so many of them, and whether an `in1`
+    /// line among them has a name from outside.
+    Same(usize, bool),
     /// They differ, or the program did not run.
     Different(String),
 }
@@ -35,12 +37,15 @@ fn main() -> ExitCode {
         eprintln!("usage: independence N [BENCH] [--from S] [--without-premise]");
         return ExitCode::from(2);
     };
-    let (mut passed, mut failed, mut answers) = (0, 0, 0);
+    let (mut passed, mut failed, mut answers, mut outside) = (0, 0, 0, 0);
     let mut seed = options.from;
     while passed + failed < options.count {
         if let Some(pair) = Pair::make(seed, options.premise) {
             match compare(&pair, &options) {
-                Verdict::Same(count) => (passed, answers) = (passed + 1, answers + count),
+                Verdict::Same(count, brought) => {
+                    (passed, answers) = (passed + 1, answers + count);
+                    outside += u64::from(brought);
+                }
                 Verdict::Different(how) => {
                     failed += 1;
                     println!("seed {seed}: {how}");
@@ -53,6 +58,7 @@ fn main() -> ExitCode {
         "seeds {} to {seed}, {answers} answers of side 1",
         options.from
     );
+    println!("{outside} pairs with a name from outside in an in1 line");
     println!("{passed} passed, {failed} failed");
     if failed == 0 {
         ExitCode::SUCCESS
@@ -94,7 +100,7 @@ fn compare(pair: &Pair, options: &Options) -> Verdict {
         }
     }
     match (0..one.len().max(other.len())).find(|&at| one.get(at) != other.get(at)) {
-        None => Verdict::Same(one.len()),
+        None => Verdict::Same(one.len(), one.iter().any(|answer| brings_outside(answer))),
         Some(at) => Verdict::Different(format!(
             "answer {at} of side 1 is {:?} and {:?}",
             one.get(at),
@@ -103,36 +109,21 @@ fn compare(pair: &Pair, options: &Options) -> Verdict {
     }
 }
 
+/// True for an `in1` line with a name from outside.
+fn brings_outside(answer: &str) -> bool {
+    outside_names(answer, "in1").is_some_and(|names| !names.is_empty())
+}
+
 /// The answers to the steps of side 1, without their indices.
 fn side_1_answers(script: &Script, options: &Options) -> Result<Vec<String>, String> {
-    let output = run(print_script(script).as_bytes(), options)?;
-    let mut lines = output.lines();
-    if lines.next() != Some("ok") {
-        return Err(format!("not ok: {:?}", output.lines().next()));
-    }
-    let lines: Vec<&str> = lines.collect();
-    if lines.len() != script.steps.len() {
-        return Err(format!(
-            "{} answers to {} steps",
-            lines.len(),
-            script.steps.len()
-        ));
-    }
-    let answer = |line: &str| {
-        line.split_once('\t')
-            .map_or(line, |(_, rest)| rest)
-            .to_string()
-    };
-    let own = script
-        .steps
-        .iter()
-        .zip(lines)
-        .filter(|(step, _)| step.side == 1);
-    Ok(own.map(|(_, line)| answer(line)).collect())
+    let answers = printed_answers(script, options.bench.as_deref())?;
+    let both = script.steps.iter().zip(answers);
+    let own = both.filter(|(step, _)| step.side == 1);
+    Ok(own.map(|(_, answer)| answer).collect())
 }
 
 /// True if in this run every name that side 1's enters ask for is public or
-/// stands in an `out1` label before.
+/// from outside, or stands in an `out1` label before.
 fn run_keeps_premise(script: &Script, answers: &[String]) -> bool {
     let mut left = BTreeSet::new();
     for (step, answer) in own_steps(script).iter().zip(answers) {
@@ -148,28 +139,4 @@ fn run_keeps_premise(script: &Script, answers: &[String]) -> bool {
         }
     }
     true
-}
-
-/// The output of the program or of the library.
-fn run(input: &[u8], options: &Options) -> Result<String, String> {
-    match &options.bench {
-        None => Ok(reference::run(input)),
-        Some(path) => run_program(path, input).map_err(|error| format!("{path}: {error}")),
-    }
-}
-
-fn run_program(path: &str, input: &[u8]) -> io::Result<String> {
-    let mut child = Command::new(path)
-        .stdin(Stdio::piped())
-        .stdout(Stdio::piped())
-        .spawn()?;
-    let mut stdin = child.stdin.take().expect("a piped input");
-    let written = stdin.write_all(input);
-    drop(stdin);
-    let output = child.wait_with_output()?;
-    written?;
-    if !output.status.success() {
-        return Err(io::Error::other(format!("ended with {}", output.status)));
-    }
-    String::from_utf8(output.stdout).map_err(io::Error::other)
 }

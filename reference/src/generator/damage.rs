@@ -72,7 +72,7 @@ fn set_name(random: &mut Random, script: &mut Script, place: usize) {
     if has_tag && random.percent(50) {
         script.nodes[place][at + 2] = random.pick(&[65, 66, 67, u32::MAX]);
     } else {
-        script.nodes[place][at + 1] = random.pick(&[63, 64, 64, 65_536]);
+        script.nodes[place][at + 1] = random.pick(&[63, 64, 64, 65_536, 196_608]);
     }
 }
 
@@ -107,11 +107,12 @@ fn damage_pool(random: &mut Random, script: &mut Script, place: usize) {
         return;
     }
     let at = random.below(pool.len());
-    match random.below(5) {
+    match random.below(6) {
         0 => pool.truncate(at),
         1 => pool[at] = random.pick(&[64, WILDCARD_WORD, 4_000_016, 65_536, 5_000_000]),
         2 => pool[at] = TUPLE_WORD + random.between(0, 15) as u32,
         3 => pool[at] = random.pick(&[10, 11, 0]),
+        4 => pool[at] = random.pick(&[196_608, 196_863]),
         _ => pool[at] = TUPLE_WORD + 15,
     }
 }

@@ -41,6 +41,18 @@ pub fn busy_handler(random: &mut Random, side: u32, shelf: bool) -> Sketch {
     repeat(listen, PARENT, &[10], parallel(body))
 }
 
+/// A handler that sends on what comes by its inlet and over `mid`, also where
+/// nothing ever comes over `mid` or what goes up on it is lost.
+pub fn forwarder(random: &mut Random) -> Sketch {
+    let mouths = random.pick(&[&[OUT][..], &[OUT, MID], &[MID, OUT], &[MID]]);
+    let sends = mouths.iter().map(|&mouth| output(mouth, PARENT, &[10]));
+    let body = parallel(sends.collect());
+    parallel(vec![
+        repeat(IN, PARENT, &[10], body.clone()),
+        repeat(MID, PARENT, &[10], body),
+    ])
+}
+
 /// Sometimes a handler stands under a `new`, or in a box that is relayed.
 fn dress(random: &mut Random, handler: Sketch) -> Sketch {
     match random.below(12) {
@@ -78,7 +90,7 @@ fn mouth(random: &mut Random, side: u32) -> u32 {
 fn idiom(random: &mut Random, side: u32) -> Sketch {
     let listen = ear(random, side);
     let send = mouth(random, side);
-    match random.below(20) {
+    match random.below(22) {
         0 => copier(random, listen, send),
         1 => starter(random, send),
         2 => child_relay(random, listen, send),
@@ -95,6 +107,7 @@ fn idiom(random: &mut Random, side: u32) -> Sketch {
         13 => siblings(random, send),
         14 => swollen(random, listen, send),
         15 => crowd(random, listen),
+        16 | 17 => replier(random, listen, send),
         _ => free_form(random, listen),
     }
 }
@@ -325,6 +338,29 @@ fn returner(random: &mut Random, listen: u32) -> Sketch {
             repeat(20, WITHIN, &[11], output(OUT, PARENT, &tuple(&[11, 20]))),
         ]),
     )
+}
+
+/// Takes a name and has it at both ends of a meeting: as channel, or as a box
+/// that sends up or is sent to. Or one message brings a channel to listen on,
+/// and another one brings it again with what to send there.
+fn replier(random: &mut Random, listen: u32, send: u32) -> Sketch {
+    let answer = output(send, PARENT, &tuple(&[10, 12]));
+    let from_box = input(5, child(10), &[12], answer.clone());
+    let echo = input(5, PARENT, &[11], output(5, PARENT, &[11]));
+    let listening = input(10, WITHIN, &[12], answer);
+    let ends = match random.below(4) {
+        0 => vec![output(10, WITHIN, &[10]), listening],
+        1 => vec![boxed(10, output(5, PARENT, &[10])), from_box],
+        2 => vec![output(5, child(10), &[10]), boxed(10, echo), from_box],
+        _ => {
+            let sending = output(10, WITHIN, &[11]);
+            return parallel(vec![
+                repeat(listen, PARENT, &[10], listening),
+                repeat(listen, PARENT, &tuple(&[10, 11]), sending),
+            ]);
+        }
+    };
+    repeat(listen, PARENT, &[10], parallel(ends))
 }
 
 /// An output that grows too long only when a second input meets.

@@ -3,6 +3,7 @@
 
 pub mod damage;
 pub mod handlers;
+pub mod newcomers;
 pub mod pairs;
 pub mod schedule;
 pub mod sketch;

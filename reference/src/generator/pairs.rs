@@ -3,9 +3,10 @@
 //! among side 1's differ.
 //!
 //! What side 1's kind-1 steps ask to enter keeps the premise: every name in it
-//! is public, or an out label of side 1 before it in the same run holds it.
+//! is public or from outside, or an out label of side 1 before it in the same
+//! run holds it.
 
-use super::schedule::{value_over, wild_step, Scheduler, Style};
+use super::schedule::{value_over, wild_step, Scheduler, Style, OUTSIDE};
 use super::sketch::Sketch;
 use super::{handlers, lay_out};
 use crate::lines::Script;
@@ -105,6 +106,7 @@ fn keep_premise(random: &mut Random, step: &mut Step, left: &BTreeSet<u32>, prem
         return;
     }
     let mut names = vec![0, 1, 2, 5, 6, 7, 10, 20, 63];
+    names.extend(OUTSIDE);
     names.extend(left);
     if random.percent(40) {
         step.value = value_over(random, &names);

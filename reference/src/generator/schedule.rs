@@ -8,6 +8,8 @@ use crate::terms::{Direction, Name, TUPLE_WORD, WILDCARD_WORD};
 
 /// A schedule ends after so many refusals in a row.
 const STUCK: usize = 12;
+/// The names from outside that schedules bring: few, so that they meet again.
+pub const OUTSIDE: [u32; 3] = [196_608, 196_609, 196_863];
 
 /// What a schedule is like.
 #[derive(Clone, Debug)]
@@ -344,15 +346,17 @@ pub fn wild_step(random: &mut Random) -> Step {
         step.value = match random.below(3) {
             0 => malformed_words(random),
             1 => unknown_words(random),
-            _ => vec![random.pick(&[0, 20, 63])],
+            _ => vec![random.pick(&[0, 20, 63, 196_608, 196_863])],
         };
     }
     step
 }
 
-/// The names that may enter now: some public ones and all that have left.
+/// The names that may enter now: some public ones, some from outside and all
+/// that have left.
 fn known_names(state: &State) -> Vec<u32> {
     let mut names = vec![0, 1, 2, 5, 6, 7, 9, 10, 20, 63];
+    names.extend(OUTSIDE);
     for side in &state.sides {
         let left: Vec<u32> = side.left.iter().map(|name| name.word()).collect();
         names.extend(left.iter().rev().take(8));
@@ -399,7 +403,10 @@ fn nest(random: &mut Random, names: &[u32]) -> Vec<u32> {
 
 /// Words that are no value.
 fn malformed_words(random: &mut Random) -> Vec<u32> {
-    let bad = [64, 65_535, 65_792, 131_071, 131_328, 196_608, 3_999_999];
+    let bad = [
+        64, 65_535, 65_792, 131_071, 131_328, 196_607, 196_864, 3_999_999,
+    ];
+    let name = random.pick(&[65_536, 196_608]);
     let tuples = [4_000_016, WILDCARD_WORD, 5_000_000, u32::MAX];
     match random.below(8) {
         0 => vec![],
@@ -407,7 +414,7 @@ fn malformed_words(random: &mut Random) -> Vec<u32> {
         2 => vec![TUPLE_WORD + 2, 20],
         3 => [vec![TUPLE_WORD + 15], vec![20; 16]].concat(),
         4 => [vec![TUPLE_WORD + 1; 16], vec![20]].concat(),
-        5 => vec![TUPLE_WORD + 2, 65_536, random.pick(&bad)],
+        5 => vec![TUPLE_WORD + 2, name, random.pick(&bad)],
         6 => vec![random.pick(&tuples)],
         _ => vec![random.pick(&bad)],
     }
@@ -421,6 +428,6 @@ fn unknown_words(random: &mut Random) -> Vec<u32> {
     if random.percent(70) {
         vec![name]
     } else {
-        vec![TUPLE_WORD + 2, 20, name]
+        vec![TUPLE_WORD + 2, random.pick(&[20, 196_863]), name]
     }
 }

@@ -1,6 +1,8 @@
-//! How often each label, load number, refusal and line fault came up.
+//! How often each label, load number, refusal and line fault came up, and how
+//! often a label had a name from outside.
 
-use crate::steps::Label;
+use crate::steps::{Answer, Label};
+use crate::terms::is_outside;
 use crate::Outcome;
 use std::collections::BTreeMap;
 
@@ -9,6 +11,8 @@ use std::collections::BTreeMap;
 pub enum Feature {
     /// A label: `in`, `out`, `log` or `tau`.
     Label(&'static str),
+    /// A label `in`, `out` or `log` with a name from outside.
+    Outside(&'static str),
     /// A load refusal's number.
     Load(u32),
     /// A step refusal's number.
@@ -22,6 +26,7 @@ pub enum Feature {
 /// Every feature that a set of inputs should reach.
 pub fn all_features() -> Vec<Feature> {
     let mut all: Vec<Feature> = ["in", "out", "log", "tau"].map(Feature::Label).to_vec();
+    all.extend(["in", "out", "log"].map(Feature::Outside));
     all.extend((1..=7).map(Feature::Load));
     all.extend((10..=17).map(Feature::Refusal));
     all.extend([Feature::Line, Feature::Loaded]);
@@ -34,18 +39,27 @@ pub fn features(outcome: &Outcome) -> Vec<Feature> {
         Outcome::Line(_) => vec![Feature::Line],
         Outcome::Refused(refusal) => vec![Feature::Load(refusal.number)],
         Outcome::Ran(answers) => {
-            let of_answer = |answer: &crate::steps::Answer| match &answer.outcome {
-                Ok(Label::In(_)) => Feature::Label("in"),
-                Ok(Label::Out(_)) => Feature::Label("out"),
-                Ok(Label::Log(_)) => Feature::Label("log"),
-                Ok(Label::Silent) => Feature::Label("tau"),
-                Err(refusal) => Feature::Refusal(refusal.number()),
-            };
             let mut found = vec![Feature::Loaded];
-            found.extend(answers.iter().map(of_answer));
+            found.extend(answers.iter().flat_map(of_answer));
             found
         }
     }
+}
+
+/// The features of an answer.
+fn of_answer(answer: &Answer) -> Vec<Feature> {
+    let (label, value) = match &answer.outcome {
+        Ok(Label::In(value)) => ("in", value),
+        Ok(Label::Out(value)) => ("out", value),
+        Ok(Label::Log(value)) => ("log", value),
+        Ok(Label::Silent) => return vec![Feature::Label("tau")],
+        Err(refusal) => return vec![Feature::Refusal(refusal.number())],
+    };
+    let mut found = vec![Feature::Label(label)];
+    if value.words().into_iter().any(is_outside) {
+        found.push(Feature::Outside(label));
+    }
+    found
 }
 
 /// Counts of features.
@@ -83,6 +97,7 @@ impl Tally {
         let line = |feature: Feature| {
             let name = match feature {
                 Feature::Label(label) => format!("label {label}"),
+                Feature::Outside(label) => format!("label {label} with a name from outside"),
                 Feature::Load(number) => format!("load {number}"),
                 Feature::Refusal(number) => format!("refusal {number}"),
                 Feature::Line => String::from("line fault"),

@@ -14,6 +14,7 @@ use Rattle.model.specs.Table.{Term, nil, par, box, new, out, inp}
 use Rattle.model.specs.Unfolding.{defined, tagDefined, anyNames, tagOf}
 use Rattle.model.specs.WellFormed.{Counts, held, heldWord, wfValue, wfTag}
 use Rattle.model.proofs.Basics.Tests.{fst, snd, both, alt, alt-left, alt-right, every-append}
+use Rattle.model.proofs.Basics.Names.{is-public, held-of}
 use Rattle.model.proofs.Formed.Keeping.{done-inj, items-words}
 use Rattle.model.proofs.Basics.Items.{items-shaped, clash, items-zero, items-leaf, items-tuple, items-bad, items-add, items-append, shaped-items, tuple-not-name}
 
@@ -39,13 +40,8 @@ pub name-wf : (k : Counts) (n : ℕ) → isName n ≡ true → held k n ≡ true
 unfolding wfValue isValue heldWord
 name-wf k n p h = both _ _ (both _ _ refl (items-shaped (n ∷ []) (items-leaf isName 11 n [] 0 p ∙ items-zero isName 11 []))) (both _ _ (alt-right _ _ h) refl)
 
-pub held-name : (k : Counts) (n : ℕ) → held k n ≡ true → isName n ≡ true
-unfolding held
-held-name k n h = ⊎-elim (λ p. alt-left _ _ p) (λ p. alt-right _ _ (fst _ _ p)) (alt _ _ h)
-
 held-public : (k : Counts) (n : ℕ) → isPublic n ≡ true → held k n ≡ true
-unfolding held
-held-public k n p = alt-left _ _ p
+held-public k n p = held-of k n (is-public p)
 
 heldWord-small : (k : Counts) (w : ℕ) → heldWord k w ≡ true → w < 4000000 → held k w ≡ true
 unfolding heldWord

@@ -14,6 +14,7 @@ use Rattle.model.specs.Basics.{bind, Res, refuse, done, every}
 use Rattle.model.specs.Values.{items, isTuple, isName, isPublic, isValue, shaped, arity, isPatternLeaf, at, restOf, firstOf, binders, Fit, matches}
 use Rattle.model.specs.WellFormed.{Counts, heldWord, wfValue}
 use Rattle.model.proofs.Basics.Tests.{fst, snd, both, alt, bind-done}
+use Rattle.model.proofs.Basics.Names.{name-small}
 use Rattle.model.proofs.Formed.Keeping.{done-inj}
 
 pub clash : {A : Type 0} {n : ℕ} {a : A} → refuse n ≡ done a → ⊥
@@ -165,9 +166,7 @@ tuple-not-name w e = go (isName w) refl
     go : (t : Bool) → isName w ≡ t → isName w ≡ false
     go false p = p
     go true p =
-        let a = leb-true 4000000 w (fst _ _ e) in
-        absurd (⊎-elim (λ q. let b = leb-true w 63 q in omega arith)
-        (λ q. ⊎-elim (λ r. let b = leb-true w 65791 (snd _ _ r) in omega arith) (λ r. let b = leb-true w 131327 (snd _ _ r) in omega arith) (alt _ _ q)) (alt _ _ p))
+        let a = leb-true 4000000 w (fst _ _ e) in absurd (omega (arith, name-small w p))
 
 pub tuple-not-leaf : (w : ℕ) → isTuple w ≡ true → isPatternLeaf w ≡ false
 tuple-not-leaf w e = go (isPatternLeaf w) refl

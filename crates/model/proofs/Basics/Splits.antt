@@ -10,7 +10,7 @@ use Rattle.calculus.proofs.Bags.{ritem, ritems}
 use Rattle.model.specs.Basics.{Res, done, pick, remove}
 use Rattle.model.specs.Process.{numbered}
 use Rattle.model.proofs.Basics.Items.{clash}
-use Rattle.model.proofs.Basics.Tests.{nothing, some-inj}
+use Rattle.model.proofs.Basics.Tests.{no-some, some-inj}
 
 module _ {A B : Type 0} where
   pub pick-get : (l : List A) (i : ℕ) (f : A → Res B) (b : B) → pick l i f ≡ done b → (x : A) × (getElem? l i ≡ some x) × (f x ≡ done b)
@@ -21,12 +21,12 @@ module _ {A B : Type 0} where
 
   pub get-pick : (l : List A) (i : ℕ) (f : A → Res B) (x : A) → getElem? l i ≡ some x → pick l i f ≡ f x
   unfolding pick
-  get-pick [] i f x e = absurd (nothing e)
+  get-pick [] i f x e = absurd (no-some e)
   get-pick (y ∷ l) zero f x e = ap f (some-inj e)
   get-pick (y ∷ l) (suc i) f x e = get-pick l i f x e
 
 pub get-length : {A : Type 0} (l : List A) (i : ℕ) (x : A) → getElem? l i ≡ some x → i < length l
-get-length [] i x e = absurd (nothing e)
+get-length [] i x e = absurd (no-some e)
 get-length (y ∷ l) zero x e = omega arith
 get-length (y ∷ l) (suc i) x e = omega (arith, get-length l i x e)
 
@@ -43,7 +43,7 @@ module _ {X M U : Type 0} (h : M → U) (g : ℕ → X → Item M) (f : X → It
     pub put : (y : X) → ritems h pre ++ f y ∷ ritems h post ≡ map f (set l i y)
 
   pub split-at : (n : ℕ) (l : List X) (i : ℕ) (x : X) → getElem? l i ≡ some x → Split n l i x
-  split-at n [] i x e = absurd (nothing e)
+  split-at n [] i x e = absurd (no-some e)
   split-at n (y ∷ l) zero x e = record {
     pre = [];
     post = numbered g (suc n) l;
@@ -70,7 +70,7 @@ module _ {X M U : Type 0} (h : M → U) (g : ℕ → X → Item M) (f : X → It
     pub second-gone : ritems h pre ++ f x ∷ (ritems h mid ++ ritems h post) ≡ map f (remove l j)
 
   pub split-two : (n : ℕ) (l : List X) (i : ℕ) (x : X) (j : ℕ) (y : X) → i < j → getElem? l i ≡ some x → getElem? l j ≡ some y → Split2 n l i x j y
-  split-two n [] i x j y lt e e' = absurd (nothing e)
+  split-two n [] i x j y lt e e' = absurd (no-some e)
   split-two n (z ∷ l) i x zero y lt e e' = absurd (omega arith)
   split-two n (z ∷ l) zero x (suc j) y lt e e' = let r = split-at (suc n) l j y e' in record {
     pre = [];

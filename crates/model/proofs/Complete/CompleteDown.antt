@@ -23,7 +23,7 @@ use Rattle.model.specs.Unfolding.{addParticle}
 use Rattle.model.specs.Load.{Composition, wrapperOf, Setting}
 use Rattle.model.specs.WellFormed.{counts, shelfOf, wfParticle, wfMessage, wfValue, ready}
 use Rattle.model.specs.Step.{short, Step, local, inner, isDown, known, silently, withContents, withLobby, withParticles, descendParticle, goDown as goesDown, descend as descends}
-use Rattle.model.specs.Process.{Mark, part, boxed, lobby, ownName, siteOf, valOf, confOf, newOf, knownOf, msgProc}
+use Rattle.model.specs.Process.{Mark, part, boxed, lobby, ownName, siteOf, valOf, confOf, newOf, msgProc}
 use Rattle.model.specs.Agreement.{At, enter, goDown, goUp, descend, meet, pass, leave, take, by-17, down-full, partsOf}
 use Rattle.calculus.proofs.FreeNames.{eqb-sym}
 use Rattle.calculus.proofs.Trees.{Has, wf-has}
@@ -31,7 +31,7 @@ use Rattle.calculus.proofs.Restriction.{RestrictInv}
 use Rattle.calculus.proofs.Bags.{item, at, Bag, bag-eq, bag-trans, bag-cons, ritems}
 use Rattle.model.proofs.Basics.Tests.{fst, both, every-append, every-one, every-set, length-remove, get-every}
 use Rattle.model.proofs.Formed.Growing.{wfIn}
-use Rattle.model.proofs.Processes.KnownNames.{All}
+use Rattle.model.proofs.Processes.KnownNames.{knownAll, All}
 use Rattle.model.proofs.Basics.Splits.{get-pick}
 use Rattle.model.proofs.Sound.ItemMoves.{ids, forget, plainP, target, add-part}
 use Rattle.model.proofs.Sound.StateMoves.{wf-all}
@@ -110,7 +110,7 @@ msg-down w side j m t x n u q = go (m .status) q
     go leaving q = let eo = ap tagIn q in absurd (let z : _≡_ {A = ℕ} 0 1 = cc in omega arith)
 
 module _ (b : Composition) (s : State) (e : ready b s ≡ true) where
-  module _ (vw : View b s) (ac : Answers b s vw) {w : Participants Mark} {R : Proc Mark []} (v : RestrictInv (newOf b s) (knownOf s) (fill (confOf b s .boxes) (at (confOf b s .items))) R tau w)
+  module _ (vw : View b s) (ac : Answers b s vw) {w : Participants Mark} {R : Proc Mark []} (v : RestrictInv (newOf b s) (knownAll s) (fill (confOf b s .boxes) (at (confOf b s .items))) R tau w)
       (J : List (Item Mark)) (n : fill (confOf b s .boxes) (at J) ≋ v .next) (rest : List (Item (Unit {0}))) where
     -- a message into box 0
     goes-down : (j : ℕ) (m : Message) → getElem? (vw .core .lobby) j ≡ some m → m .status ≡ down
@@ -158,7 +158,7 @@ module _ (b : Composition) (s : State) (e : ready b s ≡ true) where
   sel k = select (confOf b s .items) k
 
   -- COMPLETE, for an output that goes into a child box
-  pub complete-descending : {t : Mark} {R : Proc Mark []} (c : Place Mark) (v : RestrictInv (newOf b s) (knownOf s) (fill (confOf b s .boxes) (λ k. parallel (sel k))) R tau (joint t (c .mark))) (i x : ℕ) (u : Val ℕ)
+  pub complete-descending : {t : Mark} {R : Proc Mark []} (c : Place Mark) (v : RestrictInv (newOf b s) (knownAll s) (fill (confOf b s .boxes) (λ k. parallel (sel k))) R tau (joint t (c .mark))) (i x : ℕ) (u : Val ℕ)
       → Has c (confOf b s .boxes) → getElem? (sel (c .parent)) i ≡ some (pout t x (plain (ichild (c .name))) u)
       → fill (confOf b s .boxes) (upd (upd (λ k. parallel (sel k)) (c .parent) (parallel (set (sel (c .parent)) i pnil))) (c .site) (ppar (pout t x receivedParent u) (parallel (sel (c .site))))) ≋ v .next
       → Completed b s tau (joint t (c .mark)) R

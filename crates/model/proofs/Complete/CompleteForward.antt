@@ -32,11 +32,11 @@ use Rattle.calculus.proofs.Inversion.{after}
 use Rattle.calculus.proofs.Forwarders.{copyItems}
 use Rattle.calculus.proofs.Bags.{item, at, Bag, bag-app, bag-refl, bag-eq, bag-trans, bag-cons, bag-mid, bag-sym, ritem, ritems, ritems-app}
 use Rattle.model.proofs.Basics.Sides.{described-by}
-use Rattle.model.proofs.Basics.Tests.{both, snd, get-every, not-empty, nothing, some-inj, or-right, head-eq, tail-eq, or-none}
+use Rattle.model.proofs.Basics.Tests.{both, snd, get-every, not-empty, no-some, some-inj, or-right, head-eq, tail-eq, or-none}
 use Rattle.model.proofs.Formed.Growing.{wfIn}
 use Rattle.model.proofs.Formed.Keeping.{length-copied}
 use Rattle.model.proofs.Formed.Invariant.{copies-log, side-ok}
-use Rattle.model.proofs.Processes.KnownNames.{All}
+use Rattle.model.proofs.Processes.KnownNames.{knownAll, All}
 use Rattle.model.proofs.Basics.Splits.{get-pick}
 use Rattle.model.proofs.Processes.StateTree.{shelf-marks}
 use Rattle.model.proofs.Sound.ItemMoves.{ids, forget, plainM, target, gone-of, sent-of, add-msgs, copied-items}
@@ -113,20 +113,20 @@ pipe = record { source = 1; receiver = 2; j = 0 }
 
 only-pipe : (k : ℕ) (r : Route) → getElem? (pipe ∷ []) k ≡ some r → pipe ≡ r
 only-pipe zero r g = some-inj g
-only-pipe (suc k) r g = absurd (nothing g)
+only-pipe (suc k) r g = absurd (no-some g)
 
 pub route-found : (w k : ℕ) (r : Route) → getElem? (described w .routes) k ≡ some r → routeTo (described w .routes) (r .receiver) (r .j) ≡ done r
 unfolding routeTo choose _&_
 route-found w = described-by (λ (d : Wrapper). (k : ℕ) (r : Route) → getElem? (d .routes) k ≡ some r → routeTo (d .routes) (r .receiver) (r .j) ≡ done r)
-    (λ k r g. absurd (nothing g)) (λ k r g. subst (λ (z : Route). routeTo (pipe ∷ []) (z .receiver) (z .j) ≡ done z) (only-pipe k r g) refl) (λ k r g. absurd (nothing g)) (λ k r g. absurd (nothing g)) w
+    (λ k r g. absurd (no-some g)) (λ k r g. subst (λ (z : Route). routeTo (pipe ∷ []) (z .receiver) (z .j) ≡ done z) (only-pipe k r g) refl) (λ k r g. absurd (no-some g)) (λ k r g. absurd (no-some g)) w
 
 pub route-sole : (w k k′ : ℕ) (r r′ : Route) → getElem? (described w .routes) k ≡ some r → getElem? (described w .routes) k′ ≡ some r′ → r .source ≡ r′ .source → r .receiver ≡ r′ .receiver → r ≡ r′
 route-sole w = described-by (λ (d : Wrapper). (k k′ : ℕ) (r r′ : Route) → getElem? (d .routes) k ≡ some r → getElem? (d .routes) k′ ≡ some r′ → r .source ≡ r′ .source → r .receiver ≡ r′ .receiver → r ≡ r′)
-    (λ k k′ r r′ g g′ p q. absurd (nothing g)) (λ k k′ r r′ g g′ p q. sym (only-pipe k r g) ∙ only-pipe k′ r′ g′) (λ k k′ r r′ g g′ p q. absurd (nothing g)) (λ k k′ r r′ g g′ p q. absurd (nothing g)) w
+    (λ k k′ r r′ g g′ p q. absurd (no-some g)) (λ k k′ r r′ g g′ p q. sym (only-pipe k r g) ∙ only-pipe k′ r′ g′) (λ k k′ r r′ g g′ p q. absurd (no-some g)) (λ k k′ r r′ g g′ p q. absurd (no-some g)) w
 
 -- a route's source has a shelf
 one-of : {A : Type 0} (f : A → Bool) (l : List A) (k : ℕ) (x : A) → getElem? l k ≡ some x → f x ≡ true → oneOf f l ≡ true
-one-of f [] k x g e = absurd (nothing g)
+one-of f [] k x g e = absurd (no-some g)
 one-of f (y ∷ l) zero x g e = ap (λ (t : Bool). t || oneOf f l) (ap f (some-inj g) ∙ e)
 one-of f (y ∷ l) (suc k) x g e = or-right (f y) (oneOf f l) (one-of f l k x g e)
 
@@ -246,7 +246,7 @@ get-other (x ∷ l) (suc i) (suc j) y n = get-other l i j y (λ q. n (ap suc q))
 
 module _ (b : Composition) (s : State) (e : ready b s ≡ true) (R : Proc Mark []) where
   abbrev Outcome : Step → Type 0
-  Outcome k = Met b s tau R k ⊎ ((n : ℕ) × (step b s k .answer ≡ refusal n (k .side)) × Excused b s k tau n)
+  Outcome k = Met (knownAll s) b s tau R k ⊎ ((n : ℕ) × (step b s k .answer ≡ refusal n (k .side)) × Excused b s k tau n)
 
   -- a forwarder has sent on the value of an output that is gone
   sent-on : (cs : List ℕ) (v : Val ℕ) (P Q : Proc Mark []) → received P v ≡ some Q → (X Y X' Y' : List (Item Mark)) → X ++ item 0 pnil ∷ Y ≡ X' ++ item 0 P ∷ Y' → (t : Mark) (x : ℕ) (i : ITag ℕ) (z : ℕ) (o : ITag ℕ)
@@ -269,7 +269,7 @@ module _ (b : Composition) (s : State) (e : ready b s ≡ true) (R : Proc Mark [
     is-passed = pass-local (vw .c) (known s) (shelfOf s) (vw .core) (vw .c .side) j ∙ ap (λ (w : Wrapper). passing (w .copies) (vw .core) j) (an .wrapper-is)
         ∙ passes-there (wrapperOf b .copies) (vw .core) j m get st ch
 
-    passed-met : settled (done moved-on) ≡ done moved-on → Met b s tau R (pass-step (vw .c .side) j)
+    passed-met : settled (done moved-on) ≡ done moved-on → Met (knownAll s) b s tau R (pass-step (vw .c .side) j)
     passed-met q = record {
       names = rename-of vv;
       label = subst (λ (r : Result). Says (wrapperOf b) (r .answer) tau) (sym there) says-tau;
@@ -322,7 +322,7 @@ module _ (b : Composition) (s : State) (e : ready b s ≡ true) (R : Proc Mark [
         abbrev moved : Moved
         moved = taken (r .source) (side s σ .core) i v
 
-        taken-met : settled (done moved) ≡ done moved → Met b s tau R (take-step r i)
+        taken-met : settled (done moved) ≡ done moved → Met (knownAll s) b s tau R (take-step r i)
         taken-met st = record {
           names = rename-of vv;
           label = subst (λ (r : Result). Says (wrapperOf b) (r .answer) tau) (sym there) says-tau;

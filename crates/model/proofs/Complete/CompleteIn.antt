@@ -22,7 +22,7 @@ use Rattle.model.specs.Side.{State, Message, Core, down}
 use Rattle.model.specs.Load.{Composition, wrapperOf, Setting}
 use Rattle.model.specs.WellFormed.{counts, shelfOf, ready}
 use Rattle.model.specs.Step.{Step, Moved, enters, labelled, Result, refusal, settled, local, step, known, copied, enter as entry}
-use Rattle.model.specs.Process.{Mark, enterer, inert, ownName, vwords, confOf, newOf, knownOf, enters as entering-item}
+use Rattle.model.specs.Process.{Mark, enterer, inert, ownName, vwords, confOf, newOf, enters as entering-item}
 use Rattle.model.specs.Agreement.{plainly, At, Asks, asks-in, Says, says-in, Met, Excused, by-11-long, by-11-name, by-12, by-17, enter-full, answerSide, Written, enter, goDown, goUp, descend, meet, pass, leave, take}
 use Rattle.calculus.proofs.Renaming.{AllV-map, vren-agree, vren-id}
 use Rattle.calculus.proofs.Equivariance.{lren}
@@ -33,7 +33,7 @@ use Rattle.model.proofs.Basics.Items.{shaped-items}
 use Rattle.model.proofs.Formed.Keeping.{length-copied, shaped-words}
 use Rattle.model.proofs.Formed.Invariant.{copies-log}
 use Rattle.model.proofs.Basics.Tests.{snd}
-use Rattle.model.proofs.Processes.KnownNames.{All}
+use Rattle.model.proofs.Processes.KnownNames.{knownAll, All}
 use Rattle.model.proofs.Processes.StateTree.{few}
 use Rattle.model.proofs.Sound.ItemMoves.{ids, forget, whole°, sent-of, add-sent}
 use Rattle.model.proofs.Sound.StateMoves.{wf-all, rooted-all}
@@ -91,7 +91,7 @@ module _ (b : Composition) (s : State) (e : ready b s ≡ true) where
     l = recv x o v
 
     abbrev Outcome : Step → Type 0
-    Outcome k = Met b s l R k ⊎ ((n : ℕ) × (step b s k .answer ≡ refusal n (k .side)) × Excused b s k l n)
+    Outcome k = Met (knownAll s) b s l R k ⊎ ((n : ℕ) × (step b s k .answer ≡ refusal n (k .side)) × Excused b s k l n)
 
     -- a side's entry has taken the value
     module _ (vw : View b s) (an : Answers b s vw) (u : Mark) (vv : Inv b s R l (joint u (enterer (vw .c .side)))) (X Y : List (Item Mark)) (is : confOf b s .items ≡ X ++ entering-item ids (wrapperOf b) (vw .c .side) ∷ Y)
@@ -137,7 +137,7 @@ module _ (b : Composition) (s : State) (e : ready b s ≡ true) where
         is-entered : local (vw .c) (known s) (shelfOf s) (vw .core) asked ≡ done moved
         is-entered = enters-there (vw .c) (known s) (shelfOf s) (vw .core) (vw .c .side) ws iv kv ∙ ap (λ (w : Wrapper). done (entered (w .copies) (vw .core) ws)) (an .wrapper-is)
 
-        met : settled (done moved) ≡ done moved → Met b s l R asked
+        met : settled (done moved) ≡ done moved → Met (knownAll s) b s l R asked
         met st = record {
           names = rename-of vv;
           label = subst₂ (λ (r : Result) (y : Label). Says (wrapperOf b) (r .answer) y) (sym there) (sym label-is) (says-in refl (usual-names v (names-ok v wr iv)));
@@ -173,7 +173,7 @@ module _ (b : Composition) (s : State) (e : ready b s ≡ true) where
       )
 
     -- COMPLETE, for what the environment says
-    pub complete-in : {w : Participants Mark} → Trans (knownOf s) (process (confOf b s)) (recv x o v) w R → Completed b s (recv x o v) w R
+    pub complete-in : {w : Participants Mark} → Trans (knownAll s) (process (confOf b s)) (recv x o v) w R → Completed b s (recv x o v) w R
     complete-in {w} d = let t = entry-of b s e d in by-entry (t .0) (t .1)
       where
         by-entry : (vv : Inv b s R l w) → Entry b s e vv → Completed b s l w R

@@ -26,14 +26,14 @@ use Rattle.model.specs.Side.{Particle, output, input, State, side as sid
 use Rattle.model.specs.Load.{Composition, wrapperOf}
 use Rattle.model.specs.WellFormed.{counts, wfParticle, envAt, ready}
 use Rattle.model.specs.Step.{Step, refusal, step, without}
-use Rattle.model.specs.Process.{Mark, part, siteOf, valOf, patOf, codeOf, envOf, itagOf, tagOut, modeOf, isGone, partItem, enters, passes, takes, forwarders, shelfItem, shelfItems, confOf, newOf, knownOf}
+use Rattle.model.specs.Process.{Mark, part, siteOf, valOf, patOf, codeOf, envOf, itagOf, tagOut, modeOf, isGone, partItem, enters, passes, takes, forwarders, shelfItem, shelfItems, confOf, newOf}
 use Rattle.model.specs.Agreement.{At, Asks, asks-tau, Met, Excused, enter, goDown, goUp, descend, meet, pass, leave, take}
 use Rattle.calculus.proofs.Trees.{Reach}
 use Rattle.calculus.proofs.Inversion.{after}
 use Rattle.calculus.proofs.Restriction.{RestrictInv}
 use Rattle.calculus.proofs.Restriction.{known as allOf}
 use Rattle.calculus.proofs.Bags.{item, at, Bag, bag-eq, bag-trans, ritem, ritems}
-use Rattle.model.proofs.Processes.KnownNames.{held-in, low-in, All}
+use Rattle.model.proofs.Processes.KnownNames.{knownAll, held-in, low-in, All}
 use Rattle.model.proofs.Processes.ItemFacts.{InputAt, input-node}
 use Rattle.model.proofs.Processes.StateTree.{reach-boxes, remark-proc}
 use Rattle.model.proofs.Sound.ItemMoves.{ids, forget, plainP, plain-part, target}
@@ -89,7 +89,7 @@ module _ (b : Composition) (s : State) (e : ready b s ≡ true) where
   sel k = select (confOf b s .items) k
 
   abbrev Inv : Proc Mark [] → Participants Mark → Type 0
-  Inv R w = RestrictInv (newOf b s) (knownOf s) (fill (confOf b s .boxes) (λ k. parallel (select (confOf b s .items) k))) R tau w
+  Inv R w = RestrictInv (newOf b s) (knownAll s) (fill (confOf b s .boxes) (λ k. parallel (select (confOf b s .items) k))) R tau w
 
   -- what `meets` says of a site
   pub record MeetsAt (N : Proc Mark []) (t u : Mark) (site : ℕ) : Type 0 where
@@ -249,7 +249,7 @@ module _ (b : Composition) (s : State) (e : ready b s ≡ true) where
         who = ap₂ joint (ap markIn out-is) (sym (taken .0))
 
         vv' : Inv R (joint (part side (c .i')) (part side (c .j')))
-        vv' = record { perm = vv .perm; keeps = vv .keeps; next = vv .next; step = subst (λ (y : Participants Mark). Trans (allOf (newOf b s) (knownOf s)) (fill bs (at I)) tau y (vv .next)) who (vv .step); target = vv .target }
+        vv' = record { perm = vv .perm; keeps = vv .keeps; next = vv .next; step = subst (λ (y : Participants Mark). Trans (allOf (newOf b s) (knownAll s)) (fill bs (at I)) tau y (vv .next)) who (vv .step); target = vv .target }
 
         fits : match (shape (patOf (node .pat))) (valOf v) ≡ some (taken .3)
         fits = subst (λ (z : Val ℕ). match (shape (patOf (node .pat))) z ≡ some (taken .3)) (ap valIn out-is) (taken .4)
@@ -279,7 +279,8 @@ module _ (b : Composition) (s : State) (e : ready b s ≡ true) where
             (bag-eq (ap₂ (λ (z : ℕ) (P : Proc (Unit {0}) []). item z P ∷ aim (without (node .again) parts (c .i') (c .j'))) (site-eq p-is)
             (ap (remark forget) body-now ∙ remark-proc forget [] (part side (c .j')) (codeOf (node .body)) (envOf (extend (envAt Tb n vs) (binders (node .pat)) (mb' .fit .bound))))))
 
-        answer-here : Met b s tau R (meet-step (vw .c .side) (c .i') (c .j')) ⊎ ((a : ℕ) × (step b s (meet-step (vw .c .side) (c .i') (c .j')) .answer ≡ refusal a side) × Excused b s (meet-step (vw .c .side) (c .i') (c .j')) tau a)
+        answer-here : Met (knownAll s) b s tau R (meet-step (vw .c .side) (c .i') (c .j'))
+            ⊎ ((a : ℕ) × (step b s (meet-step (vw .c .side) (c .i') (c .j')) .answer ≡ refusal a side) × Excused b s (meet-step (vw .c .side) (c .i') (c .j')) tau a)
         unfolding mb' vv'
         answer-here = answered b s e vw ori own reach ac (c .i') (c .j') β ch g v n vs gp gq node (part-ok (c .i') (output β ch g v) gp) (part-ok (c .j') (input β n vs) gq) (taken .3) fits (taken .5)
             (taken .1 ∙ ap chanIn out-is) (taken .2 ∙ ap tagIn out-is) R vv' J' leads bag-now
@@ -287,7 +288,7 @@ module _ (b : Composition) (s : State) (e : ready b s ≡ true) where
         with-node : Completed b s tau (joint t u) R
         with-node = (
           (meet-step (vw .c .side) (c .i') (c .j'), subst (At (wrapperOf b) (meet-step (vw .c .side) (c .i') (c .j'))) (sym who) meet, asks-meet side (c .i') (c .j')),
-          λ z atz ask. subst (λ (y : Step). Met b s tau R y ⊎ ((a : ℕ) × (step b s y .answer ≡ refusal a (y .side)) × Excused b s y tau a)) (sym (parts-step atz side (c .i') (c .j') who)) answer-here,
+          λ z atz ask. subst (λ (y : Step). Met (knownAll s) b s tau R y ⊎ ((a : ℕ) × (step b s y .answer ≡ refusal a (y .side)) × Excused b s y tau a)) (sym (parts-step atz side (c .i') (c .j') who)) answer-here,
         )
 
       sorted : (c : Pair) (p q : Particle) → c .p ≡ p → c .q ≡ q → Completed b s tau (joint t u) R

@@ -24,7 +24,7 @@ use Rattle.model.specs.Side.{State, side, Message, Core, down, arrived, 
 use Rattle.model.specs.Load.{Composition, wrapperOf, Setting}
 use Rattle.model.specs.WellFormed.{counts, shelfOf, wfMessage, wfValue, ready}
 use Rattle.model.specs.Step.{Step, leavingOn, labelled, Result, local, inner, leave, isLeaving, step, known, markAll}
-use Rattle.model.specs.Process.{Mark, lobby, ownName, leavesAs, isGone, valOf, confAs, confOf, newOf, knownOf, msgProc, msgItem, shelfItem, shelfItems}
+use Rattle.model.specs.Process.{Mark, lobby, ownName, leavesAs, isGone, valOf, confAs, confOf, newOf, msgProc, msgItem, shelfItem, shelfItems}
 use Rattle.model.specs.Agreement.{renamed, plainly, At, asks-out, Says, Met, answerSide, enter, goDown, goUp, descend, meet, pass, take, leave as leaveAt}
 use Rattle.calculus.proofs.Renaming.{AllT-map, AllT-ren}
 use Rattle.calculus.proofs.FreeNames.{step-tag}
@@ -39,7 +39,7 @@ use Rattle.model.proofs.Formed.Growing.{wfIn}
 use Rattle.model.proofs.Formed.Keeping.{shaped-words}
 use Rattle.model.proofs.Basics.Items.{shaped-items}
 use Rattle.model.proofs.Formed.Invariant.{settled-is, core-short, core-limits, copies-log}
-use Rattle.model.proofs.Processes.KnownNames.{All}
+use Rattle.model.proofs.Processes.KnownNames.{knownAll, All}
 use Rattle.model.proofs.Basics.Splits.{get-pick}
 use Rattle.model.proofs.Processes.StateTree.{few}
 use Rattle.model.proofs.Sound.ItemMoves.{ids, forget, target, gone-bag}
@@ -126,10 +126,10 @@ module _ (b : Composition) (s : State) (e : ready b s ≡ true) where
     unfolding process confAs
     process-of t = refl
 
-    pub left-met : {l : Label} {R : Proc Mark []} (v : RestrictInv (newOf b s) (knownOf s) (fill (confOf b s .boxes) (at (confOf b s .items))) R l (lone (lobby (vw .c .side) j)))
+    pub left-met : {l : Label} {R : Proc Mark []} (v : RestrictInv (newOf b s) (knownAll s) (fill (confOf b s .boxes) (at (confOf b s .items))) R l (lone (lobby (vw .c .side) j)))
         → lren l (v .perm .to) ≡ send ch (plain iparent) (valOf (m .val)) → renamed l (v .perm .to) ≡ lren l (v .perm .to)
         → (J : List (Item Mark)) → fill (confOf b s .boxes) (at J) ≋ v .next → Bag (ritems forget J) (target (wrapperOf b) (vw .c .side) (vw .c .table) (vw .C) (vw .D) (vw .core) (remove (vw .core .lobby) j) (vw .core .contents .particles))
-        → Met b s l R (leaving-step (vw .c .side) j)
+        → Met (knownAll s) b s l R (leaving-step (vw .c .side) j)
     unfolding s' k0
     left-met {l} {R} v el er J n bag = record {
       names = rename-of v;
@@ -154,22 +154,22 @@ module _ (b : Composition) (s : State) (e : ready b s ≡ true) where
             (same-bags N' (confOf b s .boxes) J (confOf b (vw .next k0 (markAll (vw .left) (m .val))) .items) (bag-trans bag (bag-eq (sym (vw .items-next k0 (markAll (vw .left) (m .val)) refl refl)))))))
 
   -- an output of a side's lobby that the environment may take is a leaving one
-  lobby-leaves : (w : Wrapper) (side i j : ℕ) (m : Message) (t : Mark) (x : ℕ) (o : Tag ℕ) (v : Val ℕ) → hasSide (wrapperOf b) side ≡ true → AllT o (In (knownOf s)) → pout t x o v ≡ msgProc ids w side j (m .status) (m .chan) (m .val)
+  lobby-leaves : (w : Wrapper) (side i j : ℕ) (m : Message) (t : Mark) (x : ℕ) (o : Tag ℕ) (v : Val ℕ) → hasSide (wrapperOf b) side ≡ true → AllT o (In (knownAll s)) → pout t x o v ≡ msgProc ids w side j (m .status) (m .chan) (m .val)
       → (m .status ≡ leaving) × (t ≡ lobby side j) × (x ≡ leavesAs w side (m .chan)) × (o ≡ plain iparent) × (v ≡ valOf (m .val))
   lobby-leaves w side i j m t x o v wh h q = go (m .status) q
     where
       go : (p : SPlace) → pout t x o v ≡ msgProc ids w side j p (m .chan) (m .val) → (p ≡ leaving) × (t ≡ lobby side j) × (x ≡ leavesAs w side (m .chan)) × (o ≡ plain iparent) × (v ≡ valOf (m .val))
       go down q =
           let eo : o ≡ plain (ichild (ownName side)) = ap tagIn q in
-          absurd (own-unknown b s side wh (subst (λ (z : Tag ℕ). AllT z (In (knownOf s))) eo h))
+          absurd (own-unknown b s side wh (subst (λ (z : Tag ℕ). AllT z (In (knownAll s))) eo h))
       go arrived q =
           let eo : o ≡ receivedChild (ownName side) = ap tagIn q in
-          absurd (own-unknown b s side wh (subst (λ (z : Tag ℕ). AllT z (In (knownOf s))) eo h))
+          absurd (own-unknown b s side wh (subst (λ (z : Tag ℕ). AllT z (In (knownAll s))) eo h))
       go leaving q = (refl, ap markIn q, ap chanIn q, ap tagIn q, ap valIn q)
 
   -- what stands in the environment besides the lobbies sends nothing that the environment may take
   shelf-no : (gone : ℕ → Bool) (side : ℕ) → hasSide (wrapperOf b) side ≡ true → (n : ℕ) (l : List (List ℕ)) (X : List (Item Mark)) (t : Mark) (x : ℕ) (o : Tag ℕ) (v : Val ℕ) (Y : List (Item Mark)) →
-      AllT o (In (knownOf s)) → shelfItems ids gone side n l ≡ X ++ item 0 (pout t x o v) ∷ Y → ⊥
+      AllT o (In (knownAll s)) → shelfItems ids gone side n l ≡ X ++ item 0 (pout t x o v) ∷ Y → ⊥
   shelf-no gone side wh n [] X t x o v Y h q = not-empty X (item 0 (pout t x o v)) Y q
   shelf-no gone side wh n (u ∷ l) X t x o v Y h q = go (gone n) X q (λ X q. shelf-no gone side wh (suc n) l X t x o v Y h q)
     where
@@ -178,7 +178,7 @@ module _ (b : Composition) (s : State) (e : ready b s ≡ true) where
       go true X q ih = ih X q
       go false [] q ih =
           let eo : receivedChild (ownName side) ≡ o = ap (λ (z : Item Mark). tagIn (z .what)) (head-eq q) in
-          own-unknown b s side wh (subst (λ (z : Tag ℕ). AllT z (In (knownOf s))) (sym eo) h)
+          own-unknown b s side wh (subst (λ (z : Tag ℕ). AllT z (In (knownAll s))) (sym eo) h)
       go false (y ∷ X) q ih = ih X (tail-eq q)
 
   gone-plain : (X Y : List (Item Mark)) → Bag (ritems forget (X ++ item 0 pnil ∷ Y)) (ritems forget X ++ ritems forget Y)
@@ -190,7 +190,7 @@ module _ (b : Composition) (s : State) (e : ready b s ≡ true) where
     l = send x o v
 
     finish : (vw : View b s) → Answers b s vw
-        → (t : Mark) (vv : Inv b s R l (lone t)) (x' : ℕ) (o' : Tag ℕ) (v' : Val ℕ) → lren l (vv .perm .to) ≡ send x' o' v' → AllT o' (In (knownOf s)) →
+        → (t : Mark) (vv : Inv b s R l (lone t)) (x' : ℕ) (o' : Tag ℕ) (v' : Val ℕ) → lren l (vv .perm .to) ≡ send x' o' v' → AllT o' (In (knownAll s)) →
         (i : ℕ) (a : ItemAt (confOf b s .items) 0 i (pout t x' o' v')) → fill (confOf b s .boxes) (at (a .X ++ item 0 pnil ∷ a .Y)) ≋ vv .next
         → (j : ℕ) (m : Message) → getElem? (vw .core .lobby) j ≡ some m → item 0 (pout t x' o' v') ≡ msgItem ids (wrapperOf b) (vw .c .side) j m
         → ritems forget (a .X) ++ ritems forget (a .Y) ≡ target (wrapperOf b) (vw .c .side) (vw .c .table) (vw .C) (vw .D) (vw .core) (remove (vw .core .lobby) j) (vw .core .contents .particles) → Completed b s l (lone t) R
@@ -201,11 +201,11 @@ module _ (b : Composition) (s : State) (e : ready b s ≡ true) where
         on : m .status ≡ leaving → t ≡ lobby (vw .c .side) j → lren l (vv .perm .to) ≡ send (leavesAs (wrapperOf b) (vw .c .side) (m .chan)) (plain iparent) (valOf (m .val)) → Completed b s l (lone t) R
         on pl et el' = (
           (leaving-step (vw .c .side) j, subst (λ (z : Mark). At (wrapperOf b) (leaving-step (vw .c .side) j) (lone z)) (sym et) leaveAt, asks-out refl),
-          λ k atk ask. inl (subst (λ (z : Step). Met b s l R z) (sym (lobby-step atk (vw .c .side) j (ap lone et)))
+          λ k atk ask. inl (subst (λ (z : Step). Met (knownAll s) b s l R z) (sym (lobby-step atk (vw .c .side) j (ap lone et)))
               (met-at (lobby (vw .c .side) j) et)),
         )
           where
-            met-at : (z : Mark) → t ≡ z → Met b s l R (leaving-step (vw .c .side) j)
+            met-at : (z : Mark) → t ≡ z → Met (knownAll s) b s l R (leaving-step (vw .c .side) j)
             met-at z q = left-met vw answers j m g pl {l = l} {R = R} (inv-at (ap lone et) vv) el' refl (a .X ++ item 0 pnil ∷ a .Y) n (bag-trans (gone-plain (a .X) (a .Y)) (bag-eq gone))
 
     abbrev Mv : Proc Mark [] → Label → Participants Mark → Type 0
@@ -218,7 +218,7 @@ module _ (b : Composition) (s : State) (e : ready b s ≡ true) where
 
     sent : (x' : ℕ) (o' : Tag ℕ) (v' : Val ℕ) (t : Mark) (vv : Inv b s R l (lone t)) (i : ℕ) → getElem? (select (confOf b s .items) 0) i ≡ some (pout t x' o' v')
         → fill (confOf b s .boxes) (upd (λ k. parallel (select (confOf b s .items) k)) 0 (parallel (set (select (confOf b s .items) 0) i pnil))) ≋ vv .next
-        → lren l (vv .perm .to) ≡ send x' o' v' → AllT o' (In (knownOf s)) → Completed b s l (lone t) R
+        → lren l (vv .perm .to) ≡ send x' o' v' → AllT o' (In (knownAll s)) → Completed b s l (lone t) R
     sent x' o' v' t vv i get eq el tg =
         let a = item-at (confOf b s .items) 0 i (pout t x' o' v') get in
         let n = trans (symm (one-changed (confOf b s .boxes) (confOf b s .items) 0 i (pout t x' o' v') pnil a)) eq in
@@ -229,7 +229,7 @@ module _ (b : Composition) (s : State) (e : ready b s ≡ true) where
         by-output a n (of-shelf σ h X1 Y1 q ex ey) = absurd (shelf-no (isGone s σ) σ h 0 (side s σ .core .shelf) X1 t x' o' v' Y1 tg q)
 
     -- COMPLETE, for what the environment hears
-    pub complete-out : {w : Participants Mark} → Trans (knownOf s) (process (confOf b s)) (send x o v) w R → Completed b s (send x o v) w R
+    pub complete-out : {w : Participants Mark} → Trans (knownAll s) (process (confOf b s)) (send x o v) w R → Completed b s (send x o v) w R
     complete-out {w} d =
         let t = transitions b s e R d in
         let r = send-inv (t .1) in
@@ -237,4 +237,4 @@ module _ (b : Composition) (s : State) (e : ready b s ≡ true) where
         subst (λ (y : Participants Mark). Completed b s (send x o v) y R) (sym (r .2))
         (sent (vv .perm .to x) (tren o (vv .perm .to)) (vren v (vv .perm .to)) (r .0)
         (inv-at (r .2) vv)
-        (r .1) (r .3) (r .4) refl (AllT-ren o (vv .perm .to) (In (knownOf s)) (AllT-map o (λ y h. subst (In (knownOf s)) (sym (vv .keeps y h)) h) (step-tag d))))
+        (r .1) (r .3) (r .4) refl (AllT-ren o (vv .perm .to) (In (knownAll s)) (AllT-map o (λ y h. subst (In (knownAll s)) (sym (vv .keeps y h)) h) (step-tag d))))

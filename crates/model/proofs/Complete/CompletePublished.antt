@@ -1,6 +1,7 @@
 -- Complete for published transitions: each comes from a marked one, which has its place.
 use mathlib.Core.Path.{subst}
-use mathlib.Core.List.{[]}
+use mathlib.Core.List.{List, []}
+use Prim.Native.Nat.{ℕ}
 use mathlib.Core.Logic.{inl, inr, ⊎-elim}
 use Rattle.calculus.specs.Syntax.{Proc}
 use Rattle.calculus.specs.Congruence.{_≋_, symm, trans}
@@ -18,8 +19,8 @@ use Rattle.calculus.proofs.Marks.{marks, remark-ren}
 use Rattle.model.proofs.Complete.Complete.{complete}
 
 -- what meets a marked transition meets the published one
-met-published : (b : Composition) (s : State) (l : Label) (R : Proc Mark []) (Q : Proc (Unit {0}) []) (k : Step) → plainly R ≋ Q → Met b s l R k → MetPublished b s l Q k
-met-published b s l R Q k q m = record {
+met-published : (A : List ℕ) (b : Composition) (s : State) (l : Label) (R : Proc Mark []) (Q : Proc (Unit {0}) []) (k : Step) → plainly R ≋ Q → Met A b s l R k → MetPublished A b s l Q k
+met-published A b s l R Q k q m = record {
   names = m .names;
   label = m .label;
   side = m .side;
@@ -28,7 +29,7 @@ met-published b s l R Q k q m = record {
 
 pub complete-published : CompletePublished
 unfolding CompletePublished Complete Marks
-complete-published b s l Q e p wr =
-    let (w, R, d, q) = marks Mark .1 (knownOf s) (process (confOf b s)) l Q inert p in
-    let c = complete b s l w R e d wr in
-    (w, c .0, λ k a ask. ⊎-elim (λ m. inl (met-published b s l R Q k q m)) (λ r. inr r) (c .1 k a ask))
+complete-published b s X l Q e h p wr =
+    let (w, R, d, q) = marks Mark .1 (knownOf X s) (process (confOf b s)) l Q inert p in
+    let c = complete b s X l w R e h d wr in
+    (w, c .0, λ k a ask. ⊎-elim (λ m. inl (met-published (knownOf X s) b s l R Q k q m)) (λ r. inr r) (c .1 k a ask))

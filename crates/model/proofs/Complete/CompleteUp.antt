@@ -21,14 +21,14 @@ use Rattle.model.specs.Side.{State, side, Box, Message, Particle, output
 use Rattle.model.specs.Load.{Composition, wrapperOf, Setting}
 use Rattle.model.specs.WellFormed.{counts, wfParticle, shelfOf, ready}
 use Rattle.model.specs.Step.{short, Step, local, inner, up, upParticle, upFrom, known, silently, withContents, withLobby, withParticles}
-use Rattle.model.specs.Process.{Mark, part, lobby, ownName, siteOf, valOf, confOf, newOf, knownOf, placeOf}
+use Rattle.model.specs.Process.{Mark, part, lobby, ownName, siteOf, valOf, confOf, newOf, placeOf}
 use Rattle.model.specs.Agreement.{shelves?, At, enter, goDown, goUp, descend, meet, pass, leave, take, by-17, up-full, shelf-full, partsOf}
 use Rattle.calculus.proofs.FreeNames.{eqb-sym}
 use Rattle.calculus.proofs.Trees.{Has, wf-has}
 use Rattle.calculus.proofs.Restriction.{RestrictInv}
 use Rattle.calculus.proofs.Bags.{item, at, Bag, bag-eq, bag-trans, bag-cons, ritems}
 use Rattle.model.proofs.Basics.Tests.{snd, every-remove, every-set, length-remove, get-every}
-use Rattle.model.proofs.Processes.KnownNames.{All}
+use Rattle.model.proofs.Processes.KnownNames.{knownAll, All}
 use Rattle.model.proofs.Basics.Splits.{get-pick}
 use Rattle.model.proofs.Sound.ItemMoves.{ids, forget, plainP, target, add-msg}
 use Rattle.model.proofs.Sound.StateMoves.{wf-all}
@@ -91,7 +91,7 @@ shelf-no true false h = tt
 shelf-no false c h = tt
 
 module _ (b : Composition) (s : State) (e : ready b s ≡ true) where
-  module _ (vw : View b s) (ac : Answers b s vw) {w : Participants Mark} {R : Proc Mark []} (v : RestrictInv (newOf b s) (knownOf s) (fill (confOf b s .boxes) (at (confOf b s .items))) R tau w)
+  module _ (vw : View b s) (ac : Answers b s vw) {w : Participants Mark} {R : Proc Mark []} (v : RestrictInv (newOf b s) (knownAll s) (fill (confOf b s .boxes) (at (confOf b s .items))) R tau w)
       (j ch : ℕ) (u : List ℕ) (J : List (Item Mark)) (n : fill (confOf b s .boxes) (at J) ≋ v .next) (rest : List (Item (Unit {0})))
       (gone : rest ≡ target (wrapperOf b) (vw .c .side) (vw .c .table) (vw .C) (vw .D) (vw .core) (vw .core .lobby) (remove (vw .core .contents .particles) j))
       (put : (q : Particle) → Bag (plainP (vw .c .table) (vw .c .side) q ∷ rest) (target (wrapperOf b) (vw .c .side) (vw .c .table) (vw .C) (vw .D) (vw .core) (vw .core .lobby) (set (vw .core .contents .particles) j q))) where
@@ -182,7 +182,7 @@ module _ (b : Composition) (s : State) (e : ready b s ≡ true) where
   sel k = select (confOf b s .items) k
 
   -- COMPLETE, for an output that leaves its box
-  pub complete-rising : {t : Mark} {R : Proc Mark []} (v : RestrictInv (newOf b s) (knownOf s) (fill (confOf b s .boxes) (λ k. parallel (sel k))) R tau (lone t)) (c : Place Mark) (i x : ℕ) (u : Val ℕ)
+  pub complete-rising : {t : Mark} {R : Proc Mark []} (v : RestrictInv (newOf b s) (knownAll s) (fill (confOf b s .boxes) (λ k. parallel (sel k))) R tau (lone t)) (c : Place Mark) (i x : ℕ) (u : Val ℕ)
       → Has c (confOf b s .boxes) → getElem? (sel (c .site)) i ≡ some (pout t x (plain iparent) u)
       → fill (confOf b s .boxes) (upd (upd (λ k. parallel (sel k)) (c .site) (parallel (set (sel (c .site)) i pnil))) (c .parent) (ppar (pout t x (receivedChild (c .name)) u) (parallel (sel (c .parent))))) ≋ v .next
       → Completed b s tau (lone t) R

@@ -1,8 +1,8 @@
 -- What the parts of `Complete` share: the statement for one transition, the parts of an output and of an input, the steps of a side by their results.
 use mathlib.Core.Path.{_≡_, refl, sym, ap, ap₂, _∙_, subst}
 use mathlib.Core.Bool.{Bool, true, false}
-use mathlib.Core.List.{List, [], _∷_, _++_}
-use mathlib.Core.Logic.{_⊎_, inl, inr, ⊎-elim}
+use mathlib.Core.List.{List, []}
+use mathlib.Core.Logic.{_⊎_, inl, inr}
 use mathlib.Core.Option.{Option, none, some}
 use Prim.Native.Nat.{ℕ, _≤_}
 use native.Mathlib.Omega.{arith}
@@ -10,7 +10,7 @@ use borrow.Author.Tests.{leb-false, le-leb}
 use lib.Dec.{leb}
 use lib.ListN.{length}
 use Rattle.calculus.specs.Syntax.{Val, Vars, Tag, ITag, plain, receivedParent, Proc, nm, match}
-use Rattle.calculus.specs.Syntax.{par as ppar, box as pbox, new as pnew, nil as pnil, out as pout, inp as pinp, parent as iparent, child as ichild, within as iwithin}
+use Rattle.calculus.specs.Syntax.{par as ppar, box as pbox, new as pnew, nil as pnil, out as pout, inp as pinp}
 use Rattle.calculus.specs.Transitions.{Label, Participants, In}
 use Rattle.calculus.specs.Transitions.{Step as Trans}
 use Rattle.calculus.specs.Tree.{fill}
@@ -22,7 +22,7 @@ use Rattle.model.specs.Side.{State, Message, Core, limits, side, putSide
 use Rattle.model.specs.Load.{Composition, wrapperOf, table, Setting, setting}
 use Rattle.model.specs.WellFormed.{Counts, shelfOf, ready}
 use Rattle.model.specs.Step.{short, Step, Moved, labelled, refusal, Result, settled, local, step, known, answerOf, sideAfter, marks}
-use Rattle.model.specs.Process.{Mark, inert, ownName, confOf, newOf, knownOf}
+use Rattle.model.specs.Process.{Mark, inert, ownName, confOf, newOf}
 use Rattle.model.specs.Agreement.{At, Asks, Met, Excused}
 use Rattle.calculus.proofs.Inversion.{after}
 use Rattle.calculus.proofs.Forwarders.{sends, body-inst}
@@ -31,18 +31,18 @@ use Rattle.calculus.proofs.Restriction.{RestrictInv}
 use Rattle.calculus.proofs.Restriction.{known as allOf}
 use Rattle.calculus.proofs.Bags.{at}
 use Rattle.model.proofs.Formed.Growing.{CoreOk}
-use Rattle.model.proofs.Formed.Invariant.{settled-is, core-short, which, positive}
+use Rattle.model.proofs.Formed.Invariant.{settled-is, core-short}
 use Rattle.model.proofs.Independent.Independence.{step-has}
-use Rattle.model.proofs.Processes.KnownNames.{known-where, minted-high}
+use Rattle.model.proofs.Processes.KnownNames.{knownAll, outsideNames, known-by, map-in, own-unknown as no-own}
 use Rattle.model.proofs.Sound.SideViews.{View, view}
 
 -- `Complete` for one transition
 abbrev pub Completed : Composition → State → Label → Participants Mark → Proc Mark [] → Type 0
-Completed b s l w R = ((k : Step) × At (wrapperOf b) k w × Asks k l) × ((k : Step) → At (wrapperOf b) k w → Asks k l → Met b s l R k ⊎ ((n : ℕ) × (step b s k .answer ≡ refusal n (k .side)) × Excused b s k l n))
+Completed b s l w R = ((k : Step) × At (wrapperOf b) k w × Asks k l) × ((k : Step) → At (wrapperOf b) k w → Asks k l → Met (knownAll s) b s l R k ⊎ ((n : ℕ) × (step b s k .answer ≡ refusal n (k .side)) × Excused b s k l n))
 
 -- a transition taken apart, and the same for other participants
 abbrev pub Inv : Composition → State → Proc Mark [] → Label → Participants Mark → Type 0
-Inv b s R l w = RestrictInv (newOf b s) (knownOf s) (fill (confOf b s .boxes) (at (confOf b s .items))) R l w
+Inv b s R l w = RestrictInv (newOf b s) (knownAll s) (fill (confOf b s .boxes) (at (confOf b s .items))) R l w
 
 abbrev pub inv-at : {N A : List ℕ} {P R : Proc Mark []} {l : Label} {w w' : Participants Mark} → w ≡ w' → RestrictInv N A P R l w → RestrictInv N A P R l w'
 inv-at {N} {A} {P} {R} {l} q v = record {
@@ -54,10 +54,8 @@ inv-at {N} {A} {P} {R} {l} q v = record {
 }
 
 -- own names are not known outside
-pub own-unknown : (b : Composition) (s : State) (side : ℕ) → hasSide (wrapperOf b) side ≡ true → In (knownOf s) (ownName side) → ⊥
-own-unknown b s side h k =
-    let p = positive side (which (b .wrapper) side h) in
-    ⊎-elim (λ q. omega (arith, q, p .0)) (λ r. omega (arith, minted-high b s (ownName side) (r .0), p .1)) (known-where b s (ownName side) k)
+pub own-unknown : (b : Composition) (s : State) (side : ℕ) → hasSide (wrapperOf b) side ≡ true → In (knownAll s) (ownName side) → ⊥
+own-unknown b s side h k = no-own b s (ownName side) (map-in ownName (wrapperOf b .sides) side h) (known-by outsideNames s (ownName side) k)
 
 pub what-eq : {M : Type 0} {a b : Item M} → a ≡ b → a .what ≡ b .what
 what-eq e = ap (λ (i : Item _). i .what) e

@@ -22,10 +22,11 @@ use Rattle.model.specs.Unfolding.{defined, tagDefined, anyNames}
 use Rattle.model.specs.WellFormed.{Counts, wfValue}
 use Rattle.model.specs.Process.{valOf, headV, patOf, itagOf, codeOf, envOf}
 use Rattle.model.proofs.Basics.Tests.{both, or-cases}
+use Rattle.model.proofs.Basics.Names.{name-small}
 use Rattle.model.proofs.Basics.Items.{clash, items-bad}
 use Rattle.model.proofs.Basics.Environments.{Sized, sized-extend, look-append, length-any}
 use Rattle.model.proofs.Basics.Checked.{Sits, s-nil, s-par, s-box, s-new, s-out, s-inp}
-use Rattle.model.proofs.Processes.ValueWords.{reads-tuple, name-small}
+use Rattle.model.proofs.Processes.ValueWords.{reads-tuple}
 use Rattle.model.proofs.Processes.HandlerTerms.{find-has, isSome}
 use Rattle.model.proofs.Sound.Substitutions.{shape-value, env-value}
 

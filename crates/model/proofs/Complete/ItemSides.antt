@@ -24,7 +24,7 @@ use Rattle.model.specs.Side.{State, side, Box, Particle, output, input, 
 use Rattle.model.specs.Load.{Composition, wrapperOf}
 use Rattle.model.specs.WellFormed.{Counts, counts, wfParticle, envAt, shelfOf, ready}
 use Rattle.model.specs.Step.{short, Result, Step, Moved, silent, Answer, labelled, refusal, settled, local, step, known, silently}
-use Rattle.model.specs.Process.{Mark, part, boxed, lobby, ownName, siteOf, valOf, codeOf, envOf, tagOut, confAs, confOf, newOf, knownOf, isGone, partItem, shelfItem, shelfItems, enters, passes}
+use Rattle.model.specs.Process.{Mark, part, boxed, lobby, ownName, siteOf, valOf, codeOf, envOf, tagOut, confAs, confOf, newOf, isGone, partItem, shelfItem, shelfItems, enters, passes}
 use Rattle.model.specs.Process.{takes, forwarders, placeOf, placesOf, allPlaces}
 use Rattle.model.specs.Agreement.{plainly, At, asks-tau, Says, says-tau, Met, Excused, answerSide}
 use Rattle.calculus.proofs.Trees.{Has, here, there}
@@ -40,6 +40,7 @@ use Rattle.model.proofs.Complete.StateInversion.{rename-of, silent-targ
 use Rattle.model.proofs.Complete.Completing.{Completed, what-eq, site-eq, tagIn, chanIn, valIn, markIn, isOut, Answers}
 use Rattle.model.proofs.Complete.ItemOwners.{shelfOn}
 use Rattle.model.proofs.Complete.WrapperLevel.{Every, every-app, every-mid, every-has, every-get}
+use Rattle.model.proofs.Processes.KnownNames.{knownAll}
 
 -- a box of the state by its place
 pub record BoxAt (b : Composition) (s : State) (c : Place Mark) : Type 0 where
@@ -280,14 +281,14 @@ module _ (b : Composition) (s : State) (e : ready b s ≡ true) where
 
   -- what a step at the place of a silent transition does
   abbrev pub Outcome : Proc Mark [] → Step → Type 0
-  Outcome R k = Met b s tau R k ⊎ ((n : ℕ) × (step b s k .answer ≡ refusal n (k .side)) × Excused b s k tau n)
+  Outcome R k = Met (knownAll s) b s tau R k ⊎ ((n : ℕ) × (step b s k .answer ≡ refusal n (k .side)) × Excused b s k tau n)
 
   -- the one step at a place
   pub complete-at : {w : Participants Mark} {R : Proc Mark []} (k : Step) → At (wrapperOf b) k w → (k .kind ≡ 1 → ⊥) → (k .kind ≡ 7 → ⊥) → ((x : Step) → At (wrapperOf b) x w → x ≡ k) → Outcome R k → Completed b s tau w R
   complete-at {w} {R} k a n1 n7 only o = ((k, a, asks-tau n1 n7), λ x ax ask. subst (λ (y : Step). Outcome R y) (sym (only x ax)) o)
 
   -- a silent step of a side: it leads where the transition leads, or a limit is passed
-  pub silent-met : (vw : View b s) → Answers b s vw → {w : Participants Mark} {R : Proc Mark []} (v : RestrictInv (newOf b s) (knownOf s) (fill (confOf b s .boxes) (at (confOf b s .items))) R tau w) (k : Step) → k .side ≡ vw .c .side
+  pub silent-met : (vw : View b s) → Answers b s vw → {w : Participants Mark} {R : Proc Mark []} (v : RestrictInv (newOf b s) (knownAll s) (fill (confOf b s .boxes) (at (confOf b s .items))) R tau w) (k : Step) → k .side ≡ vw .c .side
       → (q : Core) → local (vw .c) (known s) (shelfOf s) (vw .core) k ≡ silently q → every short (q .contents .particles) ≡ true → q .contents .boxes ≡ vw .core .contents .boxes → q .contents .minted ≡ vw .core .contents .minted
       → (J : List (Item Mark)) → fill (confOf b s .boxes) (at J) ≋ v .next → (limits q ≡ true → Bag (ritems forget J) (ritems forget (confOf b (vw .next q (vw .left)) .items))) → (limits q ≡ false → Excused b s k tau 17) → Outcome R k
   silent-met vw ac {w} {R} v k sd q lo sh eb em J n bag over = go (limits q) refl

@@ -26,7 +26,7 @@ use Rattle.model.specs.Unfolding.{defined, unfolds, tagOf, particlesIn, 
 use Rattle.model.specs.Load.{Composition, wrapperOf, table}
 use Rattle.model.specs.WellFormed.{counts, wfParticle, wfValue, envAt, shelfOf, ready}
 use Rattle.model.specs.Step.{short, Step, Moved, silent, labelled, refusal, Result, settled, local, inner, meet, meetParticles, meetTerm, tagsFit, without, withContents, withParticles, step, known}
-use Rattle.model.specs.Process.{Mark, part, siteOf, valOf, patOf, codeOf, envOf, tagOut, confOf, newOf, knownOf}
+use Rattle.model.specs.Process.{Mark, part, siteOf, valOf, patOf, codeOf, envOf, tagOut, confOf, newOf}
 use Rattle.model.specs.Agreement.{long, plainly, Says, says-tau, Met, Over, meet-full, Excused, by-16, by-17, answerSide, stays, partsOf}
 use Rattle.calculus.proofs.Trees.{Reach}
 use Rattle.calculus.proofs.NamedProcesses.{inst-defined}
@@ -50,6 +50,7 @@ use Rattle.model.proofs.Complete.DefinedBack.{env-back, sound-fits}
 use Rattle.model.proofs.Complete.LongOutputs.{Lengths, env-lengths, short-unless-long}
 use Rattle.model.proofs.Complete.Completing.{Answers}
 use Rattle.model.proofs.Complete.SilentTargets.{silent-leads}
+use Rattle.model.proofs.Processes.KnownNames.{knownAll}
 
 -- complementary tags fit
 pub comp-fit : (ρ : Env) (τ : ℕ) (g : STag) → comp (tagOut (tagOf ρ τ)) ≡ tagOut g → tagsFit g (tagOf ρ τ) ≡ true
@@ -223,10 +224,10 @@ module _ (b : Composition) (s : State) (e : ready b s ≡ true) (vw : View b s) 
             (subst (λ (c : Core). (33 + 2 ≤ length (c .contents .particles) + stays (node .again) + particlesIn (node .body)) ⊎
             ((17 ≤ length (c .contents .boxes) + boxesIn (node .body)) ⊎ (257 ≤ c .contents .minted + newNamesIn (node .body)))) (sym (ac .core-is)) h)
 
-    module _ (R : Proc Mark []) (vv : RestrictInv (newOf b s) (knownOf s) (fill (confOf b s .boxes) (at (confOf b s .items))) R tau (joint (part (vw .c .side) i) (part (vw .c .side) j)))
+    module _ (R : Proc Mark []) (vv : RestrictInv (newOf b s) (knownAll s) (fill (confOf b s .boxes) (at (confOf b s .items))) R tau (joint (part (vw .c .side) i) (part (vw .c .side) j)))
         (J : List (Item Mark)) (nx : fill (confOf b s .boxes) (at J) ≋ vv .next)
         (bag : Bag (ritems forget J) (item (siteOf (vw .c .side) β) (proc [] tt (codeOf (node .body)) (envOf ρ')) ∷ target (wrapperOf b) (vw .c .side) (vw .c .table) (vw .C) (vw .D) (vw .core) (vw .core .lobby) p0)) where
-      met-here : every short (u .particles) ≡ true → limits k ≡ true → Met b s tau R (meet-step (vw .c .side) i j)
+      met-here : every short (u .particles) ≡ true → limits k ≡ true → Met (knownAll s) b s tau R (meet-step (vw .c .side) i j)
       unfolding limits
       met-here sh li = record {
         names = rename-of vv;
@@ -246,12 +247,12 @@ module _ (b : Composition) (s : State) (e : ready b s ≡ true) (vw : View b s) 
       refused c q = ac .is-refused (meet-step (vw .c .side) i j) c refl (ap settled meets-so ∙ q)
 
       -- the answer, by the two tests
-      pub answered : Met b s tau R (meet-step (vw .c .side) i j) ⊎ ((c : ℕ) × (step b s (meet-step (vw .c .side) i j) .answer ≡ refusal c (vw .c .side)) × Excused b s (meet-step (vw .c .side) i j) tau c)
+      pub answered : Met (knownAll s) b s tau R (meet-step (vw .c .side) i j) ⊎ ((c : ℕ) × (step b s (meet-step (vw .c .side) i j) .answer ≡ refusal c (vw .c .side)) × Excused b s (meet-step (vw .c .side) i j) tau c)
       unfolding settled bind need
       answered = go (every short (u .particles)) refl (limits k) refl
         where
           go : (x : Bool) → every short (u .particles) ≡ x → (y : Bool) → limits k ≡ y →
-              Met b s tau R (meet-step (vw .c .side) i j) ⊎ ((c : ℕ) × (step b s (meet-step (vw .c .side) i j) .answer ≡ refusal c (vw .c .side)) × Excused b s (meet-step (vw .c .side) i j) tau c)
+              Met (knownAll s) b s tau R (meet-step (vw .c .side) i j) ⊎ ((c : ℕ) × (step b s (meet-step (vw .c .side) i j) .answer ≡ refusal c (vw .c .side)) × Excused b s (meet-step (vw .c .side) i j) tau c)
           go true p true q = inl (met-here p q)
           go true p false q = inr (17, refused 17 (ap₂ (λ (x y : Bool). need x 16 (need y 17 (done m))) p q), by-17 (too-many q))
           go false p y q = inr (16, refused 16 (ap (λ (x : Bool). need x 16 (need (limits k) 17 (done m))) p), too-long p)

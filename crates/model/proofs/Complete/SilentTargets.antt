@@ -12,7 +12,7 @@ use Rattle.calculus.specs.Tree.{process}
 use Rattle.model.specs.Side.{State}
 use Rattle.model.specs.Load.{Composition}
 use Rattle.model.specs.WellFormed.{ready}
-use Rattle.model.specs.Process.{Mark, confOf, newOf, knownOf}
+use Rattle.model.specs.Process.{Mark, confOf, newOf}
 use Rattle.model.specs.Agreement.{plainly}
 use Rattle.calculus.proofs.Extrusion.{in-news}
 use Rattle.calculus.proofs.Marks.{remark-cong}
@@ -21,6 +21,7 @@ use Rattle.calculus.proofs.Bags.{at, Bag, bag-fill, ritems, rplaces}
 use Rattle.model.proofs.Sound.ItemMoves.{forget}
 use Rattle.model.proofs.Sound.MeetTargets.{plain-items, plain-process}
 use Rattle.model.proofs.Complete.StateInversion.{target-of}
+use Rattle.model.proofs.Processes.KnownNames.{knownAll}
 
 module _ (b : Composition) (s : State) (e : ready b s ≡ true) where
   minus-nil : (N : List ℕ) → minus N [] ≡ N
@@ -28,7 +29,7 @@ module _ (b : Composition) (s : State) (e : ready b s ≡ true) where
   minus-nil (x ∷ N) = ap (λ (r : List ℕ). x ∷ r) (minus-nil N)
 
   -- a silent move among the items leads, renamed, where its items lead
-  pub silent-leads : {w : Participants Mark} {R : Proc Mark []} (v : RestrictInv (newOf b s) (knownOf s) (fill (confOf b s .boxes) (at (confOf b s .items))) R tau w) (J : List (Item Mark)) → fill (confOf b s .boxes) (at J) ≋ v .next
+  pub silent-leads : {w : Participants Mark} {R : Proc Mark []} (v : RestrictInv (newOf b s) (knownAll s) (fill (confOf b s .boxes) (at (confOf b s .items))) R tau w) (J : List (Item Mark)) → fill (confOf b s .boxes) (at J) ≋ v .next
       → (Z : List (Item (Unit {0}))) → Bag (ritems forget J) Z → (s' : State)
       → restrict (newOf b s) (fill (rplaces forget (confOf b s .boxes)) (at Z)) ≋ restrict (newOf b s') (fill (rplaces forget (confOf b s' .boxes)) (at (ritems forget (confOf b s' .items))))
       → plainly (ren {r = []} R (v .perm .to)) ≋ plainly (process (confOf b s'))

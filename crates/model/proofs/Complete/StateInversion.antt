@@ -21,7 +21,7 @@ use Rattle.model.specs.Wrapper.{Wrapper, hasSide}
 use Rattle.model.specs.Side.{State, side, Message, down, arrived, leaving, Status as SPlace}
 use Rattle.model.specs.Load.{Composition, wrapperOf, table}
 use Rattle.model.specs.WellFormed.{counts, wfParticle, ready}
-use Rattle.model.specs.Process.{Mark, numbered, bySide, isGone, partItem, msgProc, msgItem, shelfItem, shelfItems, sideItems, enters, passes, takes, forwarders, confAs, confOf, newOf, knownOf}
+use Rattle.model.specs.Process.{Mark, numbered, bySide, isGone, partItem, msgProc, msgItem, shelfItem, shelfItems, sideItems, enters, passes, takes, forwarders, confAs, confOf, newOf}
 use Rattle.model.specs.Agreement.{Rename, plainly}
 use Rattle.calculus.proofs.Renaming.{ren-ren, ren-id}
 use Rattle.calculus.proofs.Extrusion.{cong-ren, in-news}
@@ -34,7 +34,7 @@ use Rattle.calculus.proofs.TreeMoves.{Atom, Move, term-moves}
 use Rattle.calculus.proofs.Bags.{item, at, Bag, ritems}
 use Rattle.model.proofs.Basics.Tests.{fst, snd, some-inj, or-right, no-some}
 use Rattle.model.proofs.Formed.Invariant.{side-ok}
-use Rattle.model.proofs.Processes.KnownNames.{All, held-in, low-in}
+use Rattle.model.proofs.Processes.KnownNames.{knownAll, All, held-in, low-in}
 use Rattle.model.proofs.Processes.ItemFacts.{each-at, part-atom}
 use Rattle.model.proofs.Processes.StateTree.{checked-of, items-each}
 use Rattle.model.proofs.Sound.ItemMoves.{ids, forget}
@@ -165,14 +165,14 @@ module _ (b : Composition) (s : State) (e : ready b s ≡ true) where
   unfolding process confAs
   process-is = refl
 
-  pub transitions : {l : Label} {w : Participants Mark} (R : Proc Mark []) → Trans (knownOf s) (process (confOf b s)) l w R
-      → (v : RestrictInv (newOf b s) (knownOf s) (fill (confOf b s .boxes) (λ k. parallel (sel k))) R l w) × Move (All b s) (confOf b s .boxes) sel (wf-all b s e)
+  pub transitions : {l : Label} {w : Participants Mark} (R : Proc Mark []) → Trans (knownAll s) (process (confOf b s)) l w R
+      → (v : RestrictInv (newOf b s) (knownAll s) (fill (confOf b s .boxes) (λ k. parallel (sel k))) R l w) × Move (All b s) (confOf b s .boxes) sel (wf-all b s e)
       (atoms-at (confOf b s .items) (items-atoms ids b s e)) fn-sel (v .next) (lren l (v .perm .to)) w
-  transitions {l} {w} R d = term-moves (newOf b s) (knownOf s) (confOf b s .boxes) sel (wf-all b s e) (atoms-at (confOf b s .items) (items-atoms ids b s e)) fn-sel R (good-all b s e)
-      (subst (λ (P : Proc Mark []). Trans (knownOf s) P l w R) process-is d)
+  transitions {l} {w} R d = term-moves (newOf b s) (knownAll s) (confOf b s .boxes) sel (wf-all b s e) (atoms-at (confOf b s .items) (items-atoms ids b s e)) fn-sel R (good-all b s e)
+      (subst (λ (P : Proc Mark []). Trans (knownAll s) P l w R) process-is d)
 
   -- a move that keeps the new names leads, renamed, to the state with its items
-  pub kept-target : {l : Label} {w : Participants Mark} {R : Proc Mark []} (v : RestrictInv (newOf b s) (knownOf s) (fill (confOf b s .boxes) (λ k. parallel (sel k))) R l w) → minus (newOf b s) (lnames (lren l (v .perm .to))) ≡ newOf b s
+  pub kept-target : {l : Label} {w : Participants Mark} {R : Proc Mark []} (v : RestrictInv (newOf b s) (knownAll s) (fill (confOf b s .boxes) (λ k. parallel (sel k))) R l w) → minus (newOf b s) (lnames (lren l (v .perm .to))) ≡ newOf b s
       → (J : List (Item Mark)) → fill (confOf b s .boxes) (at J) ≋ v .next → (s' : State) → newOf b s' ≡ newOf b s → confOf b s' .boxes ≡ confOf b s .boxes →
       Bag (ritems forget J) (ritems forget (confOf b s' .items)) → plainly (ren {r = []} R (v .perm .to)) ≋ plainly (process (confOf b s'))
   kept-target {l} {w} {R} v em J n s' en eb h =
@@ -186,6 +186,6 @@ module _ (b : Composition) (s : State) (e : ready b s ≡ true) where
   minus-nil (x ∷ N) = ap (λ (r : List ℕ). x ∷ r) (minus-nil N)
 
   -- a silent one does
-  pub silent-target : {w : Participants Mark} {R : Proc Mark []} (v : RestrictInv (newOf b s) (knownOf s) (fill (confOf b s .boxes) (λ k. parallel (sel k))) R tau w) (J : List (Item Mark)) → fill (confOf b s .boxes) (at J) ≋ v .next
+  pub silent-target : {w : Participants Mark} {R : Proc Mark []} (v : RestrictInv (newOf b s) (knownAll s) (fill (confOf b s .boxes) (λ k. parallel (sel k))) R tau w) (J : List (Item Mark)) → fill (confOf b s .boxes) (at J) ≋ v .next
       → (s' : State) → newOf b s' ≡ newOf b s → confOf b s' .boxes ≡ confOf b s .boxes → Bag (ritems forget J) (ritems forget (confOf b s' .items)) → plainly (ren {r = []} R (v .perm .to)) ≋ plainly (process (confOf b s'))
   silent-target v J n s' en eb h = kept-target v (minus-nil (newOf b s)) J n s' en eb h

@@ -27,7 +27,7 @@ use Rattle.model.proofs.Sound.BoxOrder.{Away}
 use Rattle.model.proofs.Sound.ParticlePairs.{PairAt, two-out, one-first, one-second}
 use Rattle.model.proofs.Complete.StateInversion.{item-at}
 use Rattle.model.proofs.Complete.ItemPlaces.{Part, part-of, in-first, in-second, numbered-at}
-use Rattle.model.proofs.Basics.Tests.{nothing, some-inj, head-eq, tail-eq}
+use Rattle.model.proofs.Basics.Tests.{no-some, some-inj, head-eq, tail-eq}
 
 -- two places set, in either order
 pub set-swap : {A : Type 0} (l : List A) (i j : ℕ) (x y : A) → (i ≡ j → ⊥) → set (set l i x) j y ≡ set (set l j y) i x
@@ -46,7 +46,7 @@ pub record TwoAt {M : Type 0} (I : List (Item M)) (k i j : ℕ) (P Q : Proc M []
   pub put : (P' Q' : Proc M []) → set (set (select I k) i P') j Q' ≡ select (X ++ item k P' ∷ (Y ++ item k Q' ∷ Z)) k
 
 pub two-at : {M : Type 0} (I : List (Item M)) (k i j : ℕ) (P Q : Proc M []) → i < j → getElem? (select I k) i ≡ some P → getElem? (select I k) j ≡ some Q → TwoAt I k i j P Q
-two-at [] k i j P Q lt e e' = absurd (nothing e)
+two-at [] k i j P Q lt e e' = absurd (no-some e)
 two-at {M} (x ∷ I) k i j P Q lt e e' = go (eqb k (x .site)) refl i j lt e e' (λ i j lt e e'. two-at I k i j P Q lt e e')
   where
     L : List (Proc M [])

@@ -16,6 +16,7 @@ use Rattle.model.specs.Wrapper.{shelves}
 use Rattle.model.specs.Load.{Setting}
 use Rattle.model.specs.WellFormed.{Counts, countOf, held, heldWord, wfValue, wfTag, wfParticle, wfBoxes, wfMessage, wfLeft, wfContents, wfCore}
 use Rattle.model.proofs.Basics.Tests.{fst, snd, both, alt, alt-left, alt-right, every-mono}
+use Rattle.model.proofs.Basics.Names.{Held, is-public, is-outside, is-minted, held-cases, held-of}
 
 abbrev pub Le : Counts → Counts → Type 0
 Le k k′ = (n : ℕ) → countOf k n ≤ countOf k′ n
@@ -25,8 +26,12 @@ less a b c e h = lt-ltb a c (omega (arith, ltb-true a b e))
 
 module _ (k k′ : Counts) (h : Le k k′) where
   pub held-mono : (w : ℕ) → held k w ≡ true → held k′ w ≡ true
-  unfolding held
-  held-mono w e = ⊎-elim (λ p. alt-left _ _ p) (λ p. alt-right _ _ (both _ _ (fst _ _ p) (less (serial w) (countOf k (sideOf w)) (countOf k′ (sideOf w)) (snd _ _ p) (h (sideOf w))))) (alt _ _ e)
+  held-mono w e = go (held-cases k w e)
+    where
+      go : Held k w → held k′ w ≡ true
+      go (is-public p) = held-of k′ w (is-public p)
+      go (is-outside p) = held-of k′ w (is-outside p)
+      go (is-minted p) = held-of k′ w (is-minted (both _ _ (fst _ _ p) (less (serial w) (countOf k (sideOf w)) (countOf k′ (sideOf w)) (snd _ _ p) (h (sideOf w)))))
 
   pub heldWord-mono : (w : ℕ) → heldWord k w ≡ true → heldWord k′ w ≡ true
   unfolding heldWord

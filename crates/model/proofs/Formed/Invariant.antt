@@ -6,8 +6,8 @@ use mathlib.Core.Logic.{_⊎_, inl, inr, ⊎-elim}
 use Prim.Native.Nat.{ℕ, zero, suc, _+_, _/_, _%_, _<_, _≤_}
 use native.Mathlib.Nat.{add-zero}
 use native.Mathlib.Omega.{arith}
-use borrow.Author.Tests.{leb-true, eqb-true, eq-eqb, le-leb, lt-ltb, ltb-true}
-use lib.Dec.{leb, ltb, eqb}
+use borrow.Author.Tests.{leb-true, eqb-true, le-leb, lt-ltb, ltb-true}
+use lib.Dec.{ltb, eqb}
 use lib.ListN.{length, getD, set, length-set}
 use Rattle.model.specs.Basics.{_&_, choose, need, Res, refuse, done, bind, every, oneOf, has}
 use Rattle.model.specs.Values.{isMinted, isValue, sideOf, serial}
@@ -18,7 +18,8 @@ use Rattle.model.specs.Wrapper.{Route, allSides, filter, pipeline, loggi
 use Rattle.model.specs.Load.{Setting, Composition, setting, wrapperOf, table, load, isOk, ok, loadSides, sideFault, lackFault, start, startOf}
 use Rattle.model.specs.WellFormed.{Counts, countOf, held, heldWord, wfValue, wfParticle, wfLeft, wfSide, wfSideOf, isNoSide, wfTaken, wfState, clear, counts, shelfOf, ready}
 use Rattle.model.specs.Step.{short, Step, Label, silent, enters, leaves, logs, Moved, local, routeTo, takes, inner, marks, marked, markAll, mark1, markOf, known, step, settled, sideAfter}
-use Rattle.model.proofs.Basics.Tests.{or-cases, or-right, fst, snd, both, alt, alt-right, every-mono, has-every, every-has, need-done, choose-done, bind-done, pick-done, cond-true}
+use Rattle.model.proofs.Basics.Tests.{or-cases, or-right, fst, snd, both, alt, every-mono, has-every, every-has, need-done, choose-done, bind-done, pick-done, cond-true}
+use Rattle.model.proofs.Basics.Names.{minted-range, is-minted, held-of, held-below}
 use Rattle.model.proofs.Basics.Sides.{described-by, put-same, put-self, put-size, put-each}
 use Rattle.model.proofs.Formed.Growing.{less, Le, CoreOk, core-ok, core-wf, core-mono, wfLeft-mono}
 use Rattle.model.proofs.Formed.Keeping.{isLog, Spoken, spoken-held, Kept, done-inj, enter-keeps, down-keeps, up-keeps, descend-keeps, pass-keeps, leave-keeps, takes-keeps}
@@ -147,23 +148,16 @@ held-place k w e = ⊎-elim
     same p q = ap₂ (λ (x y : ℕ). ltb x (countOf k y)) p q
 
 marked-held : (k : Counts) (l : List Bool) → wfLeft k 0 l ≡ true → (w : ℕ) → marked l w ≡ true → isMinted w ≡ true → held k w ≡ true
-unfolding held
-marked-held k l h w e m = alt-right _ _ (both _ _ m (sym (held-place k w m) ∙ left-get k l 0 (markOf w) h e))
+marked-held k l h w e m = held-of k w (is-minted (both _ _ m (sym (held-place k w m) ∙ left-get k l 0 (markOf w) h e)))
 
 mark1-wf : (k : Counts) (l : List Bool) (w : ℕ) → heldWord k w ≡ true → wfLeft k 0 l ≡ true → wfLeft k 0 (mark1 l w) ≡ true
-unfolding mark1 heldWord held
+unfolding mark1 heldWord
 mark1-wf k l w h e = go (isMinted w) refl
   where
     go : (b : Bool) → isMinted w ≡ b → wfLeft k 0 (mark1 l w) ≡ true
     go false m = rw m e
     go true m = rw m (left-set k l 0 (markOf w) e (held-place k w m ∙
-        ⊎-elim (λ p. absurd (not-big w m (leb-true 4000000 w p))) (λ p. ⊎-elim (λ q. absurd (not-public w m (leb-true w 63 q))) (λ q. snd _ _ q) (alt _ _ p)) (alt _ _ h)))
-      where
-        not-big : (w : ℕ) → isMinted w ≡ true → 4000000 ≤ w → ⊥
-        not-big w m a = ⊎-elim (λ p. let b = leb-true w 65791 (snd _ _ p) in omega arith) (λ p. let b = leb-true w 131327 (snd _ _ p) in omega arith) (alt (leb 65536 w & leb w 65791) (leb 131072 w & leb w 131327) m)
-
-        not-public : (w : ℕ) → isMinted w ≡ true → w ≤ 63 → ⊥
-        not-public w m a = ⊎-elim (λ p. let b = leb-true 65536 w (fst _ _ p) in omega arith) (λ p. let b = leb-true 131072 w (fst _ _ p) in omega arith) (alt (leb 65536 w & leb w 65791) (leb 131072 w & leb w 131327) m)
+        ⊎-elim (λ p. let a = leb-true 4000000 w p in absurd (omega (arith, minted-range w m .1))) (λ p. snd _ _ (held-below k w m p)) (alt _ _ h)))
 
 pub mark1-size : (l : List Bool) (w : ℕ) → length (mark1 l w) ≡ length l
 unfolding mark1

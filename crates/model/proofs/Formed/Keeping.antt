@@ -17,6 +17,7 @@ use Rattle.model.specs.Load.{Setting}
 use Rattle.model.specs.WellFormed.{Counts, held, heldWord, wfValue, wfTag, wfParticle, wfBoxes, wfMessage}
 use Rattle.model.specs.Step.{Label, silent, enters, leaves, logs, Moved, isLeaving, copied, leavingOn, withContents, withLobby, withParticles, enter, goDown, upFrom, upParticle, up, descendParticle, descend, pass, leave, takes}
 use Rattle.model.proofs.Basics.Tests.{fst, snd, both, alt, alt-left, alt-right, every-two, every-has, every-append, every-one, every-remove, every-set, length-remove, need-done, choose-done, pick-done}
+use Rattle.model.proofs.Basics.Names.{is-public, is-outside, held-of}
 use Rattle.model.proofs.Formed.Growing.{ContentsOk, wfIn, CoreOk}
 
 -- copies leave on `log` alone
@@ -156,7 +157,8 @@ module _ (c : Setting) (k : Counts) (s : Core) (o : CoreOk c k s) where
       let b = need-done _ _ _ _ (a .1) in
       let word : (w : ℕ) → isName w or isTuple w ≡ true → not (isMinted w) or known w ≡ true → heldWord k w ≡ true =
       λ w p q. ⊎-elim
-      (λ n. alt-right _ _ (⊎-elim (λ pu. alt-left _ _ pu) (λ mi. ⊎-elim (λ z. absurd (false≢true (rw mi at z))) (λ y. kn w y mi) (alt _ _ q)) (alt _ _ n)))
+      (λ n. alt-right _ _ (⊎-elim (λ pu. held-of k w (is-public pu))
+      (λ r. ⊎-elim (λ mi. ⊎-elim (λ z. absurd (false≢true (rw mi at z))) (λ y. kn w y mi) (alt _ _ q)) (λ ou. held-of k w (is-outside ou)) (alt _ _ r)) (alt _ _ n)))
       (λ t. alt-left _ _ (fst _ _ t)) (alt _ _ p) in
       let val : wfValue k ws ≡ true = both _ _ (a .0) (every-two _ _ _ word ws (shaped-words ws (snd _ _ (a .0))) (b .0)) in
       let down-wf = every-one (wfIn c k) (record { status = down; chan = 0; val = ws }) (both _ _ val (both _ _ (alt-left _ _ refl) (alt-left _ _ refl))) in

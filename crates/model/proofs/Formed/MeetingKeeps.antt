@@ -18,6 +18,7 @@ use Rattle.model.specs.Load.{Setting}
 use Rattle.model.specs.WellFormed.{Counts, countOf, held, wfValue, wfParticle, envAt}
 use Rattle.model.specs.Step.{short, Moved, without, withParticles, withContents, silently, meet, meetParticles, meetTerm}
 use Rattle.model.proofs.Basics.Tests.{or-cases, fst, snd, both, alt-left, alt-right, every-append, every-mono, every-two, every-remove, need-done, bind-done, pick-done}
+use Rattle.model.proofs.Basics.Names.{is-minted, held-of}
 use Rattle.model.proofs.Formed.Growing.{Le, CoreOk, wfPart-mono, wfVal-mono, wfBoxes-mono, core-mono}
 use Rattle.model.proofs.Formed.Keeping.{Spoken, done-inj, roomy-of}
 use Rattle.model.proofs.Basics.Items.{clash, shaped-items, matches-wf}
@@ -56,10 +57,9 @@ minted-number n j h l = ⊎-elim (λ q. of-side-1 (eqb-true n 1 q)) (λ p. ⊎-e
 
 -- the names that a side mints next are held once it has minted them
 pub fresh-held : (c : Setting) (k : Counts) → has (c .side) allSides ≡ true → (N : ℕ) → mine c k ≡ N → N ≤ 256 → (j : ℕ) → j < N → (held k (65536 * c .side + j) ≡ true) × (65536 * c .side + j < 4000000)
-unfolding held
 fresh-held c k e N m l j h =
     let r = minted-number (c .side) j e (omega arith) in
-    (alt-right _ _ (both _ _ (r .0) (rw (r .1, r .2) (lt-ltb j (countOf k (c .side)) (omega (arith, m))))), r .3)
+    (held-of k (65536 * c .side + j) (is-minted (both _ _ (r .0) (rw (r .1, r .2) (lt-ltb j (countOf k (c .side)) (omega (arith, m)))))), r .3)
 
 record Body (t : Table) (σ p : List ℕ) (a : Term) : Type 0 where
   pat : items isPatternLeaf 5 p 1 ≡ done []

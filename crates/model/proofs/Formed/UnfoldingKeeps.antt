@@ -16,9 +16,10 @@ use Rattle.model.specs.Unfolding.{tagOf, addParticle, addBox, mint, unfo
 use Rattle.model.specs.WellFormed.{Counts, held, heldWord, wfValue, wfTag, wfParticle, wfBoxes}
 use Rattle.model.specs.Step.{short}
 use Rattle.model.proofs.Basics.Tests.{fst, snd, both, alt-right, every-append, every-one, every-mono}
+use Rattle.model.proofs.Basics.Names.{held-name}
 use Rattle.model.proofs.Formed.Growing.{less}
 use Rattle.model.proofs.Basics.Items.{items-shaped}
-use Rattle.model.proofs.Basics.Environments.{name-wf, held-name, word-held, tag-held, subst-ok, fits-fresh}
+use Rattle.model.proofs.Basics.Environments.{name-wf, word-held, tag-held, subst-ok, fits-fresh}
 use Rattle.model.proofs.Basics.Checked.{Sits, s-nil, s-par, s-box, s-new, s-out, s-inp}
 
 -- `wfPart` but for a value's length, which 16 checks

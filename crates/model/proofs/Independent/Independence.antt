@@ -115,7 +115,7 @@ unfolding step _&_
 step-lacks b s x e h = rw (e, h, step)
 
 -- MARKS
-minted-place : (w : ℕ) → isMinted w ≡ true → markOf w < 512
+pub minted-place : (w : ℕ) → isMinted w ≡ true → markOf w < 512
 minted-place w e = ⊎-elim
     (λ p. omega (arith, leb-true 65536 w (fst _ _ p), leb-true w 65791 (snd _ _ p)))
     (λ p. omega (arith, leb-true 131072 w (fst _ _ p), leb-true w 131327 (snd _ _ p)))

@@ -19,7 +19,7 @@ use Rattle.model.specs.Table.{Table, Term, inp, term, count, kind, scope
 use Rattle.model.specs.Side.{Particle, output, input, Message, down, arrived, leaving, Status as SPlace, Tag as STag, within, toParent, fromParent, toChild, fromChild}
 use Rattle.model.specs.WellFormed.{Counts, held, wfValue, wfTag, wfParticle, wfMessage, envAt}
 use Rattle.model.specs.Wrapper.{Wrapper}
-use Rattle.model.specs.Process.{Mark, part, ownName, leavesAs, valOf, headV, codeOf, envOf, tagOut, numbered, partItem, msgProc, msgItem, shelfItem, shelfItems}
+use Rattle.model.specs.Process.{Mark, part, ownName, valOf, headV, codeOf, envOf, tagOut, numbered, partItem, msgProc, msgItem, shelfItem, shelfItems}
 use Rattle.calculus.proofs.Bags.{at}
 use Rattle.calculus.proofs.Unfolding.{proc-all}
 use Rattle.calculus.proofs.Parallels.{beyond-none, each-names}

@@ -2,14 +2,14 @@
 use mathlib.Core.Path.{_≡_, refl, sym, ap, _∙_, subst}
 use mathlib.Core.Bool.{Bool, true, false, not, cond, false≢true}
 use mathlib.Core.List.{List, [], _∷_, _++_, map}
-use mathlib.Core.Logic.{_⊎_, inl, inr, ⊎-elim}
-use Prim.Native.Nat.{ℕ, zero, suc, _<_, _≤_}
+use mathlib.Core.Logic.{_⊎_, ⊎-elim}
+use Prim.Native.Nat.{ℕ, zero, suc, _+_, _-_, _<_, _≤_}
 use native.Mathlib.Omega.{arith}
-use borrow.Author.Tests.{leb-true, ltb-true, eqb-true, eqb-false, eq-eqb}
+use borrow.Author.Tests.{leb-true, ltb-true, eqb-true, eqb-false, eq-eqb, le-leb}
 use lib.Dec.{ltb, eqb, T, eqb-refl}
 use Rattle.calculus.specs.Transitions.{mem, In, Out∉}
-use Rattle.model.specs.Basics.{_&_, _or_, has}
-use Rattle.model.specs.Values.{isMinted, serial, sideOf as mintSide}
+use Rattle.model.specs.Basics.{_&_, _or_, every, has}
+use Rattle.model.specs.Values.{isMinted, isOutside, serial, sideOf as mintSide}
 use Rattle.model.specs.Side.{State, side}
 use Rattle.model.specs.Wrapper.{allSides, described, hasSide}
 use Rattle.model.specs.Load.{Composition, wrapperOf}
@@ -18,10 +18,14 @@ use Rattle.model.specs.Step.{known}
 use Rattle.model.specs.Process.{upto, mintOf, keep, bySide, mintedOf, ownName, NamesDistinct, newOf, knownOf}
 use Rattle.calculus.proofs.Restriction.{Good}
 use Rattle.calculus.proofs.Restriction.{known as allOf}
+use Rattle.calculus.proofs.Members.{SameMembers}
+use Rattle.calculus.proofs.KnownNames.{bool-same}
 use Rattle.calculus.proofs.FreeNames.{mem-cases, mem-left, mem-right, or-cases, or-left, or-right}
 use Rattle.model.proofs.Basics.Sides.{described-by}
-use Rattle.model.proofs.Basics.Tests.{fst, snd, alt, or-cases as bool-cases, or-right as bool-right, or-first}
+use Rattle.model.proofs.Basics.Tests.{fst, snd, both, alt, or-cases as bool-cases, or-right as bool-right, or-first}
+use Rattle.model.proofs.Basics.Names.{minted-range, outside-range, minted-not-outside, Held, is-public, is-outside, is-minted, held-cases}
 use Rattle.model.proofs.Formed.Invariant.{which, positive, count-is}
+use Rattle.model.proofs.Formed.MeetingKeeps.{minted-number}
 
 -- f i is among f 0 .. f (n - 1)
 pub in-upto : (n i : ℕ) (f : ℕ → ℕ) → i < n → T (mem (f i) (upto n f))
@@ -51,6 +55,11 @@ T-eqb x y h = eqb-true x y (go (eqb x y) h)
     go : (b : Bool) → T b → b ≡ true
     go true t = refl
     go false t = absurd t
+
+-- a member passes a test that every one passes
+pub every-mem : (f : ℕ → Bool) (ws : List ℕ) (x : ℕ) → every f ws ≡ true → T (mem x ws) → f x ≡ true
+every-mem f [] x h m = absurd m
+every-mem f (w ∷ ws) x h m = ⊎-elim (λ a. subst (λ (z : ℕ). f z ≡ true) (sym (T-eqb x w a)) (fst _ _ h)) (λ a. every-mem f ws x (snd _ _ h) a) (or-cases (eqb x w) (mem x ws) m)
 
 -- members of what is kept
 pub keep-in : (f : ℕ → Bool) (l : List ℕ) (x : ℕ) → T (mem x l) → f x ≡ true → T (mem x (keep f l))
@@ -158,30 +167,92 @@ apart-map f (k ∷ ns) d h = (λ q. let r = map-out f ns (f k) q in d .0 (subst 
 pub sides-distinct : (w : ℕ) → Distinct (described w .sides)
 sides-distinct = described-by (λ d. Distinct (d .sides)) (false≢true, tt) (false≢true, (false≢true, tt)) (false≢true, tt) tt
 
+-- all the names that the environment may bring
+abbrev pub outsideNames : List ℕ
+outsideNames = upto 256 (λ i. 196608 + i)
+
+pub outside-in : (w : ℕ) → isOutside w ≡ true → T (mem w outsideNames)
+outside-in w e =
+    let r = outside-range w e in
+    let q : 196608 + (w - 196608) ≡ w = omega (arith, r .0) in
+    subst (λ (z : ℕ). T (mem z outsideNames)) q (in-upto 256 (w - 196608) (λ i. 196608 + i) (omega (arith, r .0, r .1)))
+
+pub in-outside : (w : ℕ) → T (mem w outsideNames) → isOutside w ≡ true
+in-outside w h =
+    let r = upto-out 256 (λ i. 196608 + i) w h in
+    both _ _ (le-leb 196608 w (omega (arith, r .1, r .2))) (le-leb w 196863 (omega (arith, r .1, r .2)))
+
+-- the names known outside where the environment has brought them all
+abbrev pub knownAll : State → List ℕ
+knownAll s = knownOf outsideNames s
+
+-- where a known name is from
+pub data KnownBy (X : List ℕ) (s : State) (w : ℕ) : Type 0 where
+  is-low : w < 81 → KnownBy X s w
+  is-brought : T (mem w X) → KnownBy X s w
+  has-left : T (mem w (mintedOf s)) → known s w ≡ true → KnownBy X s w
+
+pub known-by : (X : List ℕ) (s : State) (w : ℕ) → In (knownOf X s) w → KnownBy X s w
+unfolding knownOf
+known-by X s w h = ⊎-elim (λ a. let r = upto-out 81 (λ i. i) w a in is-low (omega (arith, r .1, r .2)))
+    (λ a. ⊎-elim (λ c. is-brought c) (λ c. let r = keep-out (known s) (mintedOf s) w c in has-left (r .0) (r .1)) (mem-cases w X (keep (known s) (mintedOf s)) a))
+    (mem-cases w (upto 81 (λ i. i)) (X ++ keep (known s) (mintedOf s)) h)
+
+pub by-known : (X : List ℕ) (s : State) (w : ℕ) → KnownBy X s w → In (knownOf X s) w
+unfolding knownOf
+by-known X s w (is-low l) = mem-left w (upto 81 (λ i. i)) (X ++ keep (known s) (mintedOf s)) (in-upto 81 w (λ i. i) l)
+by-known X s w (is-brought h) = mem-right w (upto 81 (λ i. i)) (X ++ keep (known s) (mintedOf s)) (mem-left w X (keep (known s) (mintedOf s)) h)
+by-known X s w (has-left h e) = mem-right w (upto 81 (λ i. i)) (X ++ keep (known s) (mintedOf s)) (mem-right w X (keep (known s) (mintedOf s)) (keep-in (known s) (mintedOf s) w h e))
+
+-- whichever the environment has brought, they are among all of them
+pub known-fewer : (X : List ℕ) (s : State) → every isOutside X ≡ true → (z : ℕ) → In (knownOf X s) z → In (knownAll s) z
+known-fewer X s h z i = go (known-by X s z i)
+  where
+    go : KnownBy X s z → In (knownOf outsideNames s) z
+    go (is-low l) = by-known outsideNames s z (is-low l)
+    go (is-brought k) = by-known outsideNames s z (is-brought (outside-in z (every-mem isOutside X z h k)))
+    go (has-left k e) = by-known outsideNames s z (has-left k e)
+
+-- and with all of them they are all that is known
+pub known-more : (X : List ℕ) (s : State) → every isOutside X ≡ true → SameMembers (outsideNames ++ knownOf X s) (knownAll s)
+known-more X s h z = bool-same (mem z (outsideNames ++ knownOf X s)) (mem z (knownAll s))
+    (λ i. ⊎-elim (λ k. by-known outsideNames s z (is-brought k)) (λ k. known-fewer X s h z k) (mem-cases z outsideNames (knownOf X s) i)) (λ i. go (known-by outsideNames s z i))
+  where
+    go : KnownBy outsideNames s z → T (mem z (outsideNames ++ knownOf X s))
+    go (is-low l) = mem-right z outsideNames (knownOf X s) (by-known X s z (is-low l))
+    go (is-brought k) = mem-left z outsideNames (knownOf X s) k
+    go (has-left k e) = mem-right z outsideNames (knownOf X s) (by-known X s z (has-left k e))
+
+-- what is minted is a minted number
+pub minted-is : (s : State) → ((n : ℕ) → side s n .core .contents .minted ≤ 256) → (x : ℕ) → T (mem x (mintedOf s)) → isMinted x ≡ true
+minted-is s few x h =
+    let r = by-out (λ n. upto (side s n .core .contents .minted) (mintOf n)) allSides x h in
+    let t = upto-out (side s (r .0) .core .contents .minted) (mintOf (r .0)) x (r .2) in
+    subst (λ (z : ℕ). isMinted z ≡ true) (sym (t .2)) (minted-number (r .0) (t .0) (r .1) (omega (arith, few (r .0), t .1)) .0)
+
 module _ (b : Composition) (s : State) where
   -- the names that the state's process may have
   abbrev pub All : List ℕ
-  All = allOf (newOf b s) (knownOf s)
+  All = allOf (newOf b s) (knownAll s)
 
   -- public names, and those towards the environment
-  pub low-known : (y : ℕ) → y < 81 → In (knownOf s) y
-  unfolding knownOf
-  low-known y h = mem-left y (upto 81 (λ i. i)) (keep (known s) (mintedOf s)) (in-upto 81 y (λ i. i) h)
+  pub low-known : (y : ℕ) → y < 81 → In (knownAll s) y
+  low-known y h = by-known outsideNames s y (is-low h)
 
   pub low-in : (y : ℕ) → y < 81 → In All y
-  low-in y h = in-old (newOf b s) (knownOf s) y (low-known y h)
+  low-in y h = in-old (newOf b s) (knownAll s) y (low-known y h)
 
   pub own-in : (n : ℕ) → hasSide (wrapperOf b) n ≡ true → In All (ownName n)
   unfolding newOf
-  own-in n h = in-new (newOf b s) (knownOf s) (ownName n) (mem-left (ownName n) (map ownName (wrapperOf b .sides)) (keep (λ x. not (known s x)) (mintedOf s)) (map-in ownName (wrapperOf b .sides) n h))
+  own-in n h = in-new (newOf b s) (knownAll s) (ownName n) (mem-left (ownName n) (map ownName (wrapperOf b .sides)) (keep (λ x. not (known s x)) (mintedOf s)) (map-in ownName (wrapperOf b .sides) n h))
 
   pub minted-in : (y : ℕ) → T (mem y (mintedOf s)) → In All y
-  unfolding newOf knownOf
+  unfolding newOf
   minted-in y h = go (known s y) refl
     where
-      go : (t : Bool) → known s y ≡ t → In (allOf (newOf b s) (knownOf s)) y
-      go true e = in-old (newOf b s) (knownOf s) y (mem-right y (upto 81 (λ i. i)) (keep (known s) (mintedOf s)) (keep-in (known s) (mintedOf s) y h e))
-      go false e = in-new (newOf b s) (knownOf s) y (mem-right y (map ownName (wrapperOf b .sides)) (keep (λ x. not (known s x)) (mintedOf s)) (keep-in (λ x. not (known s x)) (mintedOf s) y h (ap not e)))
+      go : (t : Bool) → known s y ≡ t → In (allOf (newOf b s) (knownAll s)) y
+      go true e = in-old (newOf b s) (knownAll s) y (by-known outsideNames s y (has-left h e))
+      go false e = in-new (newOf b s) (knownAll s) y (mem-right y (map ownName (wrapperOf b .sides)) (keep (λ x. not (known s x)) (mintedOf s)) (keep-in (λ x. not (known s x)) (mintedOf s) y h (ap not e)))
 
   -- a minted number is its side's with its serial
   pub held-minted : (w : ℕ) → isMinted w & ltb (serial w) (countOf (counts s) (mintSide w)) ≡ true → T (mem w (mintedOf s))
@@ -192,8 +263,12 @@ module _ (b : Composition) (s : State) where
 
   -- a name that is held is known outside or new
   pub held-in : (w : ℕ) → held (counts s) w ≡ true → In All w
-  unfolding held
-  held-in w e = ⊎-elim (λ p. let l = leb-true w 63 p in low-in w (omega arith)) (λ p. minted-in w (held-minted w p)) (alt _ _ e)
+  held-in w e = go (held-cases (counts s) w e)
+    where
+      go : Held (counts s) w → In (allOf (newOf b s) (knownAll s)) w
+      go (is-public p) = let l = leb-true w 63 p in low-in w (omega arith)
+      go (is-outside p) = in-old (newOf b s) (knownAll s) w (by-known outsideNames s w (is-brought (outside-in w p)))
+      go (is-minted p) = minted-in w (held-minted w p)
 
   pub minted-high : (w : ℕ) → T (mem w (mintedOf s)) → 65536 ≤ w
   minted-high w h =
@@ -207,28 +282,36 @@ module _ (b : Composition) (s : State) where
       let p = positive (r .0) (which (b .wrapper) (r .0) (r .1)) in
       (omega (arith, p .0, r .2), omega (arith, p .1, r .2))
 
-  pub known-where : (w : ℕ) → In (knownOf s) w → (w < 81) ⊎ (T (mem w (mintedOf s)) × (known s w ≡ true))
-  unfolding knownOf
-  known-where w h = ⊎-elim (λ a. let r = upto-out 81 (λ i. i) w a in inl (omega (arith, r .1, r .2))) (λ a. inr (keep-out (known s) (mintedOf s) w a)) (mem-cases w (upto 81 (λ i. i)) (keep (known s) (mintedOf s)) h)
-
   pub apart-minted : ((n : ℕ) → side s n .core .contents .minted ≤ 256) → Apart (mintedOf s)
   apart-minted few = apart-by (λ n. upto (side s n .core .contents .minted) (mintOf n)) allSides (false≢true, (false≢true, tt)) (λ n. apart-upto (side s n .core .contents .minted) (mintOf n) (λ i j e. omega arith))
       (λ n m x p q u v. let r = upto-out (side s n .core .contents .minted) (mintOf n) x u in let t = upto-out (side s m .core .contents .minted) (mintOf m) x v in omega (arith, few n, few m, r .1, r .2, t .1, t .2))
 
+  -- the wrapper's own names are not known outside
+  pub own-unknown : (w : ℕ) → T (mem w (map ownName (wrapperOf b .sides))) → KnownBy outsideNames s w → ⊥
+  own-unknown w o (is-low k) = omega (arith, own-low w o .0)
+  own-unknown w o (is-brought k) = omega (arith, own-low w o .1, outside-range w (in-outside w k) .0)
+  own-unknown w o (has-left k e) = omega (arith, own-low w o .1, minted-high w k)
+
   -- the new names are different, and not known outside
-  pub good : ((n : ℕ) → side s n .core .contents .minted ≤ 256) → Good (newOf b s) (knownOf s)
+  pub good : ((n : ℕ) → side s n .core .contents .minted ≤ 256) → Good (newOf b s) (knownAll s)
   unfolding newOf
-  good few = good-of (newOf b s) (knownOf s)
+  good few = good-of (newOf b s) (knownAll s)
       (apart-app (map ownName (wrapperOf b .sides)) (keep (λ x. not (known s x)) (mintedOf s)) (apart-map ownName (wrapperOf b .sides) (sides-distinct (b .wrapper)) (λ n m e. omega arith))
       (apart-keep (λ x. not (known s x)) (mintedOf s) (apart-minted few))
       (λ x p q. let h = minted-high x (keep-out (λ x. not (known s x)) (mintedOf s) x q .0) in omega (arith, own-low x p .1)))
-      (λ x p q. ⊎-elim
-      (λ a. ⊎-elim (λ k. omega (arith, own-low x a .0)) (λ m. let h = minted-high x (m .0) in omega (arith, own-low x a .1)) (known-where x q))
-      (λ a. let r = keep-out (λ x. not (known s x)) (mintedOf s) x a in let h = minted-high x (r .0) in
-      ⊎-elim (λ k. omega arith) (λ m. false≢true (ap not (sym (m .1)) ∙ r .1)) (known-where x q))
+      (λ x p q. ⊎-elim (λ a. own-unknown x a (known-by outsideNames s x q)) (λ a. let r = keep-out (λ x. not (known s x)) (mintedOf s) x a in new-unknown x (r .0) (r .1) (known-by outsideNames s x q))
       (mem-cases x (map ownName (wrapperOf b .sides)) (keep (λ x. not (known s x)) (mintedOf s)) p))
+    where
+      new-unknown : (x : ℕ) → T (mem x (mintedOf s)) → not (known s x) ≡ true → KnownBy outsideNames s x → ⊥
+      new-unknown x m n (is-low k) = omega (arith, minted-range x (minted-is s few x m) .0)
+      new-unknown x m n (is-brought k) = minted-not-outside x (minted-is s few x m) (in-outside x k)
+      new-unknown x m n (has-left k e) = false≢true (ap not (sym e) ∙ n)
 
--- by computation
+-- by computation, and by the ranges
 pub names-distinct : NamesDistinct
 unfolding NamesDistinct _&_ _or_
-names-distinct = (refl, refl)
+names-distinct = (refl, refl, λ x m. go x m (isOutside x) refl)
+  where
+    go : (x : ℕ) → isMinted x ≡ true → (t : Bool) → isOutside x ≡ t → t ≡ false
+    go x m true o = absurd (minted-not-outside x m o)
+    go x m false o = refl

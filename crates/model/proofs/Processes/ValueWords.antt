@@ -16,6 +16,7 @@ use Rattle.model.specs.Values.{items, isTuple, isName, isValue, arity}
 use Rattle.model.specs.WellFormed.{Counts, held, heldWord, wfValue}
 use Rattle.model.specs.Process.{vwords, vswords, vcount, firstV, behindV, reads, headV, valOf}
 use Rattle.model.proofs.Basics.Tests.{fst, snd, both, alt, every-two, append-nil}
+use Rattle.model.proofs.Basics.Names.{name-small}
 use Rattle.model.proofs.Formed.Keeping.{done-inj, shaped-words}
 use Rattle.model.proofs.Basics.Items.{clash, items-leaf, items-tuple, items-bad, tuple-not-name, every-front, every-back}
 
@@ -67,8 +68,7 @@ wfVal-all P k h z v e = val-all P (λ w. heldWord k w & (isName w or isTuple w))
     ok w p q = ⊎-elim (λ a. h w (⊎-elim (λ b. absurd (big w a (leb-true 4000000 w b))) (λ b. b) (alt _ _ (fst _ _ p)))) (λ a. absurd (false≢true (sym q ∙ a))) (alt _ _ (snd _ _ p))
       where
         big : (w : ℕ) → isName w ≡ true → 4000000 ≤ w → ⊥
-        big w p a = ⊎-elim (λ q. let b = leb-true w 63 q in omega arith)
-            (λ q. ⊎-elim (λ r. let b = leb-true w 65791 (snd _ _ r) in omega arith) (λ r. let b = leb-true w 131327 (snd _ _ r) in omega arith) (alt _ _ q)) (alt _ _ p)
+        big w p a = omega (arith, name-small w p)
 
 -- WHAT IS WRITTEN IS READ BACK
 abbrev pub appV : Vals ℕ → Vals ℕ → Vals ℕ
@@ -85,10 +85,6 @@ behind-app (vcons v vs) us = behind-app vs us
 
 abbrev pub worded : ℕ → Bool
 worded w = isName w or isTuple w
-
-pub name-small : (w : ℕ) → isName w ≡ true → w < 131328
-name-small w p = ⊎-elim (λ q. let b = leb-true w 63 q in omega arith)
-    (λ q. ⊎-elim (λ r. let b = leb-true w 65791 (snd _ _ r) in omega arith) (λ r. let b = leb-true w 131327 (snd _ _ r) in omega arith) (alt _ _ q)) (alt _ _ p)
 
 tuple-word : (k : ℕ) → worded (4000000 + k) ≡ true → isTuple (4000000 + k) ≡ true
 tuple-word k e = ⊎-elim (λ a. let b = name-small (4000000 + k) a in absurd (omega arith)) (λ b. b) (alt _ _ e)

@@ -23,28 +23,30 @@ use Rattle.model.specs.Load.{Composition, wrapperOf, table, start, sideF
 use Rattle.model.specs.WellFormed.{held, heldWord, wfValue, wfTag, wfParticle, wfBoxes, wfContents, wfMessage, wfCore, wfLeft, wfSide, wfTaken, isNoSide, wfSideOf, wfState, ready}
 use Rattle.model.specs.Step.{Step, Answer, labelled, refusal, enter, goDown, upFrom, upParticle, up, descendParticle, descend, meetTerm, meetParticles, meet, pass, leave, takes, routeTo, inner, local, settled, mark1, step}
 use Rattle.model.specs.Process.{confOf, knownOf, codeOf, valOf, reads, patOf, readsP}
-use Rattle.model.specs.Agreement.{Says, says-tau, says-in, says-out, IsLabelled, SoundAt, Sound, NamesGrow, LoadAgrees, plainly, handler}
+use Rattle.model.specs.Agreement.{Says, says-tau, says-in, says-out, IsLabelled, Brought, outsideIn, SoundAt, Sound, NamesGrow, LoadAgrees, plainly, handler}
 use Rattle.model.specs.Runs.{isOf, Seen, sees, Reached, answers, afterAll, Refusals, Independence}
 use Rattle.model.specs.Trials.{copier, entering, ask, inward, outward, tau as silently, runFrom}
 use Rattle.model.specs.Published.{Path, stop, go, SaysAll, says-none, says-more, says-refused, RunsAreTransitions}
 use Rattle.model.specs.Corollaries.{answersTo1, AnswersIndependent, sending, idle, PremiseNeeded, copierProcess, labelsA, ListingA}
 use Rattle.calculus.proofs.FreeNames.{mem-left, mem-right, mem-cases}
 use Rattle.calculus.proofs.Members.{SameMembers, step-members}
+use Rattle.calculus.proofs.KnownNames.{bool-same}
 use Rattle.calculus.proofs.Marks.{step-remark, wmark}
 use Rattle.model.proofs.Formed.Reached.{reached}
 use Rattle.model.proofs.Independent.Independence.{independence}
-use Rattle.model.proofs.Sound.Sound.{sound}
+use Rattle.model.proofs.Sound.Sound.{label-of, sound}
 use Rattle.model.proofs.Sound.NamesGrowing.{names-grow}
 use Rattle.model.proofs.Formed.Refusals.{refusals}
 use Rattle.model.proofs.Sound.LoadAgrees.{load-agrees}
+use Rattle.model.proofs.Results.Brought.{load-brought, step-brought}
 
 -- RUNS
 
 -- one step that is answered with a label is a published transition
-step-published : (b : Composition) (s : State) (k : Step) (l : Label) → ready b s ≡ true → Says (wrapperOf b) (step b s k .answer) l →
-    Published (knownOf s) (plainly (process (confOf b s))) l (plainly (process (confOf b (step b s k .after))))
+step-published : (b : Composition) (s : State) (X : List ℕ) (k : Step) (l : Label) → ready b s ≡ true → Brought b s X → Says (wrapperOf b) (step b s k .answer) l →
+    Published (knownOf X s) (plainly (process (confOf b s))) l (plainly (process (confOf b (step b s k .after))))
 unfolding Sound SoundAt
-step-published b s k l e sy = let r = sound b s k e .1 l sy in (wmark forget (r .0), Struct (step-remark forget (r .5)) (r .6))
+step-published b s X k l e h sy = let r = sound b s X k e h .1 l sy in (wmark forget (r .0), Struct (step-remark forget (r .5)) (r .6))
 
 pub step-ready : (b : Composition) (s : State) (k : Step) → ready b s ≡ true → ready b (step b s k .after) ≡ true
 unfolding Reached
@@ -56,28 +58,24 @@ unfolding Refusals
 refused-still b s k {n} {side} q = refusals .1 b s k n side q .3
 
 -- the names known after a step, as a list that grew by the label's
-same-bool : (a c : Bool) → (T a → T c) → (T c → T a) → a ≡ c
-same-bool true true p q = refl
-same-bool true false p q = absurd (p tt)
-same-bool false true p q = absurd (q tt)
-same-bool false false p q = refl
-
-pub grown : (b : Composition) (s : State) (k : Step) (l : Label) → ready b s ≡ true → Says (wrapperOf b) (step b s k .answer) l → (A : List ℕ) → SameMembers (knownOf s) A → SameMembers (knownOf (step b s k .after)) (lnames l ++ A)
+pub grown : (b : Composition) (s : State) (X : List ℕ) (k : Step) (l : Label) → ready b s ≡ true → Says (wrapperOf b) (step b s k .answer) l → (A : List ℕ) → SameMembers (knownOf X s) A
+    → SameMembers (knownOf (outsideIn l ++ X) (step b s k .after)) (lnames l ++ A)
 unfolding NamesGrow
-grown b s k l e sy A h z =
-    let g = names-grow b s k l e sy z in
-    same-bool (mem z (knownOf (step b s k .after))) (mem z (lnames l ++ A)) (λ i. ⊎-elim (λ p. mem-right z (lnames l) A (subst T (h z) p)) (λ p. mem-left z (lnames l) A p) (g .0 i))
+grown b s X k l e sy A h z =
+    let g = names-grow b s X k l e sy z in
+    bool-same (mem z (knownOf (outsideIn l ++ X) (step b s k .after))) (mem z (lnames l ++ A)) (λ i. ⊎-elim (λ p. mem-right z (lnames l) A (subst T (h z) p)) (λ p. mem-left z (lnames l) A p) (g .0 i))
     (λ i. g .1 (⊎-elim (λ p. inr p) (λ p. inl (subst T (sym (h z)) p)) (mem-cases z (lnames l) A i)))
 
-run : (b : Composition) {s : State} {ks : List Step} {ls : List Label} → SaysAll b s ks ls → ready b s ≡ true → (A : List ℕ) → SameMembers (knownOf s) A → Path b A s ls (afterAll b s ks)
+run : (b : Composition) {s : State} {ks : List Step} {ls : List Label} → SaysAll b s ks ls → ready b s ≡ true → (X : List ℕ) → Brought b s X → (A : List ℕ) → SameMembers (knownOf X s) A → Path b A s ls (afterAll b s ks)
 unfolding afterAll
-run b says-none e A same = stop
-run b (says-more {s = s} {k = k} {l = l} sy h) e A same =
-    let p = step-published b s k l e sy in
-    go (p .0, step-members (p .1) A same) (run b h (step-ready b s k e) (lnames l ++ A) (grown b s k l e sy A same))
-run b (says-refused {s = s} {k = k} {ks = ks} {ls = ls} q h) e A same =
+run b says-none e X h A same = stop
+run b (says-more {s = s} {k = k} {l = l} sy r) e X h A same =
+    let p = step-published b s X k l e h sy in
+    go (p .0, step-members (p .1) A same) (run b r (step-ready b s k e) (outsideIn l ++ X) (step-brought b s X k l e h sy) (lnames l ++ A) (grown b s X k l e sy A same))
+run b (says-refused {s = s} {k = k} {ks = ks} {ls = ls} q r) e X h A same =
     let still = refused-still b s k q in
-    subst (λ (t : State). Path b A t ls (afterAll b (step b s k .after) ks)) still (run b h (step-ready b s k e) A (subst (λ (t : State). SameMembers (knownOf t) A) (sym still) same))
+    subst (λ (t : State). Path b A t ls (afterAll b (step b s k .after) ks)) still
+    (run b r (step-ready b s k e) X (subst (λ (t : State). Brought b t X) (sym still) h) A (subst (λ (t : State). SameMembers (knownOf X t) A) (sym still) same))
 
 -- the labels of a run
 labels : (b : Composition) (ks : List Step) (s : State) → ready b s ≡ true → (ls : List Label) × SaysAll b s ks ls
@@ -87,11 +85,11 @@ labels b (k ∷ ks) s e = by-answer (step b s k .answer) refl (labels b ks (step
   where
     by-answer : (a : Answer) → step b s k .answer ≡ a → (ls : List Label) × SaysAll b (step b s k .after) ks ls → (ls : List Label) × SaysAll b s (k ∷ ks) ls
     by-answer (refusal n side) q r = (r .0, says-refused q (r .1))
-    by-answer (labelled l n v) q r = let t = sound b s k e .0 (subst IsLabelled (sym q) tt) in (t .0 ∷ r .0, says-more (t .1) (r .1))
+    by-answer (labelled l n v) q r = let t = label-of b s e k (subst IsLabelled (sym q) tt) in (t .0 ∷ r .0, says-more (t .1) (r .1))
 
 pub runs-are-transitions : RunsAreTransitions
 unfolding RunsAreTransitions
-runs-are-transitions b s ks e = (labels b ks s e, λ ls h. run b h e (knownOf s) (λ z. refl))
+runs-are-transitions b s X ks e h = (labels b ks s e, λ ls says. run b says e X h (knownOf X s) (λ z. refl))
 
 -- labels by a run's answers
 abbrev EachSays : Wrapper → List Answer → List Label → Type 0
@@ -174,5 +172,5 @@ listing-a = (
   afterAll copier loadedA stepsA,
   load-is,
   subst (λ (P : Proc (Unit {0}) []). plainly (process (confOf copier loadedA)) ≋ W1 tt P) copier-is (load-agrees copier loadedA load-is .0 refl),
-  runs-are-transitions copier loadedA stepsA (reached copier .0 loadedA load-is) .1 labelsA says-A,
+  runs-are-transitions copier loadedA [] stepsA (reached copier .0 loadedA load-is) (load-brought copier loadedA [] load-is refl) .1 labelsA says-A,
 )

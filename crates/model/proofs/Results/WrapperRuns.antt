@@ -1,38 +1,37 @@
 -- Runs of the wrapper itself: the bench's state and the process that a sequence leads to are congruent, and have the same transitions.
-use mathlib.Core.Path.{_≡_, refl, sym, ap, _∙_, subst}
+use mathlib.Core.Path.{_≡_, refl, sym, _∙_, subst}
 use mathlib.Core.List.{List, [], _∷_, _++_}
-use mathlib.Core.Bool.{Bool, true, false, false≢true}
-use mathlib.Core.Logic.{⊎-elim}
+use mathlib.Core.Bool.{true}
+use mathlib.Core.Logic.{inl, inr, ⊎-elim}
 use Prim.Native.Nat.{ℕ}
-use borrow.Author.Tests.{eqb-true}
-use lib.Dec.{eqb}
+use lib.Dec.{T}
 use Rattle.calculus.specs.Syntax.{Val, parent, plain as aside, Proc}
 use Rattle.calculus.specs.Congruence.{_≋_, rfl, symm}
 use Rattle.calculus.specs.Transitions.{Label, send, recv, lnames}
 use Rattle.calculus.specs.Marks.{Published, Seq, ended, first, grownBy}
 use Rattle.calculus.specs.Purity.{Legit, silent, inward, outward, EachLabel, Proposition2, Proposition3, Proposition4}
-use Rattle.calculus.specs.Wrappers.{inName, outName, logName, envIn, envOut, W1, W2, L}
+use Rattle.calculus.specs.Wrappers.{inName, outName, logName, envIn, envOut}
+use Rattle.model.specs.Basics.{every}
+use Rattle.model.specs.Values.{isOutside}
 use Rattle.model.specs.Side.{State}
 use Rattle.model.specs.Table.{Table}
-use Rattle.model.specs.Wrapper.{isWrapper}
-use Rattle.model.specs.Load.{Composition, table, load, ok, isOk}
+use Rattle.model.specs.Load.{Composition}
 use Rattle.model.specs.WellFormed.{ready}
 use Rattle.model.specs.Step.{Step}
 use Rattle.model.specs.Process.{knownOf}
-use Rattle.model.specs.Agreement.{LoadAgrees, processOf, handler}
+use Rattle.model.specs.Agreement.{processOf, Brought, outsideIn}
 use Rattle.model.specs.Runs.{Reached, afterAll}
-use Rattle.model.specs.Published.{PurePublished, CompletePublished, Path, stop, go, SaysAll, says-none, says-more, says-refused, RunsAreTransitions, PureLabel, pure-tau, pure-in, pure-out, pure-log}
-use Rattle.model.specs.Wrapped.{Wraps, as-filter, as-pipeline, as-logging, WrapperRuns, Led, WrapperComplete, WrapperPure, SequencesPure, TablesToTrace}
+use Rattle.model.specs.Published.{MetPublished, Offered, PurePublished, CompletePublished, Path, stop, go, SaysAll, says-none, says-more, says-refused, RunsAreTransitions, PureLabel, pure-tau, pure-in, pure-out, pure-log}
+use Rattle.model.specs.Wrapped.{as-filter, as-pipeline, as-logging, WrapperRuns, Led, WrapperComplete, WrapperPure, SequencesPure, TablesToTrace}
 use Rattle.calculus.proofs.Members.{SameMembers, step-members}
 use Rattle.calculus.proofs.CongruentSteps.{same-steps}
 use Rattle.calculus.proofs.Parallels.{Each}
 use Rattle.calculus.proofs.KnownNames.{each-mem}
 use Rattle.calculus.proofs.Purity.{proposition-2, proposition-3, proposition-4}
-use Rattle.model.proofs.Basics.Tests.{alt}
 use Rattle.model.proofs.Formed.Reached.{reached}
-use Rattle.model.proofs.Sound.LoadAgrees.{load-agrees}
 use Rattle.model.proofs.Complete.CompletePublished.{complete-published}
 use Rattle.model.proofs.Results.Purity.{pure-published}
+use Rattle.model.proofs.Results.Brought.{wrapper-of, wraps-start, load-brought, step-brought}
 use Rattle.model.proofs.Results.Corollaries.{step-ready, refused-still, grown, runs-are-transitions}
 
 -- a sequence of states' processes starts as well at a process that is congruent to the first
@@ -40,75 +39,71 @@ from-congruent : (b : Composition) {A : List ℕ} {s s' : State} {ls : List Labe
 from-congruent b P stop e = (P, ended, e)
 from-congruent b P (go {s' = s'} p rest) e = let (Q, q, f) = from-congruent b (processOf b s') rest rfl in (Q, first (p .0, same-steps (symm e) (p .1)) q, f)
 
-wraps-start : (b : Composition) (s : State) {P : Proc (Unit {0}) []} → load b ≡ ok s → Wraps b P → P ≋ processOf b s
-unfolding LoadAgrees
-wraps-start b s e (as-filter w) = symm (load-agrees b s e .0 w)
-wraps-start b s e (as-pipeline w) = symm (load-agrees b s e .1 w)
-wraps-start b s e (as-logging w) = symm (load-agrees b s e .2 w)
-
 pub wrapper-runs : WrapperRuns
 unfolding WrapperRuns RunsAreTransitions Reached
-wrapper-runs b s ks ls P e w says = from-congruent b P (runs-are-transitions b s ks (reached b .0 s e) .1 ls says) (wraps-start b s e w)
+wrapper-runs b s X ks ls P e h w says = from-congruent b P (runs-are-transitions b s X ks (reached b .0 s e) (load-brought b s X e h) .1 ls says) (wraps-start b s e w)
 
--- after a run the state is ready, and its known names are those of the start and of the labels
-pub after-run : (b : Composition) {s : State} {ks : List Step} {ls : List Label} → SaysAll b s ks ls → ready b s ≡ true → (A : List ℕ) → SameMembers (knownOf s) A →
-    (ready b (afterAll b s ks) ≡ true) × SameMembers (knownOf (afterAll b s ks)) (grownBy ls A)
+-- after a run the state is ready, and with some outside names brought its known names are those of the start and of the labels
+pub record Behind (b : Composition) (s : State) (A : List ℕ) : Type 0 where
+  pub is-ready : ready b s ≡ true
+  pub X : List ℕ
+  pub outside : every isOutside X ≡ true
+  pub same : SameMembers (knownOf X s) A
+
+pub after-run : (b : Composition) {s : State} {ks : List Step} {ls : List Label} → SaysAll b s ks ls → ready b s ≡ true → (X : List ℕ) → Brought b s X → (A : List ℕ) → SameMembers (knownOf X s) A → Behind b (afterAll b s ks) (grownBy ls A)
 unfolding afterAll
-after-run b says-none e A same = (e, same)
-after-run b (says-more {s = s} {k = k} {l = l} sy h) e A same = after-run b h (step-ready b s k e) (lnames l ++ A) (grown b s k l e sy A same)
-after-run b (says-refused {s = s} {k = k} q h) e A same = after-run b h (step-ready b s k e) A (subst (λ (t : State). SameMembers (knownOf t) A) (sym (refused-still b s k q)) same)
+after-run b says-none e X h A same = record { is-ready = e; X = X; outside = h .outside; same = same }
+after-run b (says-more {s = s} {k = k} {l = l} sy r) e X h A same = after-run b r (step-ready b s k e) (outsideIn l ++ X) (step-brought b s X k l e h sy) (lnames l ++ A) (grown b s X k l e sy A same)
+after-run b (says-refused {s = s} {k = k} q r) e X h A same =
+    let still = sym (refused-still b s k q) in
+    after-run b r (step-ready b s k e) X (subst (λ (t : State). Brought b t X) still h) A (subst (λ (t : State). SameMembers (knownOf X t) A) still same)
+
+-- lists with the same members keep the same names
+offered-same : (A B : List ℕ) (b : Composition) (s : State) (l : Label) (R : Proc (Unit {0}) []) → SameMembers A B → Offered A b s l R → Offered B b s l R
+offered-same A B b s l R h (w, k, f) = (w, k, λ k a ask. ⊎-elim (λ m. inl (met k m)) (λ r. inr r) (f k a ask))
+  where
+    met : (k : Step) → MetPublished A b s l R k → MetPublished B b s l R k
+    met k m = record {
+      names = record { to = m .names .to; back = m .names .back; to-back = m .names .to-back; back-to = m .names .back-to; keeps = λ z i. m .names .keeps z (subst T (sym (h z)) i) };
+      label = m .label;
+      side = m .side;
+      target = m .target;
+    }
 
 -- the transitions of the process that the run leads to are those of the state's
-module _ (b : Composition) (s : State) (ks : List Step) (ls : List Label) (A : List ℕ) (Q R : Proc (Unit {0}) []) (l : Label) (r : Led b s ks ls A Q) where
-  start-ready : ready b s ≡ true
+module _ (b : Composition) (s : State) (X : List ℕ) (ks : List Step) (ls : List Label) (A : List ℕ) (Q R : Proc (Unit {0}) []) (l : Label) (r : Led b s X ks ls A Q) where
+  led : Behind b (afterAll b s ks) (grownBy ls (knownOf X s))
   unfolding Reached
-  start-ready = reached b .0 s (r .loaded)
+  led = after-run b (r .says) (reached b .0 s (r .loaded)) X (load-brought b s X (r .loaded) (r .outside)) (knownOf X s) (λ z. refl)
 
-  led-ready : ready b (afterAll b s ks) ≡ true
-  led-ready = after-run b (r .says) start-ready (knownOf s) (λ z. refl) .0
+  led-same : SameMembers (knownOf (led .X) (afterAll b s ks)) A
+  led-same z = led .same z ∙ r .members z
 
-  led-step : Published A Q l R → Published (knownOf (afterAll b s ks)) (processOf b (afterAll b s ks)) l R
-  led-step p = (p .0, same-steps (r .reaches) (step-members (p .1) (knownOf (afterAll b s ks)) (λ z. sym (after-run b (r .says) start-ready (knownOf s) (λ y. refl) .1 z ∙ r .members z))))
+  led-step : Published A Q l R → Published (knownOf (led .X) (afterAll b s ks)) (processOf b (afterAll b s ks)) l R
+  led-step p = (p .0, same-steps (r .reaches) (step-members (p .1) (knownOf (led .X) (afterAll b s ks)) (λ z. sym (led-same z))))
 
 pub wrapper-complete : WrapperComplete
 unfolding WrapperComplete CompletePublished
-wrapper-complete b s ks ls A Q R l r p wr = complete-published b (afterAll b s ks) l R (led-ready b s ks ls A Q R l r) (led-step b s ks ls A Q R l r p) wr
+wrapper-complete b s X ks ls A Q R l r p wr =
+    let q = led b s X ks ls A Q R l r in
+    offered-same (knownOf (q .X) (afterAll b s ks)) A b (afterAll b s ks) l R (led-same b s X ks ls A Q R l r)
+    (complete-published b (afterAll b s ks) (q .X) l R (q .is-ready) (q .outside) (led-step b s X ks ls A Q R l r p) wr)
 
 pub wrapper-pure : WrapperPure
 unfolding WrapperPure PurePublished
-wrapper-pure b s ks ls A Q R l r p = pure-published b (afterAll b s ks) l R (led-ready b s ks ls A Q R l r) (led-step b s ks ls A Q R l r p)
-
--- THE WRAPPER OF A LOAD THAT SUCCEEDS
-
--- it is the filter, the pipeline or the logging wrapper
-loads-known : (b : Composition) (s : State) → load b ≡ ok s → isWrapper (b .wrapper) ≡ true
-unfolding load
-loads-known b s e = go (isWrapper (b .wrapper)) refl
-  where
-    go : (t : Bool) → isWrapper (b .wrapper) ≡ t → isWrapper (b .wrapper) ≡ true
-    go true h = h
-    go false h = let z : _≡_ {A = Bool} false true = ap isOk (rw (h, load) at e) in absurd (false≢true z)
-
-wrapper-of : (b : Composition) (s : State) → load b ≡ ok s → (P : Proc (Unit {0}) []) × Wraps b P
-wrapper-of b s e = by-number (eqb (b .wrapper) 1) refl (eqb (b .wrapper) 2) refl (eqb (b .wrapper) 3) refl
-  where
-    by-number : (t : Bool) → eqb (b .wrapper) 1 ≡ t → (u : Bool) → eqb (b .wrapper) 2 ≡ u → (v : Bool) → eqb (b .wrapper) 3 ≡ v → (P : Proc (Unit {0}) []) × Wraps b P
-    by-number true h u k v j = (W1 tt (handler (table b 1)), as-filter (eqb-true (b .wrapper) 1 h))
-    by-number false h true k v j = (W2 tt (handler (table b 1)) (handler (table b 2)), as-pipeline (eqb-true (b .wrapper) 2 k))
-    by-number false h false k true j = (L tt (handler (table b 1)), as-logging (eqb-true (b .wrapper) 3 j))
-    by-number false h false k false j = absurd (⊎-elim (λ q. false≢true (sym h ∙ q)) (λ q. ⊎-elim (λ q. false≢true (sym k ∙ q)) (λ q. false≢true (sym j ∙ q)) (alt _ _ q)) (alt _ _ (loads-known b s e)))
+wrapper-pure b s X ks ls A Q R l r p = let q = led b s X ks ls A Q R l r in pure-published b (afterAll b s ks) (q .X) l R (q .is-ready) (q .outside) (led-step b s X ks ls A Q R l r p)
 
 pub tables-to-trace : TablesToTrace
 unfolding TablesToTrace RunsAreTransitions Reached WrapperRuns WrapperComplete
-tables-to-trace b s e =
+tables-to-trace b s X e h =
     let (P, w) = wrapper-of b s e in (
       P,
       w,
       λ ks.
-          let (ls, says) = runs-are-transitions b s ks (reached b .0 s e) .0 in
-          let (Q, sequence, reaches) = wrapper-runs b s ks ls P e w says in
-          let led : Led b s ks ls (grownBy ls (knownOf s)) Q = record { loaded = e; says = says; members = λ z. refl; reaches = reaches } in
-          (ls, says, Q, sequence, λ l R p written. wrapper-complete b s ks ls (grownBy ls (knownOf s)) Q R l led p written),
+          let (ls, says) = runs-are-transitions b s X ks (reached b .0 s e) (load-brought b s X e h) .0 in
+          let (Q, sequence, reaches) = wrapper-runs b s X ks ls P e h w says in
+          let led : Led b s X ks ls (grownBy ls (knownOf X s)) Q = record { loaded = e; outside = h; says = says; members = λ z. refl; reaches = reaches } in
+          (ls, says, Q, sequence, λ l R p written. wrapper-complete b s X ks ls (grownBy ls (knownOf X s)) Q R l led p written),
     )
 
 -- ANY SEQUENCE

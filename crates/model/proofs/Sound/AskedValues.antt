@@ -6,7 +6,7 @@ use mathlib.Core.Logic.{_⊎_, inl, inr, ⊎-elim}
 use Prim.Native.Nat.{ℕ, suc, _+_, _≤_}
 use native.Mathlib.Nat.{zero-add, suc-add}
 use native.Mathlib.Omega.{arith}
-use borrow.Author.Tests.{leb-true, leb-false, le-leb, lt-ltb, le-ltb, ltb-true, ltb-false, not-false}
+use borrow.Author.Tests.{leb-true, leb-false, le-leb, lt-ltb, not-false}
 use lib.Dec.{leb, ltb, T}
 use lib.ListN.{length, length-append}
 use Rattle.calculus.specs.Syntax.{Val, Vals, nm, tup, vnil, vcons, AllV, AllVs, parent, plain}
@@ -15,48 +15,20 @@ use Rattle.model.specs.Basics.{_&_, _or_, every}
 use Rattle.model.specs.Values.{items, isTuple, isName, isMinted, isValue, arity}
 use Rattle.model.specs.Side.{State}
 use Rattle.model.specs.Load.{Composition}
-use Rattle.model.specs.WellFormed.{Counts, wfValue, held, ready}
+use Rattle.model.specs.WellFormed.{Counts, counts, wfValue, ready}
 use Rattle.model.specs.Step.{Label as Said, silent, enters, leaves, logs, labelled, known}
 use Rattle.model.specs.Wrapper.{Wrapper}
-use Rattle.model.specs.Process.{vwords, vswords, vcount, upto, valOf, keep, knownOf, mintedOf}
+use Rattle.model.specs.Process.{vwords, vswords, vcount, valOf}
 use Rattle.model.specs.Agreement.{foreign, someName, enterable, mintedNumber, Says, says-tau, says-in, says-out, says-log}
 use Rattle.calculus.proofs.Renaming.{AllV-map}
-use Rattle.calculus.proofs.FreeNames.{mem-left, mem-right}
-use Rattle.model.proofs.Basics.Tests.{fst, snd, both, alt, alt-left, alt-right, append-nil, or-true, or-none, one-fails, or-cases}
+use Rattle.model.proofs.Basics.Tests.{fst, snd, both, alt, alt-left, alt-right, append-nil, or-none, one-fails}
 use Rattle.model.proofs.Formed.Keeping.{Spoken, shaped-words}
 use Rattle.model.proofs.Formed.Invariant.{known-held}
-use Rattle.model.proofs.Processes.KnownNames.{keep-in, held-minted, in-upto}
+use Rattle.model.proofs.Processes.KnownNames.{outsideNames, outside-in, knownAll, is-low, is-brought, has-left, by-known, held-minted}
+use Rattle.model.proofs.Basics.Names.{minted-range, held-below, held-name}
 use Rattle.model.proofs.Basics.Items.{items-zero, items-leaf, items-tuple, items-shaped, shaped-items, tuple-not-name, every-front, every-back}
 use Rattle.model.proofs.Processes.ValueWords.{worded, val-back, val-written, wfVal-all}
-use Rattle.model.proofs.Sound.Labels.{none-all, T-not}
-
--- names that may enter
-
-pub name-enterable : (x : ℕ) → isName x ≡ true → enterable x ≡ true
-name-enterable x e = ⊎-elim (λ p. let a = leb-true x 63 p in low (lt-ltb x 64 (omega arith)))
-    (λ p. ⊎-elim (λ q. let a = leb-true 65536 x (fst _ _ q) in let c = leb-true x 65791 (snd _ _ q) in mid (le-ltb x 65536 (omega arith)) (lt-ltb x 65792 (omega arith)))
-    (λ q. let a = leb-true 131072 x (fst _ _ q) in let c = leb-true x 131327 (snd _ _ q) in high (le-ltb x 131072 (omega arith)) (lt-ltb x 131328 (omega arith))) (alt _ _ p)) (alt _ _ e)
-  where
-    low : ltb x 64 ≡ true → enterable x ≡ true
-    low q = ap (λ (c : Bool). (c || (not (ltb x 65536) && ltb x 65792)) || (not (ltb x 131072) && ltb x 131328)) q
-
-    mid : ltb x 65536 ≡ false → ltb x 65792 ≡ true → enterable x ≡ true
-    mid p q = ap₂ (λ (c d : Bool). (ltb x 64 || (not c && d)) || (not (ltb x 131072) && ltb x 131328)) p q ∙ ap (λ (c : Bool). c || (not (ltb x 131072) && ltb x 131328)) (or-true (ltb x 64))
-
-    high : ltb x 131072 ≡ false → ltb x 131328 ≡ true → enterable x ≡ true
-    high p q = ap₂ (λ (c d : Bool). (ltb x 64 || (not (ltb x 65536) && ltb x 65792)) || (not c && d)) p q ∙ or-true (ltb x 64 || (not (ltb x 65536) && ltb x 65792))
-
-pub enterable-name : (x : ℕ) → enterable x ≡ true → isName x ≡ true
-enterable-name x e = ⊎-elim
-    (λ a. ⊎-elim (λ c. let q = ltb-true x 64 c in alt-left _ _ (le-leb x 63 (omega arith)))
-    (λ c. let r = and2 (ltb x 65536) (ltb x 65792) c in let l = ltb-false x 65536 (r .0) in let h = ltb-true x 65792 (r .1) in alt-right _ _ (alt-left _ _ (both _ _ (le-leb 65536 x (omega arith)) (le-leb x 65791 (omega arith)))))
-    (or-cases (ltb x 64) (not (ltb x 65536) && ltb x 65792) a))
-    (λ c. let r = and2 (ltb x 131072) (ltb x 131328) c in let l = ltb-false x 131072 (r .0) in let h = ltb-true x 131328 (r .1) in alt-right _ _ (alt-right _ _ (both _ _ (le-leb 131072 x (omega arith)) (le-leb x 131327 (omega arith)))))
-    (or-cases (ltb x 64 || (not (ltb x 65536) && ltb x 65792)) (not (ltb x 131072) && ltb x 131328) e)
-  where
-    and2 : (a b : Bool) → not a && b ≡ true → (a ≡ false) × (b ≡ true)
-    and2 true b e = absurd (false≢true e)
-    and2 false b e = (refl, e)
+use Rattle.model.proofs.Sound.Labels.{none-all, T-not, minted-number-is, enterable-is}
 
 -- two properties of the names of a value are one
 mutual
@@ -151,24 +123,21 @@ no-value v e = by-length (leb (length (vwords v)) 16) refl (foreign v) refl
     by-length : (t : Bool) → leb (length (vwords v)) 16 ≡ t → (u : Bool) → foreign v ≡ u → T (ltb 16 (length (vwords v))) ⊎ T (foreign v)
     by-length false p u q = inl (is-T _ (lt-ltb 16 (length (vwords v)) (leb-false (length (vwords v)) 16 p)))
     by-length true p true q = inr (is-T _ q)
-    by-length true p false q = absurd (false≢true (sym e ∙ value-of-names v (leb-true (length (vwords v)) 16 p) (AllV-map v (λ x h. enterable-name x (not-false (enterable x) h)) (none-all (λ n. not (enterable n)) v q))))
+    by-length true p false q = absurd (false≢true (sym e ∙ value-of-names v (leb-true (length (vwords v)) 16 p) (AllV-map v (λ x h. sym (enterable-is x) ∙ not-false (enterable x) h) (none-all (λ n. not (enterable n)) v q))))
 
 -- 12: the value has a minted name that is not known
 pub unknown-name : (s : State) (v : Val ℕ) → every (λ w. not (isMinted w) or known s w) (vwords v) ≡ false → T (someName (λ n. mintedNumber n && not (known s n)) (names v))
 unknown-name s v e = is-T _ (some-fails (λ w. not (isMinted w) or known s w) (λ n. mintedNumber n && not (known s n)) big fails v e)
   where
     not-minted : (x : ℕ) → 4000000 ≤ x → (t : Bool) → isMinted x ≡ t → not t ≡ true
-    not-minted x l true q = absurd (⊎-elim (λ a. let h = leb-true x 65791 (snd _ _ a) in omega arith) (λ a. let h = leb-true x 131327 (snd _ _ a) in omega arith) (alt (leb 65536 x & leb x 65791) (leb 131072 x & leb x 131327) q))
+    not-minted x l true q = absurd (omega (arith, minted-range x q .1))
     not-minted x l false q = refl
 
     big : (k : ℕ) → not (isMinted (4000000 + k)) or known s (4000000 + k) ≡ true
     big k = alt-left _ _ (not-minted (4000000 + k) (omega arith) (isMinted (4000000 + k)) refl)
 
-    high : (x : ℕ) → isMinted x ≡ true → ltb x 65536 ≡ false
-    high x m = ⊎-elim (λ a. let h = leb-true 65536 x (fst _ _ a) in le-ltb x 65536 (omega arith)) (λ a. let h = leb-true 131072 x (fst _ _ a) in le-ltb x 65536 (omega arith)) (alt (leb 65536 x & leb x 65791) (leb 131072 x & leb x 131327) m)
-
     by-cases : (x : ℕ) (m k : Bool) → isMinted x ≡ m → known s x ≡ k → not m or k ≡ false → mintedNumber x && not (known s x) ≡ true
-    by-cases x true false p q h = ap₂ (λ (c d : Bool). (not c && enterable x) && not d) (high x p) q ∙ ap (λ (c : Bool). c && true) (name-enterable x (alt-right _ _ p))
+    by-cases x true false p q h = ap₂ (λ (c d : Bool). c && not d) (minted-number-is x ∙ p) q
     by-cases x true true p q h = absurd (false≢true (sym h ∙ alt-right _ _ refl))
     by-cases x false k p q h = absurd (false≢true (sym h ∙ alt-left _ _ refl))
 
@@ -190,12 +159,7 @@ mutual
   alls-none f (vcons v vs) h = none-app f (names v) (namess vs) (all-none f v (h .0)) (alls-none f vs (h .1))
 
 pub usual-names : (v : Val ℕ) → AllV v (λ x. isName x ≡ true) → T (not (foreign v))
-usual-names v h = subst (λ (c : Bool). T (not c)) (sym (all-none (λ n. not (enterable n)) v (AllV-map v (λ x q. ap not (name-enterable x q)) h))) tt
-
--- names that are held are names
-held-name : (k : Counts) (x : ℕ) → held k x ≡ true → isName x ≡ true
-unfolding held
-held-name k x e = ⊎-elim (λ p. alt-left _ _ p) (λ p. alt-right _ _ (fst _ _ p)) (alt _ _ e)
+usual-names v h = subst (λ (c : Bool). T (not c)) (sym (all-none (λ n. not (enterable n)) v (AllV-map v (λ x q. ap not (enterable-is x ∙ q)) h))) tt
 
 -- a value whose names are held is the words of a value with no foreign name
 pub value-written : (k : Counts) (v : List ℕ) → wfValue k v ≡ true → v ≡ vwords (valOf v)
@@ -225,17 +189,10 @@ module _ (v : Val ℕ) (wr : T (not (someName isTuple (names v)))) (iv : isValue
 
   -- and 12: its names are known
   module _ (b : Composition) (s : State) (wf : ready b s ≡ true) (kv : every (λ w. not (isMinted w) or known s w) (vwords v) ≡ true) where
-    name-known : (x : ℕ) → isName x ≡ true → not (isMinted x) or known s x ≡ true → In (knownOf s) x
-    unfolding knownOf held
-    name-known x n k = ⊎-elim
-        (λ p. let l = leb-true x 63 p in mem-left x (upto 81 (λ i. i)) (keep (known s) (mintedOf s)) (in-upto 81 x (λ i. i) (omega arith)))
-        (λ m. ⊎-elim (λ z. absurd (false≢true (sym (ap not m) ∙ z)))
-        (λ y. mem-right x (upto 81 (λ i. i)) (keep (known s) (mintedOf s)) (keep-in (known s) (mintedOf s) x
-        (⊎-elim (λ q. absurd (apart (leb-true x 63 q) (alt _ _ m))) (λ q. held-minted b s x q) (alt _ _ (known-held b s wf x y m))) y)) (alt _ _ k)) (alt _ _ n)
-      where
-        apart : x ≤ 63 → (leb 65536 x & leb x 65791 ≡ true) ⊎ (leb 131072 x & leb x 131327 ≡ true) → ⊥
-        apart l (inl q) = let h = leb-true 65536 x (fst _ _ q) in omega arith
-        apart l (inr q) = let h = leb-true 131072 x (fst _ _ q) in omega arith
+    name-known : (x : ℕ) → isName x ≡ true → not (isMinted x) or known s x ≡ true → In (knownAll s) x
+    name-known x n k = by-known outsideNames s x (⊎-elim (λ p. let l = leb-true x 63 p in is-low (omega arith))
+        (λ p. ⊎-elim (λ m. ⊎-elim (λ z. absurd (false≢true (sym (ap not m) ∙ z))) (λ y. has-left (held-minted b s x (held-below (counts s) x m (known-held b s wf x y m))) y) (alt _ _ k)) (λ o. is-brought (outside-in x o)) (alt _ _ p))
+        (alt _ _ n))
 
-    pub names-known : AllV v (In (knownOf s))
+    pub names-known : AllV v (In (knownAll s))
     names-known = all-two v name-known names-ok (words-all (λ w. not (isMinted w) or known s w) v kv)

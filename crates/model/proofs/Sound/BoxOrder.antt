@@ -5,7 +5,7 @@ use mathlib.Core.List.{List, [], _∷_, _++_, append-assoc, map}
 use mathlib.Core.Logic.{_⊎_, inl, ⊎-elim}
 use Prim.Native.Nat.{ℕ, suc, _<_, _≤_}
 use native.Mathlib.Omega.{arith}
-use borrow.Author.Tests.{leb-true, ltb-true, eqb-true, eq-eqb, ne-eqb}
+use borrow.Author.Tests.{ltb-true, eqb-true, eq-eqb, ne-eqb}
 use lib.Dec.{eqb, T}
 use lib.ListN.{length}
 use Rattle.calculus.specs.Congruence.{_≋_, trans}
@@ -18,7 +18,7 @@ use Rattle.model.specs.Table.{Table}
 use Rattle.model.specs.Side.{Box, Particle, Core, Side, State, output, input, side}
 use Rattle.model.specs.Wrapper.{Wrapper, allSides, hasSide}
 use Rattle.model.specs.Load.{Composition, wrapperOf, table}
-use Rattle.model.specs.WellFormed.{counts, countOf, held, ready}
+use Rattle.model.specs.WellFormed.{counts, countOf, ready}
 use Rattle.model.specs.Step.{known}
 use Rattle.model.specs.Process.{Mark, upto, mintOf, siteOf, keep, placeOf, placesOf, allPlaces, bySide, confAs, confOf, newOf, mintedOf, ownName, numbered, partItem, msgItem, shelfItem}
 use Rattle.model.specs.Process.{shelfItems, sideItems, enters, passes, takes, forwarders, isGone}
@@ -27,8 +27,9 @@ use Rattle.calculus.proofs.Extrusion.{in-news}
 use Rattle.calculus.proofs.FreeNames.{or-left, or-right}
 use Rattle.calculus.proofs.Swaps.{Off, Offs, AsideAll, Asides, news-swap, fill-swap-over}
 use Rattle.calculus.proofs.Bags.{at, rplaces}
-use Rattle.model.proofs.Basics.Tests.{snd, alt, or-cases as bool-cases, or-right as bool-right, or-first}
+use Rattle.model.proofs.Basics.Tests.{snd, or-cases as bool-cases, or-right as bool-right, or-first}
 use Rattle.model.proofs.Basics.Sides.{put-self}
+use Rattle.model.proofs.Basics.Names.{held-below}
 use Rattle.model.proofs.Formed.MeetingKeeps.{minted-number}
 use Rattle.model.proofs.Formed.Invariant.{known-held, which, positive, count-is}
 use Rattle.model.proofs.Processes.KnownNames.{All, Distinct, is-true, keep-out, upto-out, by-out, sides-distinct}
@@ -179,16 +180,15 @@ module _ (b : Composition) (s : State) (e : ready b s ≡ true) where
 
   -- a name not yet minted is not known
   unknown : (n m : ℕ) → has n allSides ≡ true → side s n .core .contents .minted ≤ m → m < 256 → nk (mintOf n m) ≡ true
-  unfolding held
   unknown n m a l h = go (known s (mintOf n m)) refl
     where
       go : (t : Bool) → known s (mintOf n m) ≡ t → not t ≡ true
       go false q = refl
       go true q =
           let r = minted-number n m a h in
-          absurd (⊎-elim (λ p. let z = leb-true (mintOf n m) 63 p in omega (arith, positive n a .0))
-          (λ p. let z = ltb-true (serial (mintOf n m)) (countOf (counts s) (mintSide (mintOf n m))) (snd _ _ p) in bad (r .1) (r .2) z)
-          (alt _ _ (known-held b s e (mintOf n m) q (r .0))))
+          let p = held-below (counts s) (mintOf n m) (r .0) (known-held b s e (mintOf n m) q (r .0)) in
+          let z = ltb-true (serial (mintOf n m)) (countOf (counts s) (mintSide (mintOf n m))) (snd _ _ p) in
+          absurd (bad (r .1) (r .2) z)
         where
           bad : mintSide (mintOf n m) ≡ n → serial (mintOf n m) ≡ m → serial (mintOf n m) < countOf (counts s) (mintSide (mintOf n m)) → ⊥
           bad u v z =

@@ -5,21 +5,22 @@ use mathlib.Core.List.{List, [], _∷_, _++_}
 use mathlib.Core.Logic.{⊎-elim}
 use Prim.Native.Nat.{ℕ, suc, _<_}
 use native.Mathlib.Omega.{arith}
-use borrow.Author.Tests.{leb-true, ltb-true, eqb-true, not-false}
-use lib.Dec.{ltb, eqb, T}
+use borrow.Author.Tests.{leb-true, leb-false, lt-ltb, le-ltb, eqb-true, not-false}
+use lib.Dec.{leb, ltb, eqb, T}
 use mathlib.Core.Option.{some}
 use lib.ListN.{length, getElem?}
 use Rattle.calculus.specs.Syntax.{Val, Vals, nm, tup, vnil, vcons, AllV, AllVs, plain}
 use Rattle.calculus.specs.Syntax.{parent as iparent}
 use Rattle.calculus.specs.Transitions.{Label, tau, send, recv, lone, joint, names, namess}
-use Rattle.model.specs.Basics.{_or_, every, has}
-use Rattle.model.specs.Values.{isTuple}
+use Rattle.model.specs.Basics.{_&_, _or_, every, has}
+use Rattle.model.specs.Values.{isTuple, isPublic, isMinted, isOutside, isName}
 use Rattle.model.specs.Step.{Step, silent, enters, leaves, logs, leavingOn, Answer, labelled, refusal}
 use Rattle.model.specs.Wrapper.{Wrapper, Route}
 use Rattle.model.specs.Process.{Mark, part, boxed, lobby, shelf, enterer, passer, taker, leavesAs, vwords, valOf}
-use Rattle.model.specs.Agreement.{foreign, someName, enterable, At, Says, says-tau, says-in, says-out, says-log, enter, goDown, goUp, descend, meet, pass, leave, take}
+use Rattle.model.specs.Agreement.{foreign, someName, mintedNumber, outsideNumber, enterable, At, Says, says-tau, says-in, says-out, says-log, enter, goDown, goUp, descend, meet, pass, leave, take}
 use Rattle.calculus.proofs.Renaming.{AllV-map}
-use Rattle.model.proofs.Basics.Tests.{fst, alt, has-every, or-none, or-cases, and-right}
+use Rattle.model.proofs.Basics.Tests.{fst, alt, has-every, or-none}
+use Rattle.model.proofs.Basics.Names.{name-small}
 use Rattle.model.proofs.Formed.Keeping.{isLog}
 use Rattle.model.proofs.Processes.ValueWords.{worded, val-back}
 
@@ -76,12 +77,39 @@ pub T-not : (b : Bool) → T (not b) → b ≡ false
 T-not true h = absurd h
 T-not false h = refl
 
--- names that may be entered are small
-pub enterable-small : (x : ℕ) → enterable x ≡ true → x < 131328
-enterable-small x e = ⊎-elim
-    (λ a. ⊎-elim (λ b. let q = ltb-true x 64 b in omega arith) (λ b. let q = ltb-true x 65792 (and-right (not (ltb x 65536)) (ltb x 65792) b) in omega arith) (or-cases (ltb x 64) (not (ltb x 65536) && ltb x 65792) a))
-    (λ b. let q = ltb-true x 131328 (and-right (not (ltb x 131072)) (ltb x 131328) b) in omega arith)
-    (or-cases (ltb x 64 || (not (ltb x 65536) && ltb x 65792)) (not (ltb x 131072) && ltb x 131328) e)
+-- THE NUMBERS OF NAMES, as labels and as values have them
+both-ends : (l h x : ℕ) → not (ltb x l) && ltb x (suc h) ≡ leb l x & leb x h
+unfolding _&_
+both-ends l h x = go (leb l x) (leb x h) refl refl
+  where
+    go : (t u : Bool) → leb l x ≡ t → leb x h ≡ u → not (ltb x l) && ltb x (suc h) ≡ t & u
+    go true true p q = rw (le-ltb x l (leb-true l x p), lt-ltb x (suc h) (let z = leb-true x h q in omega arith))
+    go true false p q = rw (le-ltb x l (leb-true l x p), le-ltb x (suc h) (leb-false x h q))
+    go false u p q = rw (lt-ltb x l (leb-false l x p))
+
+or-is : (a b : Bool) → a || b ≡ a or b
+unfolding _or_
+or-is true b = refl
+or-is false b = refl
+
+pub minted-number-is : (x : ℕ) → mintedNumber x ≡ isMinted x
+minted-number-is x = ap₂ (λ (a b : Bool). a || b) (both-ends 65536 65791 x) (both-ends 131072 131327 x) ∙ or-is (leb 65536 x & leb x 65791) (leb 131072 x & leb x 131327)
+
+public-is : (x : ℕ) → ltb x 64 ≡ isPublic x
+public-is x = go (leb x 63) refl
+  where
+    go : (t : Bool) → leb x 63 ≡ t → ltb x 64 ≡ t
+    go true p = lt-ltb x 64 (let z = leb-true x 63 p in omega arith)
+    go false p = le-ltb x 64 (leb-false x 63 p)
+
+or-assoc : (a b c : Bool) → (a || b) || c ≡ a or (b or c)
+unfolding _or_
+or-assoc true b c = refl
+or-assoc false b c = or-is b c
+
+pub enterable-is : (x : ℕ) → enterable x ≡ isName x
+enterable-is x = ap₂ (λ (a b : Bool). (a || b) || outsideNumber x) (public-is x) (minted-number-is x)
+    ∙ ap (λ (c : Bool). (isPublic x || isMinted x) || c) (both-ends 196608 196863 x) ∙ or-assoc (isPublic x) (isMinted x) (isOutside x)
 
 not-tuple : (x : ℕ) → x < 4000000 → isTuple x ≡ false
 not-tuple x l = go (isTuple x) refl
@@ -94,7 +122,7 @@ all-map : {A B : ℕ → Type 0} (v : Val ℕ) → ((x : ℕ) → A x → B x) �
 all-map v f h = AllV-map v f h
 
 pub usual : (v : Val ℕ) → T (not (foreign v)) → AllV v (λ x. isTuple x ≡ false)
-usual v h = all-map v (λ x e. not-tuple x (let l = enterable-small x (not-false (enterable x) e) in omega arith)) (none-all (λ n. not (enterable n)) v (T-not (foreign v) h))
+usual v h = all-map v (λ x e. not-tuple x (let l = name-small x (sym (enterable-is x) ∙ not-false (enterable x) e) in omega arith)) (none-all (λ n. not (enterable n)) v (T-not (foreign v) h))
 
 -- the value that words are, and the label's value
 pub label-val : (ws : List ℕ) (v : Val ℕ) → every worded ws ≡ true → ws ≡ vwords v → T (not (foreign v)) → valOf ws ≡ v

@@ -26,7 +26,7 @@ use Rattle.model.specs.Wrapper.{allSides}
 use Rattle.model.specs.Load.{Composition, wrapperOf}
 use Rattle.model.specs.WellFormed.{Counts, countOf, counts, wfParticle, wfValue, ready}
 use Rattle.model.specs.Step.{tagsFit, withContents, withParticles}
-use Rattle.model.specs.Process.{Mark, siteOf, codeOf, envOf, tagOut, placesOf, confAs, confOf, newOf, knownOf}
+use Rattle.model.specs.Process.{Mark, siteOf, codeOf, envOf, tagOut, placesOf, confAs, confOf, newOf}
 use Rattle.model.specs.Agreement.{plainly}
 use Rattle.calculus.proofs.Marks.{remark-news, remark-all}
 use Rattle.calculus.proofs.Restriction.{under-news}
@@ -38,7 +38,7 @@ use Rattle.model.proofs.Basics.Environments.{Sized}
 use Rattle.model.proofs.Basics.Checked.{Sits}
 use Rattle.model.proofs.Formed.Invariant.{positive, size, count-is}
 use Rattle.model.proofs.Formed.MeetingKeeps.{mine, fresh-held}
-use Rattle.model.proofs.Processes.KnownNames.{All, held-in, low-in}
+use Rattle.model.proofs.Processes.KnownNames.{knownAll, All, held-in, low-in}
 use Rattle.model.proofs.Processes.HandlerTerms.{fits-sound}
 use Rattle.model.proofs.Processes.ItemFacts.{Each, each-app, part-in, env-in, env-names}
 use Rattle.model.proofs.Processes.StateTree.{few as all-few}
@@ -264,8 +264,8 @@ module _ (b : Composition) (s : State) (e : ready b s ≡ true) (vw : View b s) 
       → Goes b s (vw .next (withContents (vw .core) (unfolds side a ρ β (withParticles (vw .core .contents) p0))) (vw .left)) tau who
   grown-goes {who} {σ} {a} si ρ nm sz vs ft β lb p0 wp few mv = record {
     R = restrict (newOf b s) (fill (confOf b s .boxes) (at (mv .J)));
-    step = subst (λ (P : Proc Mark []). Trans (knownOf s) P tau who (restrict (newOf b s) (fill (confOf b s .boxes) (at (mv .J))))) (sym (process-is b s))
-        (under-news (newOf b s) (knownOf s) (good-all b s e) (fn-all b s e) (no-names (newOf b s)) (mv .step));
+    step = subst (λ (P : Proc Mark []). Trans (knownAll s) P tau who (restrict (newOf b s) (fill (confOf b s .boxes) (at (mv .J))))) (sym (process-is b s))
+        (under-news (newOf b s) (knownAll s) (good-all b s e) (fn-all b s e) (no-names (newOf b s)) (mv .step));
     to = subst₂ (λ (P Q : Proc (Unit {0}) []). P ≋ Q) (sym (plain-items b s (mv .J))) (sym (plain-process b s'))
         (trans (in-news (newOf b s) (bag-fill (rplaces forget (confOf b s .boxes)) (mv .bag))) (grown-cong [] tt (λ k. refl) si ρ nm sz vs ft β lb p0 wp few));
   }

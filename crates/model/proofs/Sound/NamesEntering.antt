@@ -5,7 +5,7 @@ use mathlib.Core.List.{List, [], _∷_, map}
 use mathlib.Core.Logic.{⊎-elim}
 use Prim.Native.Nat.{ℕ, _<_, _≤_}
 use native.Mathlib.Omega.{arith}
-use borrow.Author.Tests.{leb-true, eqb-true, eq-eqb}
+use borrow.Author.Tests.{eqb-true, eq-eqb}
 use lib.Dec.{eqb, T}
 use Rattle.calculus.specs.Transitions.{mem, names, Out∉}
 use Rattle.calculus.proofs.Restriction.{Eachn}
@@ -16,15 +16,12 @@ use Rattle.model.specs.Side.{State, side}
 use Rattle.model.specs.Load.{Composition, wrapperOf}
 use Rattle.model.specs.Step.{known}
 use Rattle.model.specs.Process.{valOf, keep, newOf, mintedOf, ownName}
-use Rattle.model.proofs.Basics.Tests.{fst, snd, alt}
+use Rattle.model.proofs.Basics.Tests.{alt}
 use Rattle.model.proofs.Processes.ValueWords.{worded, val-written, names-words}
-use Rattle.model.proofs.Processes.KnownNames.{is-true, out-of, own-low, minted-high, keep-out}
-use Rattle.model.proofs.Sound.NamesLeaving.{minted-is, no-word}
+use Rattle.model.proofs.Basics.Names.{minted-range}
+use Rattle.model.proofs.Processes.KnownNames.{every-mem, is-true, out-of, own-low, minted-high, minted-is, keep-out}
+use Rattle.model.proofs.Sound.NamesLeaving.{no-word}
 use Rattle.calculus.proofs.Parallels.{T-true}
-
-pub every-mem : (f : ℕ → Bool) (ws : List ℕ) (x : ℕ) → every f ws ≡ true → T (mem x ws) → f x ≡ true
-every-mem f [] x h m = absurd m
-every-mem f (w ∷ ws) x h m = ⊎-elim (λ a. subst (λ (z : ℕ). f z ≡ true) (sym (eqb-true x w (T-true (eqb x w) a))) (fst _ _ h)) (λ a. every-mem f ws x (snd _ _ h) a) (or-cases (eqb x w) (mem x ws) m)
 
 pub eachn-of : (L N : List ℕ) → ((x : ℕ) → T (mem x N) → Out∉ L x) → Eachn (Out∉ L) N
 eachn-of L [] h = tt
@@ -42,11 +39,10 @@ module _ (b : Composition) (s : State) (few : (n : ℕ) → side s n .core .cont
   no-minted : (x : ℕ) → T (mem x (mintedOf s)) → not (known s x) ≡ true → T (mem x (y ∷ names (valOf ws))) → ⊥
   no-minted x i n m =
       let h = minted-high b s x i in let mi = minted-is s few x i in
+      let may : x < 4000000 → T (mem x (names (valOf ws))) → not (isMinted x) or known s x ≡ true = λ l a. every-mem (λ x. not (isMinted x) or known s x) ws x kv (in-words x l a) in
       ⊎-elim (λ a. let q = eqb-true x y (T-true (eqb x y) a) in omega arith)
-      (λ a. ⊎-elim (λ p. false≢true (sym (ap not mi) ∙ p)) (λ p. false≢true (sym (ap not p) ∙ n)) (alt _ _ (every-mem (λ x. not (isMinted x) or known s x) ws x kv (in-words x (high mi) a)))) (or-cases (eqb x y) (mem x (names (valOf ws))) m)
-    where
-      high : isMinted x ≡ true → x < 4000000
-      high mi = ⊎-elim (λ a. let q = leb-true x 65791 (snd _ _ a) in omega arith) (λ a. let q = leb-true x 131327 (snd _ _ a) in omega arith) (alt _ _ mi)
+      (λ a. ⊎-elim (λ p. false≢true (sym (ap not mi) ∙ p)) (λ p. false≢true (sym (ap not p) ∙ n)) (alt _ _ (may (omega (arith, minted-range x mi .1)) a)))
+      (or-cases (eqb x y) (mem x (names (valOf ws))) m)
 
   pub enter-fresh : Eachn (Out∉ (y ∷ names (valOf ws))) (newOf b s)
   unfolding newOf

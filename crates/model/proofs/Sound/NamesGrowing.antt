@@ -1,59 +1,59 @@
 -- The names known outside after a step: those before it, and those of its label.
 use mathlib.Core.Path.{_≡_, refl, sym, ap, _∙_, subst}
 use mathlib.Core.Bool.{Bool, true, false, not, _||_, false≢true}
-use mathlib.Core.List.{List, [], _∷_}
+use mathlib.Core.List.{List, [], _∷_, _++_}
 use mathlib.Core.Logic.{_⊎_, inl, inr, ⊎-elim}
-use Prim.Native.Nat.{ℕ, _<_, _≤_}
+use Prim.Native.Nat.{ℕ, _<_}
 use native.Mathlib.Omega.{arith}
 use borrow.Author.Tests.{leb-true, eqb-true, eq-eqb, not-false}
 use lib.Dec.{eqb, T}
 use Rattle.calculus.specs.Syntax.{Val, Tag, plain, parent}
-use Rattle.calculus.specs.Transitions.{Label, send, recv, In, mem, names, lnames}
+use Rattle.calculus.specs.Transitions.{Label, tau, send, recv, In, mem, names, lnames}
 use Rattle.model.specs.Basics.{_or_, Res, refuse, done}
-use Rattle.model.specs.Values.{isMinted}
+use Rattle.model.specs.Values.{isMinted, isOutside}
 use Rattle.model.specs.Wrapper.{hasSide}
 use Rattle.model.specs.Side.{State, side, putSide}
 use Rattle.model.specs.Load.{Composition, wrapperOf}
-use Rattle.model.specs.WellFormed.{held, ready}
+use Rattle.model.specs.WellFormed.{counts, ready}
 use Rattle.model.specs.Step.{Step, Moved, silent, enters, leaves, logs, labelled, answerOf, sideAfter, marks, markAll, marked, known, enter, local, step}
 use Rattle.model.specs.Step.{Label as SLabel}
-use Rattle.model.specs.Process.{vwords, upto, keep, mintedOf, knownOf}
-use Rattle.model.specs.Agreement.{foreign, someName, enterable, Asks, asks-in, Sound, SoundAt, NamesGrow}
-use Rattle.calculus.proofs.FreeNames.{mem-right, or-right, or-cases}
+use Rattle.model.specs.Process.{vwords, knownOf}
+use Rattle.model.specs.Agreement.{foreign, someName, enterable, Asks, asks-in, outsideIn, NamesGrow}
+use Rattle.calculus.proofs.FreeNames.{mem-left, mem-right, mem-cases, or-right, or-cases}
 use Rattle.calculus.proofs.Parallels.{T-true}
-use Rattle.model.proofs.Basics.Tests.{fst, snd, alt, has-every, need-done, choose-done, or-cases as bool-cases, or-right as bool-right}
+use Rattle.model.proofs.Basics.Tests.{alt, has-every, need-done, choose-done, or-cases as bool-cases, or-right as bool-right}
 use Rattle.model.proofs.Formed.Keeping.{isLog}
 use Rattle.model.proofs.Formed.Invariant.{settled-done, which, copies-log, known-held, keeps}
 use Rattle.model.proofs.Independent.Independence.{left-size, moved, step-has, step-lacks}
-use Rattle.model.proofs.Processes.KnownNames.{is-true, keep-in, held-minted, low-known, known-where}
+use Rattle.model.proofs.Processes.KnownNames.{is-true, every-mem, keep-in, keep-out, KnownBy, is-low, is-brought, has-left, known-by, by-known, minted-is, held-minted}
 use Rattle.model.proofs.Processes.StateTree.{few, inlet-low, outlet-low}
-use Rattle.model.proofs.Sound.NamesLeaving.{minted-is, marked-all}
-use Rattle.model.proofs.Sound.NamesEntering.{every-mem}
+use Rattle.model.proofs.Sound.NamesLeaving.{marked-all}
+use Rattle.model.proofs.Basics.Names.{minted-range, held-below}
 use Rattle.model.proofs.Processes.ValueWords.{names-words}
-use Rattle.model.proofs.Sound.Labels.{SaysInv, says-inv, T-not}
-use Rattle.model.proofs.Sound.AskedValues.{enterable-name}
+use Rattle.model.proofs.Sound.Labels.{SaysInv, says-inv, T-not, enterable-is}
 use Rattle.model.proofs.Sound.SideViews.{put-one, put-or, pos, lt}
-use Rattle.model.proofs.Sound.Sound.{sound}
+use Rattle.model.proofs.Sound.Sound.{asks-of}
 
--- a name known outside is low, or minted and marked as left
-abbrev Outside : State → ℕ → Type 0
-Outside s z = (z < 81) ⊎ ((isMinted z ≡ true) × (known s z ≡ true))
+-- a name known outside is low, brought, or minted and marked as left
+data Knows (X : List ℕ) (s : State) (z : ℕ) : Type 0 where
+  low : z < 81 → Knows X s z
+  brought : In X z → Knows X s z
+  left : isMinted z ≡ true → known s z ≡ true → Knows X s z
 
-minted-range : (z : ℕ) → isMinted z ≡ true → (64 ≤ z) × (z < 4000000)
-minted-range z m = ⊎-elim
-    (λ a. let l = leb-true 65536 z (fst _ _ a) in let u = leb-true z 65791 (snd _ _ a) in (omega arith, omega arith))
-    (λ a. let l = leb-true 131072 z (fst _ _ a) in let u = leb-true z 131327 (snd _ _ a) in (omega arith, omega arith)) (alt _ _ m)
+knows-of : (b : Composition) (s : State) → ready b s ≡ true → (X : List ℕ) (z : ℕ) → In (knownOf X s) z → Knows X s z
+knows-of b s e X z h = go (known-by X s z h)
+  where
+    go : KnownBy X s z → Knows X s z
+    go (is-low l) = low l
+    go (is-brought i) = brought i
+    go (has-left i k) = left (minted-is s (few b s e) z i) k
 
-outside-of : (b : Composition) (s : State) → ready b s ≡ true → (z : ℕ) → In (knownOf s) z → Outside s z
-outside-of b s e z h = ⊎-elim (λ l. inl l) (λ r. inr (minted-is s (few b s e) z (r .0), r .1)) (known-where b s z h)
+of-knows : (b : Composition) (s : State) → ready b s ≡ true → (X : List ℕ) (z : ℕ) → Knows X s z → In (knownOf X s) z
+of-knows b s e X z (low l) = by-known X s z (is-low l)
+of-knows b s e X z (brought i) = by-known X s z (is-brought i)
+of-knows b s e X z (left m k) = by-known X s z (has-left (held-minted b s z (held-below (counts s) z m (known-held b s e z k m))) k)
 
-known-of : (b : Composition) (s : State) → ready b s ≡ true → (z : ℕ) → Outside s z → In (knownOf s) z
-unfolding knownOf held
-known-of b s e z (inl l) = low-known b s z l
-known-of b s e z (inr r) = mem-right z (upto 81 (λ i. i)) (keep (known s) (mintedOf s)) (keep-in (known s) (mintedOf s) z
-    (⊎-elim (λ q. absurd (let p = leb-true z 63 q in omega (arith, minted-range z (r .0) .0))) (λ q. held-minted b s z q) (alt _ _ (known-held b s e z (r .1) (r .0)))) (r .1))
-
--- a name of a label's value is low or minted
+-- a name of a label's value is low, from outside or minted
 some-none : (f : ℕ → Bool) (l : List ℕ) → someName f l ≡ false → (z : ℕ) → In l z → f z ≡ false
 some-none f [] h z i = absurd i
 some-none f (x ∷ l) h z i = ⊎-elim (λ q. ap f (eqb-true z x (T-true _ q)) ∙ fails (f x) (someName f l) h .0) (λ q. some-none f l (fails (f x) (someName f l) h .1) z q) (or-cases (eqb z x) (mem z l) i)
@@ -62,8 +62,10 @@ some-none f (x ∷ l) h z i = ⊎-elim (λ q. ap f (eqb-true z x (T-true _ q)) �
     fails true c e = absurd (false≢true (sym e))
     fails false c e = (refl, e)
 
-label-name : (u : Val ℕ) → T (not (foreign u)) → (z : ℕ) → In (names u) z → (z < 81) ⊎ (isMinted z ≡ true)
-label-name u h z i = ⊎-elim (λ p. inl (let l = leb-true z 63 p in omega arith)) (λ m. inr m) (alt _ _ (enterable-name z (not-false (enterable z) (some-none (λ n. not (enterable n)) (names u) (T-not (foreign u) h) z i))))
+label-name : (u : Val ℕ) → T (not (foreign u)) → (z : ℕ) → In (names u) z → (z < 81) ⊎ ((isMinted z ≡ true) ⊎ (isOutside z ≡ true))
+label-name u h z i =
+    let e = not-false (enterable z) (some-none (λ n. not (enterable n)) (names u) (T-not (foreign u) h) z i) in
+    ⊎-elim (λ p. inl (let l = leb-true z 63 p in omega arith)) (λ p. inr (alt _ _ p)) (alt _ _ (sym (enterable-is z) ∙ e))
 
 -- a label with which names leave
 abbrev Leaves : SLabel → Type 0
@@ -118,63 +120,83 @@ module _ (b : Composition) (s : State) (e : ready b s ≡ true) (k : Step) (h : 
           let c = need-done _ _ _ _ (a .1) in
           ⊎-elim (λ p. absurd (false≢true (sym (ap not mi) ∙ p))) (λ p. p) (alt _ _ (every-mem (λ w. not (isMinted w) or known s w) (k .words) z (c .0) i))
 
-  -- a label, by the result
-  abbrev Grows : State → Label → Type 0
-  Grows t l = (z : ℕ) → (In (knownOf t) z → In (knownOf s) z ⊎ In (lnames l) z) × (In (knownOf s) z ⊎ In (lnames l) z → In (knownOf t) z)
+  -- what has to be known of a label l that leads to a state t: what t marks as left was marked or is in l, what was marked still is, and
+  -- a name of l is low, from outside, or marked in t
+  module _ (t : State) (r : ready b t ≡ true) (l : Label) (X : List ℕ) where
+    abbrev Grows : Type 0
+    Grows = (z : ℕ) → (In (knownOf (outsideIn l ++ X) t) z → In (knownOf X s) z ⊎ In (lnames l) z) × (In (knownOf X s) z ⊎ In (lnames l) z → In (knownOf (outsideIn l ++ X) t) z)
 
-  same-known : (t : State) → ready b t ≡ true → ((z : ℕ) → known t z ≡ known s z) → (l : Label) → ((z : ℕ) → In (lnames l) z → In (knownOf s) z) → Grows t l
-  same-known t r q l sub z = (λ i. inl (into s e t r (λ z. sym (q z)) z i), ⊎-elim (into t r s e q z) (λ i. into t r s e q z (sub z i)))
-    where
-      into : (x : State) → ready b x ≡ true → (y : State) → ready b y ≡ true → ((z : ℕ) → known x z ≡ known y z) → (z : ℕ) → In (knownOf y) z → In (knownOf x) z
-      into x ex y ey p z i = known-of b x ex z (⊎-elim (λ l. inl l) (λ r. inr (r .0, p z ∙ r .1)) (outside-of b y ey z i))
+    abbrev Named : ℕ → Type 0
+    Named z = (z < 81) ⊎ (((isMinted z ≡ true) × (known t z ≡ true)) ⊎ (isOutside z ≡ true))
+
+    grows : ((z : ℕ) → isMinted z ≡ true → known t z ≡ true → (known s z ≡ true) ⊎ In (lnames l) z) → ((z : ℕ) → isMinted z ≡ true → known s z ≡ true → known t z ≡ true)
+        → ((z : ℕ) → In (lnames l) z → Named z) → Grows
+    grows fewer more named z = (λ i. out-of-t (knows-of b t r (outsideIn l ++ X) z i), ⊎-elim (λ i. into-t (knows-of b s e X z i)) (λ i. by-name i (named z i)))
+      where
+        out-of-t : Knows (outsideIn l ++ X) t z → In (knownOf X s) z ⊎ In (lnames l) z
+        out-of-t (low p) = inl (of-knows b s e X z (low p))
+        out-of-t (brought i) = ⊎-elim (λ p. inr (keep-out isOutside (lnames l) z p .0)) (λ p. inl (of-knows b s e X z (brought p))) (mem-cases z (outsideIn l) X i)
+        out-of-t (left m k) = ⊎-elim (λ p. inl (of-knows b s e X z (left m p))) (λ p. inr p) (fewer z m k)
+
+        into-t : Knows X s z → In (knownOf (outsideIn l ++ X) t) z
+        into-t (low p) = of-knows b t r (outsideIn l ++ X) z (low p)
+        into-t (brought i) = of-knows b t r (outsideIn l ++ X) z (brought (mem-right z (outsideIn l) X i))
+        into-t (left m k) = of-knows b t r (outsideIn l ++ X) z (left m (more z m k))
+
+        by-name : In (lnames l) z → Named z → In (knownOf (outsideIn l ++ X) t) z
+        by-name i (inl p) = of-knows b t r (outsideIn l ++ X) z (low p)
+        by-name i (inr (inl p)) = of-knows b t r (outsideIn l ++ X) z (left (p .0) (p .1))
+        by-name i (inr (inr o)) = of-knows b t r (outsideIn l ++ X) z (brought (mem-left z (outsideIn l) X (keep-in isOutside (lnames l) z i o)))
+
+  -- the names of a label on channel x with value u: x is low, and those of u are low, from outside, or minted, and then marked
+  named-by : (t : State) (x : ℕ) (u : Val ℕ) → x < 81 → T (not (foreign u)) → ((z : ℕ) → In (names u) z → isMinted z ≡ true → known t z ≡ true) → (z : ℕ) → In (x ∷ names u) z →
+      (z < 81) ⊎ (((isMinted z ≡ true) × (known t z ≡ true)) ⊎ (isOutside z ≡ true))
+  named-by t x u l f k z i = ⊎-elim (λ p. inl (let q = eqb-true z x (T-true _ p) in omega arith))
+      (λ p. ⊎-elim (λ q. inl q) (λ q. inr (⊎-elim (λ m. inl (m, k z p m)) (λ o. inr o) q)) (label-name u f z p))
+      (or-cases (eqb z x) (mem z (names u)) i)
 
   -- a label with which names leave, on channel x with value u
-  module _ (m : Moved) (r : ready b (after m) ≡ true) (ey : Leaves (m .label)) (u : Val ℕ) (words : m .val ≡ vwords u) (x : ℕ) (low : x < 81) where
+  module _ (m : Moved) (r : ready b (after m) ≡ true) (ey : Leaves (m .label)) (u : Val ℕ) (words : m .val ≡ vwords u) (x : ℕ) (lx : x < 81) (X : List ℕ) where
     in-val : (z : ℕ) → isMinted z ≡ true → mem z (m .val) ≡ mem z (names u)
-    in-val z mi = ap (mem z) words ∙ sym (names-words z (minted-range z mi .1) u)
+    in-val z mi = ap (mem z) words ∙ sym (names-words z (let q = minted-range z mi .1 in omega arith) u)
 
-    out-of-left : (z : ℕ) → In (knownOf (after m)) z → In (knownOf s) z ⊎ In (x ∷ names u) z
-    out-of-left z i = ⊎-elim (λ w. inl (low-known b s z w)) by-mark (outside-of b (after m) r z i)
-      where
-        by-mark : (isMinted z ≡ true) × (known (after m) z ≡ true) → In (knownOf s) z ⊎ In (x ∷ names u) z
-        by-mark w = ⊎-elim (λ p. inl (known-of b s e z (inr (w .0, p)))) (λ p. inr (or-right (eqb z x) (mem z (names u)) (is-true _ (sym (in-val z (w .0)) ∙ p))))
-            (bool-cases (known s z) (mem z (m .val)) (sym (marks-more m ey z (w .0)) ∙ w .1))
+    by-left : T (not (foreign u)) → (l : Label) → l ≡ send x (plain parent) u → Grows (after m) r l X
+    by-left f l q = subst (λ (y : Label). Grows (after m) r y X) (sym q) (grows (after m) r (send x (plain parent) u) X
+        (λ z mi k. ⊎-elim (λ p. inl p) (λ p. inr (or-right (eqb z x) (mem z (names u)) (is-true _ (sym (in-val z mi) ∙ p)))) (bool-cases (known s z) (mem z (m .val)) (sym (marks-more m ey z mi) ∙ k)))
+        (λ z mi k. marks-more m ey z mi ∙ ap (λ (t : Bool). t || mem z (m .val)) k)
+        (named-by (after m) x u lx f (λ z i mi. marks-more m ey z mi ∙ bool-right (known s z) (mem z (m .val)) (in-val z mi ∙ T-true _ i))))
 
-    into-left : T (not (foreign u)) → (z : ℕ) → In (knownOf s) z ⊎ In (x ∷ names u) z → In (knownOf (after m)) z
-    into-left f z (inl i) = known-of b (after m) r z (⊎-elim (λ w. inl w) (λ w. inr (w .0, marks-more m ey z (w .0) ∙ ap (λ (t : Bool). t || mem z (m .val)) (w .1))) (outside-of b s e z i))
-    into-left f z (inr i) = ⊎-elim (λ p. subst (In (knownOf (after m))) (sym (eqb-true z x (T-true _ p))) (low-known b (after m) x low))
-        (λ p. known-of b (after m) r z (⊎-elim (λ w. inl w) (λ mi. inr (mi, marks-more m ey z mi ∙ bool-right (known s z) (mem z (m .val)) (in-val z mi ∙ T-true _ p))) (label-name u f z p)))
-        (or-cases (eqb z x) (mem z (names u)) i)
-
-    by-left : T (not (foreign u)) → (l : Label) → l ≡ send x (plain parent) u → Grows (after m) l
-    by-left f l q = subst (Grows (after m)) (sym q) (λ z. (out-of-left z, into-left f z))
-
-  by-label : (m : Moved) → moved b s k ≡ done m → (l : Label) → Asks k l → ready b (after m) ≡ true → (y : SLabel) → m .label ≡ y → SaysInv (wrapperOf b) (labelled y n (m .val)) l → Grows (after m) l
-  by-label m q l ask r silent ey sy = same-known (after m) r (still m (λ z. subst Leaves ey z)) l (λ z i. absurd (subst (λ (y : Label). In (lnames y) z) sy i))
-  by-label m q l ask r enters ey sy =
-      same-known (after m) r (still m (λ z. subst Leaves ey z)) l (λ z i. ⊎-elim
-      (λ p. subst (In (knownOf s)) (sym (eqb-true z _ (T-true _ p))) (low-known b s _ (inlet-low b s e n h)))
-      (λ p. known-of b s e z (⊎-elim (λ w. inl w) (λ mi. inr (mi, by-words z p mi)) (label-name (sy .0) (sy .2) z p)))
-      (or-cases (eqb z (wrapperOf b .inlet n)) (mem z (names (sy .0))) (subst (λ (y : Label). In (lnames y) z) (sy .3) i)))
+  by-label : (X : List ℕ) (m : Moved) → moved b s k ≡ done m → (l : Label) → Asks k l → (r : ready b (after m) ≡ true) → (y : SLabel) → m .label ≡ y → SaysInv (wrapperOf b) (labelled y n (m .val)) l → Grows (after m) r l X
+  by-label X m q l ask r silent ey sy = subst (λ (y : Label). Grows (after m) r y X) (sym sy)
+      (grows (after m) r tau X (λ z mi k. inl (sym (still m (λ c. subst Leaves ey c) z) ∙ k)) (λ z mi k. still m (λ c. subst Leaves ey c) z ∙ k) (λ z i. absurd i))
+  by-label X m q l ask r enters ey sy = subst (λ (y : Label). Grows (after m) r y X) (sym (sy .3))
+      (grows (after m) r (recv (wrapperOf b .inlet n) (plain parent) (sy .0)) X (λ z mi k. inl (sym (same z) ∙ k)) (λ z mi k. same z ∙ k)
+      (named-by (after m) _ (sy .0) (inlet-low b s e n h) (sy .2) (λ z i mi. same z ∙ by-words z i mi)))
     where
+      same : (z : ℕ) → known (after m) z ≡ known s z
+      same = still m (λ c. subst Leaves ey c)
+
       by-words : (z : ℕ) → In (names (sy .0)) z → isMinted z ≡ true → known s z ≡ true
       by-words z i mi =
           let a = asked (subst (Asks k) (sy .3) ask) in
-          entered-known m q (a .0) z (subst T (names-words z (minted-range z mi .1) (sy .0) ∙ ap (mem z) (sym (a .1))) i) mi
-  by-label m q l ask r leaves ey sy = by-left m r (subst Leaves (sym ey) tt) (sy .0) (sy .1) _ (outlet-low b s e n h) (sy .2) l (sy .3)
-  by-label m q l ask r logs ey (u, p, f, (x, y, z)) =
+          entered-known m q (a .0) z (subst T (names-words z (let q = minted-range z mi .1 in omega arith) (sy .0) ∙ ap (mem z) (sym (a .1))) i) mi
+  by-label X m q l ask r leaves ey sy = by-left m r (subst Leaves (sym ey) tt) (sy .0) (sy .1) _ (outlet-low b s e n h) X (sy .2) l (sy .3)
+  by-label X m q l ask r logs ey (u, p, f, (x, y, z)) =
       let x3 = eqb-true x 3 (has-every isLog (wrapperOf b .copies) x (copies-log (b .wrapper)) y) in
-      by-left m r (subst Leaves (sym ey) tt) u p x (omega arith) f l z
+      by-left m r (subst Leaves (sym ey) tt) u p x (omega arith) X f l z
 
 pub names-grow : NamesGrow
-unfolding NamesGrow Sound SoundAt
-names-grow b s k l e sy z = go (hasSide (wrapperOf b) (k .side)) refl
+unfolding NamesGrow
+names-grow b s X k l e sy z = go (hasSide (wrapperOf b) (k .side)) refl
   where
-    go : (t : Bool) → hasSide (wrapperOf b) (k .side) ≡ t → (In (knownOf (step b s k .after)) z → In (knownOf s) z ⊎ In (lnames l) z) × (In (knownOf s) z ⊎ In (lnames l) z → In (knownOf (step b s k .after)) z)
+    Grown : State → Type 0
+    Grown t = (In (knownOf (outsideIn l ++ X) t) z → In (knownOf X s) z ⊎ In (lnames l) z) × (In (knownOf X s) z ⊎ In (lnames l) z → In (knownOf (outsideIn l ++ X) t) z)
+
+    go : (t : Bool) → hasSide (wrapperOf b) (k .side) ≡ t → Grown (step b s k .after)
     go false h = absurd (rw (step-lacks b s k e h) at (says-inv sy))
     go true h = rw (step-has b s k e h) (by-result (moved b s k) refl (rw (step-has b s k e h) at (says-inv sy)) (rw (step-has b s k e h) at (keeps b s k e)))
       where
         by-result : (r : Res Moved) → moved b s k ≡ r → SaysInv (wrapperOf b) (answerOf (k .side) r) l → ready b (putSide s (k .side) (sideAfter (side s (k .side)) r)) ≡ true
-            → (In (knownOf (putSide s (k .side) (sideAfter (side s (k .side)) r))) z → In (knownOf s) z ⊎ In (lnames l) z) × (In (knownOf s) z ⊎ In (lnames l) z → In (knownOf (putSide s (k .side) (sideAfter (side s (k .side)) r))) z)
+            → Grown (putSide s (k .side) (sideAfter (side s (k .side)) r))
         by-result (refuse c) q si r = absurd si
-        by-result (done m) q si r = by-label b s e k h m q l (sound b s k e .1 l sy .2) r (m .label) refl si z
+        by-result (done m) q si r = by-label b s e k h X m q l (asks-of b s e k l sy) r (m .label) refl si z

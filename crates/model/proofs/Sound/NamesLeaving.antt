@@ -13,15 +13,15 @@ use Rattle.calculus.specs.Transitions.{mem, names}
 use Rattle.model.specs.Basics.{_&_, done, every}
 use Rattle.model.specs.Values.{isMinted, isName, items}
 use Rattle.model.specs.Side.{State, side}
-use Rattle.model.specs.Wrapper.{allSides}
 use Rattle.model.specs.Load.{Composition, wrapperOf}
 use Rattle.model.specs.Step.{known, marked, markOf, mark1, markAll}
-use Rattle.model.specs.Process.{upto, mintOf, keep, mintedOf, ownName, newOf, valOf}
+use Rattle.model.specs.Process.{keep, mintedOf, ownName, newOf, valOf}
 use Rattle.calculus.proofs.Restriction.{minus}
 use Rattle.calculus.proofs.FreeNames.{or-cases, or-left, or-right}
 use Rattle.model.proofs.Basics.Tests.{fst, snd, alt}
-use Rattle.model.proofs.Processes.KnownNames.{is-true, out-of, upto-out, by-out, own-low, minted-high}
-use Rattle.model.proofs.Formed.MeetingKeeps.{minted-number}
+use Rattle.model.proofs.Processes.KnownNames.{is-true, out-of, own-low, minted-high, minted-is}
+use Rattle.model.proofs.Basics.Names.{minted-range, outside-range}
+use Rattle.model.proofs.Independent.Independence.{minted-place}
 use Rattle.model.proofs.Processes.ValueWords.{worded, val-written, names-words}
 use Rattle.model.proofs.Formed.Invariant.{mark1-size}
 
@@ -59,11 +59,6 @@ place-own x w p q e = ⊎-elim
         let b1 = b .1 in
         omega arith
 
-place-low : (x : ℕ) → isMinted x ≡ true → markOf x < 512
-place-low x p = ⊎-elim
-    (λ a. let a0 = leb-true 65536 x (fst _ _ a) in let a1 = leb-true x 65791 (snd _ _ a) in omega arith)
-    (λ a. let a0 = leb-true 131072 x (fst _ _ a) in let a1 = leb-true x 131327 (snd _ _ a) in omega arith) (alt _ _ p)
-
 marked-one : (l : List Bool) (w x : ℕ) → length l ≡ 512 → isMinted x ≡ true → marked (mark1 l w) x ≡ marked l x || eqb x w
 unfolding mark1
 marked-one l w x n p = go (isMinted w) refl (eqb x w) refl
@@ -78,7 +73,7 @@ marked-one l w x n p = go (isMinted w) refl (eqb x w) refl
 
     go : (b : Bool) → isMinted w ≡ b → (c : Bool) → eqb x w ≡ c → marked (cond b (set l (markOf w) true) l) x ≡ marked l x || c
     go true q true r = let e = eqb-true x w r in
-        subst (λ (y : ℕ). getD (set l (markOf y) true) (markOf x) false ≡ getD l (markOf x) false || true) e (getD-set-same l (markOf x) true false (omega (arith, place-low x p)) ∙ sym (or-true (marked l x)))
+        subst (λ (y : ℕ). getD (set l (markOf y) true) (markOf x) false ≡ getD l (markOf x) false || true) e (getD-set-same l (markOf x) true false (omega (arith, minted-place x p)) ∙ sym (or-true (marked l x)))
     go true q false r = getD-set-other l (markOf w) (markOf x) true false (λ z. eqb-false x w r (place-own x w p q z)) ∙ sym (or-false (marked l x))
     go false q true r = absurd (false≢true (sym q ∙ subst (λ (y : ℕ). isMinted y ≡ true) (eqb-true x w r) p))
     go false q false r = sym (or-false (marked l x))
@@ -116,18 +111,11 @@ keep-minus f g (x ∷ M) L h = go (f x) (mem x L) refl (h x (or-left (eqb x x) (
     go true false q e r = ap (λ (t : Bool). cond t (x ∷ keep g M) (keep g M)) e ∙ ap (λ (l : List ℕ). x ∷ l) r ∙ sym (ap (λ (t : Bool). cond t (minus (keep f M) L) (x ∷ minus (keep f M) L)) q)
     go false b q e r = ap (λ (t : Bool). cond t (x ∷ keep g M) (keep g M)) e ∙ r
 
--- what a state with these counts has minted are numbers of minted names
-pub minted-is : (s : State) → ((n : ℕ) → side s n .core .contents .minted ≤ 256) → (x : ℕ) → T (mem x (mintedOf s)) → isMinted x ≡ true
-minted-is s few x h =
-    let r = by-out (λ n. upto (side s n .core .contents .minted) (mintOf n)) allSides x h in
-    let t = upto-out (side s (r .0) .core .contents .minted) (mintOf (r .0)) x (r .2) in
-    subst (λ (z : ℕ). isMinted z ≡ true) (sym (t .2)) (minted-number (r .0) (t .0) (r .1) (omega (arith, few (r .0), t .1)) .0)
-
 -- a name of the wrapper's own stands in no value
 pub no-word : (x : ℕ) → 64 ≤ x → x < 65536 → worded x ≡ true → ⊥
 no-word x l u h = ⊎-elim
-    (λ p. ⊎-elim (λ q. let z = leb-true x 63 q in omega arith)
-    (λ q. ⊎-elim (λ r. let z = leb-true 65536 x (fst _ _ r) in omega arith) (λ r. let z = leb-true 131072 x (fst _ _ r) in omega arith) (alt _ _ q)) (alt _ _ p)) (λ p. let z = leb-true 4000000 x (fst _ _ p) in omega arith) (alt _ _ h)
+    (λ p. ⊎-elim (λ q. let z = leb-true x 63 q in omega arith) (λ q. ⊎-elim (λ r. omega (arith, minted-range x r .0)) (λ r. omega (arith, outside-range x r .0)) (alt _ _ q)) (alt _ _ p))
+    (λ p. let z = leb-true 4000000 x (fst _ _ p) in omega arith) (alt _ _ h)
 
 -- the new names after a value has left
 pub new-left : (b : Composition) (s s' : State) (y : ℕ) (v : List ℕ) → ((n : ℕ) → side s n .core .contents .minted ≤ 256) → y < 81 → items isName 11 v 1 ≡ done [] → every worded v ≡ true
@@ -165,4 +153,4 @@ new-left b s s' y v few ly iv hv em hk =
         nor false c = refl
 
         high : (x : ℕ) → T (mem x (mintedOf s)) → x < 4000000
-        high x m = ⊎-elim (λ a. let q = leb-true x 65791 (snd _ _ a) in omega arith) (λ a. let q = leb-true x 131327 (snd _ _ a) in omega arith) (alt _ _ (minted-is s few x m))
+        high x m = omega (arith, minted-range x (minted-is s few x m) .1)

@@ -16,7 +16,7 @@ use Rattle.calculus.specs.Tree.{Item}
 use Rattle.model.specs.Basics.{_or_, done, has, remove}
 use Rattle.model.specs.Values.{isValue, items}
 use Rattle.model.specs.Side.{Message, Core, State, down, leaving, limits}
-use Rattle.model.specs.Wrapper.{Route, shelves}
+use Rattle.model.specs.Wrapper.{Route}
 use Rattle.model.specs.Load.{Composition, Setting, wrapperOf}
 use Rattle.model.specs.WellFormed.{counts, shelfOf, wfMessage, wfValue, ready}
 use Rattle.model.specs.Step.{Step, Moved, silent, leaves, logs, leavingOn, isLeaving, copied, labelled, marks, markAll, known, local, routeTo, takes, inner, meet, enter}

@@ -1,20 +1,24 @@
 -- Demand 2, first half: a labelled step is a transition at its place, and leads where the bench goes.
-use mathlib.Core.Path.{_≡_, refl, sym, _∙_, subst}
+use mathlib.Core.Path.{_≡_, refl, sym, _∙_, subst, transport}
 use mathlib.Core.Bool.{Bool, true, false}
 use mathlib.Core.List.{[]}
 use Prim.Native.Nat.{ℕ}
 use native.Mathlib.Omega.{arith}
 use borrow.Author.Tests.{not-true}
-use Rattle.calculus.specs.Transitions.{Label, tau, Participants, joint}
+use Rattle.calculus.specs.Transitions.{Label, tau, Participants, joint, In, Fn⊆}
+use Rattle.calculus.specs.Tree.{process}
 use Rattle.model.specs.Basics.{Res, refuse, done}
 use Rattle.model.specs.Wrapper.{Route, hasSide}
 use Rattle.model.specs.Side.{State, side, putSide, hasTaken}
 use Rattle.model.specs.Load.{Composition, wrapperOf, setting}
 use Rattle.model.specs.WellFormed.{counts, shelfOf, ready}
 use Rattle.model.specs.Step.{Step, Moved, labelled, Result, settled, local, routeTo, takes, known, step, answerOf, sideAfter}
-use Rattle.model.specs.Process.{Mark, shelf, taker}
+use Rattle.model.specs.Process.{Mark, shelf, taker, confOf, knownOf}
 use Rattle.model.specs.Agreement.{At, Asks, asks-tau, Says, IsLabelled, SoundAt, Sound, answerSide}
+use Rattle.calculus.proofs.Marks.{remark-all}
+use Rattle.calculus.proofs.KnownNames.{strengthen}
 use Rattle.model.proofs.Basics.Tests.{need-done}
+use Rattle.model.proofs.Processes.KnownNames.{known-fewer}
 use Rattle.model.proofs.Formed.Keeping.{done-inj}
 use Rattle.model.proofs.Basics.Splits.{pick-get}
 use Rattle.model.proofs.Formed.Invariant.{settled-done, side-keeps, which, route-j}
@@ -76,13 +80,24 @@ module _ (b : Composition) (s : State) (e : ready b s ≡ true) where
   told-side k h (refuse n) q y = absurd y
   told-side k h (done m) q y = spoken-says (wrapperOf b) (k .side) (counts s) (m .label) (m .val) (side-keeps b s e (k .side) h k m q .said)
 
-  told : (k : Step) → IsLabelled (step b s k .answer) → (l : Label) × Says (wrapperOf b) (step b s k .answer) l
-  told k y = go (hasSide (wrapperOf b) (k .side)) refl
+  pub label-of : (k : Step) → IsLabelled (step b s k .answer) → (l : Label) × Says (wrapperOf b) (step b s k .answer) l
+  label-of k y = go (hasSide (wrapperOf b) (k .side)) refl
     where
       go : (t : Bool) → hasSide (wrapperOf b) (k .side) ≡ t → (l : Label) × Says (wrapperOf b) (step b s k .answer) l
       go true h = rw (step-has b s k e h) (told-side k h _ refl (rw (step-has b s k e h) at y))
       go false h = absurd (rw (step-lacks b s k e h) at y)
 
+-- the step asks for the label that it gets
+pub asks-of : (b : Composition) (s : State) → ready b s ≡ true → (k : Step) (l : Label) → Says (wrapperOf b) (step b s k .answer) l → Asks k l
+asks-of b s e k l sy = sound-res b s e k l (says-inv sy) .2
+
+-- a transition where all outside names are known is one where fewer are, as long as those of the process are among them
 pub sound : Sound
 unfolding Sound SoundAt
-sound b s k e = (told b s e k, λ l sy. (let r = sound-res b s e k l (says-inv sy) in (r .0, r .1, r .2, r .3, r .4 .R, r .4 .step, r .4 .to)))
+sound b s X k e br = (
+  label-of b s e k,
+  λ l sy.
+      let r = sound-res b s e k l (says-inv sy) in
+      let free : Fn⊆ (process (confOf b s)) (knownOf X s) = transport (sym (remark-all (λ m. tt) (process (confOf b s)) (In (knownOf X s)))) (br .free) in
+      (r .0, r .1, r .2, r .3, r .4 .R, strengthen (r .4 .step) (knownOf X s) (known-fewer X s (br .outside)) free, r .4 .to),
+)

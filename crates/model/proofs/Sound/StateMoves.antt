@@ -14,7 +14,7 @@ use Rattle.calculus.specs.Tree.{process}
 use Rattle.model.specs.Side.{State}
 use Rattle.model.specs.Load.{Composition}
 use Rattle.model.specs.WellFormed.{ready}
-use Rattle.model.specs.Process.{Mark, confAs, confOf, newOf, knownOf}
+use Rattle.model.specs.Process.{Mark, confAs, confOf, newOf}
 use Rattle.model.specs.Agreement.{plainly}
 use Rattle.calculus.proofs.Trees.{Wf}
 use Rattle.calculus.proofs.Moves.{Rooted}
@@ -23,14 +23,14 @@ use Rattle.calculus.proofs.Extrusion.{in-news}
 use Rattle.calculus.proofs.TreeMoves.{fill-fn}
 use Rattle.calculus.proofs.Restriction.{Good, Eachn, under-news, send-news, minus}
 use Rattle.calculus.proofs.Bags.{at, Bag, bag-fill, ritems, rplaces, remark-bag}
-use Rattle.model.proofs.Processes.KnownNames.{All, good}
+use Rattle.model.proofs.Processes.KnownNames.{knownAll, All, good}
 use Rattle.model.proofs.Processes.ItemFacts.{each-at}
 use Rattle.model.proofs.Processes.StateTree.{few, wf-boxes, rooted-boxes, items-each}
 use Rattle.model.proofs.Sound.ItemMoves.{ids, forget, Moves}
 
 pub record Goes (b : Composition) (s s' : State) (l : Label) (w : Participants Mark) : Type 0 where
   pub R : Proc Mark []
-  pub step : Trans (knownOf s) (process (confOf b s)) l w R
+  pub step : Trans (knownAll s) (process (confOf b s)) l w R
   pub to : plainly R ≋ plainly (process (confOf b s'))
 
 pub no-names : (N : List ℕ) → Eachn (Out∉ []) N
@@ -54,10 +54,10 @@ module _ (b : Composition) (s : State) (e : ready b s ≡ true) where
   pub fn-all : Fn⊆ (fill (confOf b s .boxes) (at (confOf b s .items))) (All b s)
   fn-all = fill-fn (All b s) (confOf b s .boxes) (at (confOf b s .items)) wf-all (each-at (All b s) (confOf b s .items) (items-each b s e ids))
 
-  pub good-all : Good (newOf b s) (knownOf s)
+  pub good-all : Good (newOf b s) (knownAll s)
   good-all = good b s (few b s e)
 
-  is-process : (s' : State) → process (confOf b s') ≡ restrict (newOf b s') (fill (confOf b s' .boxes) (at (confOf b s' .items)))
+  pub is-process : (s' : State) → process (confOf b s') ≡ restrict (newOf b s') (fill (confOf b s' .boxes) (at (confOf b s' .items)))
   unfolding process confAs
   is-process s' = refl
 
@@ -65,7 +65,7 @@ module _ (b : Composition) (s : State) (e : ready b s ≡ true) where
       → Moves (All b s) (confOf b s .boxes) (confOf b s .items) l w (ritems forget (confOf b s' .items)) → Goes b s s' l w
   goes {l} {w} s' out en eb m = record {
     R = restrict (newOf b s) (fill (confOf b s .boxes) (at (m .J)));
-    step = subst (λ (P : Proc Mark []). Trans (knownOf s) P l w (restrict (newOf b s) (fill (confOf b s .boxes) (at (m .J))))) (sym (is-process s)) (under-news (newOf b s) (knownOf s) good-all fn-all out (m .step));
+    step = subst (λ (P : Proc Mark []). Trans (knownAll s) P l w (restrict (newOf b s) (fill (confOf b s .boxes) (at (m .J))))) (sym (is-process s)) (under-news (newOf b s) (knownAll s) good-all fn-all out (m .step));
     to = subst (λ (P : Proc Mark []). plainly (restrict (newOf b s) (fill (confOf b s .boxes) (at (m .J)))) ≋ plainly P)
         (ap₂ (λ (N : List ℕ) (B : List (Place Mark)). restrict N (fill B (at (confOf b s' .items)))) (sym en) (sym eb) ∙ sym (is-process s'))
         (same-bags (newOf b s) (confOf b s .boxes) (m .J) (confOf b s' .items) (m .bag));
@@ -80,8 +80,8 @@ module _ (b : Composition) (s : State) (e : ready b s ≡ true) where
       → Moves (All b s) (confOf b s .boxes) (confOf b s .items) (send y (plain iparent) v) w (ritems forget (confOf b s' .items)) → Goes b s s' (send y (plain iparent) v) w
   goes-out {y} {v} {w} s' en eb m = record {
     R = restrict (minus (newOf b s) (y ∷ names v)) (fill (confOf b s .boxes) (at (m .J)));
-    step = subst (λ (P : Proc Mark []). Trans (knownOf s) P (send y (plain iparent) v) w (restrict (minus (newOf b s) (y ∷ names v)) (fill (confOf b s .boxes) (at (m .J))))) (sym (is-process s))
-        (send-news (newOf b s) (knownOf s) good-all fn-all (m .step));
+    step = subst (λ (P : Proc Mark []). Trans (knownAll s) P (send y (plain iparent) v) w (restrict (minus (newOf b s) (y ∷ names v)) (fill (confOf b s .boxes) (at (m .J))))) (sym (is-process s))
+        (send-news (newOf b s) (knownAll s) good-all fn-all (m .step));
     to = subst (λ (P : Proc Mark []). plainly (restrict (minus (newOf b s) (y ∷ names v)) (fill (confOf b s .boxes) (at (m .J)))) ≋ plainly P)
         (ap₂ (λ (N : List ℕ) (B : List (Place Mark)). restrict N (fill B (at (confOf b s' .items)))) (sym en) (sym eb) ∙ sym (is-process s'))
         (same-bags (minus (newOf b s) (y ∷ names v)) (confOf b s .boxes) (m .J) (confOf b s' .items) (m .bag));

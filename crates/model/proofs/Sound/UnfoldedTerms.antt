@@ -21,7 +21,8 @@ use Rattle.model.specs.Unfolding.{defined, unfolds, addParticle, addBox,
 use Rattle.model.specs.WellFormed.{Counts, held, wfValue}
 use Rattle.model.specs.Process.{ownName, siteOf, valOf, codeOf, envOf, itagOf, placeOf, placesOf}
 use Rattle.model.proofs.Basics.Tests.{fst, snd, every-append, every-one}
-use Rattle.model.proofs.Basics.Environments.{Sized, fits-fresh, name-wf, held-name}
+use Rattle.model.proofs.Basics.Names.{held-name}
+use Rattle.model.proofs.Basics.Environments.{Sized, fits-fresh, name-wf}
 use Rattle.model.proofs.Basics.Checked.{Sits, s-nil, s-par, s-box, s-new, s-out, s-inp}
 use Rattle.model.proofs.Formed.UnfoldingKeeps.{grows}
 use Rattle.model.proofs.Processes.Boxes.{places-app}

@@ -1,5 +1,5 @@
 -- A body at a box, and the same body unfolded there: one process.
-use mathlib.Core.Path.{_≡_, refl, sym, ap, subst}
+use mathlib.Core.Path.{_≡_, refl, sym, ap, subst, _∙_}
 use mathlib.Core.Bool.{Bool, true, false, not, cond}
 use mathlib.Core.List.{List, [], _∷_, map}
 use mathlib.Core.Logic.{_⊎_, inl, inr, ⊎-elim}
@@ -18,12 +18,13 @@ use Rattle.calculus.proofs.Unfolding.{unfold′}
 use Rattle.calculus.specs.Tree.{process}
 use Rattle.calculus.specs.Named.{Code, proc}
 use Rattle.calculus.proofs.Definedness.{Sound as CSound}
+use Rattle.model.specs.Values.{isMinted}
 use Rattle.model.specs.Side.{State, side as sideIn}
 use Rattle.model.specs.Basics.{has}
 use Rattle.model.specs.Wrapper.{allSides}
 use Rattle.model.specs.Load.{Composition, wrapperOf}
 use Rattle.model.specs.Step.{known}
-use Rattle.model.specs.Process.{siteOf, mintOf, upto, newOf, knownOf, keep, mintedOf, ownName}
+use Rattle.model.specs.Process.{siteOf, mintOf, upto, newOf, keep, mintedOf, ownName}
 use Rattle.calculus.proofs.Renaming.{AllN-map, AllV-map}
 use Rattle.calculus.proofs.Trees.{Wf, Reach, fill-cong}
 use Rattle.calculus.proofs.FreeNames.{or-cases, or-right, or-left, mem-cases}
@@ -31,7 +32,9 @@ use Rattle.calculus.proofs.Restriction.{known as allOf}
 use Rattle.calculus.proofs.Extrusion.{in-news}
 use Rattle.calculus.proofs.Bags.{item, at}
 use Rattle.calculus.proofs.Unfolding.{unfold-ok, Ok, Beside, Old, BoxesOk, with'}
-use Rattle.model.proofs.Processes.KnownNames.{All, known-where, own-low, keep-out, upto-out, by-out}
+use Rattle.model.proofs.Processes.KnownNames.{knownAll, outsideNames, in-outside, KnownBy, is-low, is-brought, has-left, known-by, All, own-low, keep-out, upto-out, by-out}
+use Rattle.model.proofs.Basics.Names.{minted-range, outside-range, minted-not-outside}
+use Rattle.model.proofs.Formed.MeetingKeeps.{minted-number}
 use Rattle.model.proofs.Formed.Invariant.{positive}
 use Rattle.model.proofs.Processes.ItemFacts.{Each, each-at}
 
@@ -64,17 +67,26 @@ all-cases [] A y h = inr h
 all-cases (x ∷ N) A y h = ⊎-elim (λ a. inl (or-right (eqb y x) (mem y N) a)) (λ a. ⊎-elim (λ c. inl (or-left (eqb y x) (mem y N) c)) (λ c. inr c) (or-cases (eqb y x) (mem y A) a)) (all-cases N (x ∷ A) y h)
 
 module _ (b : Composition) (s : State) (few : (n : ℕ) → sideIn s n .core .contents .minted ≤ 256) where
-  -- the names of a state's process: low ones, and those minted
-  pub all-where : (y : ℕ) → In (All b s) y → (y ≤ 88) ⊎ T (mem y (mintedOf s))
+  -- the names of a state's process: those minted; low ones, and those from outside, none of which is minted
+  abbrev Unminted : ℕ → Type 0
+  Unminted y = (y < 1000000) × (isMinted y ≡ true → ⊥)
+
+  all-where : (y : ℕ) → In (All b s) y → Unminted y ⊎ T (mem y (mintedOf s))
   unfolding newOf
   all-where y h = ⊎-elim
-      (λ a. ⊎-elim (λ o. inl (own-low b s y o .1)) (λ k. inr (keep-out (λ x. not (known s x)) (mintedOf s) y k .0)) (mem-cases y (map ownName (wrapperOf b .sides)) (keep (λ x. not (known s x)) (mintedOf s)) a))
-      (λ a. ⊎-elim (λ k. inl (omega (arith, k))) (λ r. inr (r .0)) (known-where b s y a))
-      (all-cases (newOf b s) (knownOf s) y h)
+      (λ a. ⊎-elim (λ o. inl (omega (arith, own-low b s y o .1), λ m. omega (arith, own-low b s y o .1, minted-range y m .0))) (λ k. inr (keep-out (λ x. not (known s x)) (mintedOf s) y k .0))
+      (mem-cases y (map ownName (wrapperOf b .sides)) (keep (λ x. not (known s x)) (mintedOf s)) a))
+      (λ a. by-where (known-by outsideNames s y a))
+      (all-cases (newOf b s) (knownAll s) y h)
+    where
+      by-where : KnownBy outsideNames s y → ((y < 1000000) × (isMinted y ≡ true → ⊥)) ⊎ T (mem y (mintedOf s))
+      by-where (is-low k) = inl (omega (arith, k), λ m. omega (arith, k, minted-range y m .0))
+      by-where (is-brought k) = inl (omega (arith, outside-range y (in-outside y k) .1), λ m. minted-not-outside y m (in-outside y k))
+      by-where (has-left k e) = inr k
 
   pub not-next : (side m : ℕ) → has side allSides ≡ true → m ≡ sideIn s side .core .contents .minted → (y : ℕ) → In (All b s) y → (i : ℕ) → m ≤ i → eqb (mt side i) y ≡ false
   not-next side m w v y h i l = ne-eqb (mt side i) y (λ q. ⊎-elim
-      (λ a. ⊎-elim (λ c. let z = mt-is side i c in omega (arith, positive side w .0)) (λ c. let z = mt-high side i c in omega arith) (which i))
+      (λ a. ⊎-elim (λ c. a .1 (subst (λ (z : ℕ). isMinted z ≡ true) (sym (mt-is side i c) ∙ q) (minted-number side i w c .0))) (λ c. let z = mt-high side i c in omega (arith, a .0, q, z)) (which i))
       (λ a. let r = by-out (λ n. upto (sideIn s n .core .contents .minted) (mintOf n)) allSides y a in let f = upto-out (sideIn s (r .0) .core .contents .minted) (mintOf (r .0)) y (r .2) in
       ⊎-elim (λ c. let z = mt-is side i c in let u : side ≡ r .0 = omega (arith, q, z, c, f .1, f .2, few (r .0)) in
       bad l v (subst (λ (k : ℕ). f .0 < sideIn s k .core .contents .minted) (sym u) (f .1)) (omega (arith, q, z, f .2, u)))

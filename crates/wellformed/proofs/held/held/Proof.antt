@@ -1,7 +1,7 @@
--- Public, minted, or neither.
+-- Public, minted, or from outside or no name at all.
 use mathlib.Core.Path.{sym, _∙_}
 use borrow.Author.Needs.{needs}
-use Rattle.wellformed.proofs.HeldLaws.{held-public, held-not, held-minted}
+use Rattle.wellformed.proofs.HeldLaws.{held-public, held-outside, held-minted}
 use Rattle.wellformed.proofs.held.held.Statement.{statement}
 use Rattle.wellformed.proofs.held.held.Tie as tie
 
@@ -15,7 +15,9 @@ returns-2 c =
     c .below .ensures ∙ held-minted k _ (c .before .before .before .before .before .if1 .left) minted _ _ (c .before .before .wide .ensures) (c .before .wide2 .ensures)
 
 returns-3 : tie.Need-returns-3
-returns-3 c = held-not _ _ (c .before .before .if1 .left) (sym (c .before .is-minted .ensures) ∙ c .if2 .left)
+returns-3 c =
+    let at-minted = c .before .before in
+    c .is-outside .ensures ∙ held-outside _ _ (at-minted .before .if1 .left) (sym (at-minted .is-minted .ensures) ∙ c .before .if2 .left)
 
 pub held-spec : {M : Type 1} → statement M
 held-spec =
@@ -27,4 +29,5 @@ held-spec =
     (λ c κs. search needs)
     (λ c κs. search needs)
     returns-2
+    (λ c κs. search needs)
     returns-3)
