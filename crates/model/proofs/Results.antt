@@ -1,4 +1,4 @@
--- What is computed, and what follows: trials, purity, runs of the wrappers themselves.
+-- What is computed, and what follows: trials, purity, the names brought, runs of the wrappers themselves, the new-name rule.
 pub mod Trials
 pub mod FormedStates
 pub mod Purity

@@ -125,9 +125,9 @@ SoundAt A b s k l = (w : Participants Mark) × At (wrapperOf b) k w × Asks k l 
 
 -- every answer that is no refusal has a label of the calculus; and each such label is of a transition
 unfoldable pub Sound : Type 0
-Sound = (b : Composition) (s : State) (X : List ℕ) (k : Step) → ready b s ≡ true → Brought b s X
+Sound = (b : Composition) (s : State) (k : Step) → ready b s ≡ true
     → (IsLabelled (step b s k .answer) → (l : Label) × Says (wrapperOf b) (step b s k .answer) l)
-    × ((l : Label) → Says (wrapperOf b) (step b s k .answer) l → SoundAt (knownOf X s) b s k l)
+    × ((X : List ℕ) (l : Label) → Brought b s X → Says (wrapperOf b) (step b s k .answer) l → SoundAt (knownOf X s) b s k l)
 
 -- THE NAMES KNOWN OUTSIDE grow by the names of a label that is given, and by nothing else
 unfoldable pub NamesGrow : Type 0

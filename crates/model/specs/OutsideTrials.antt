@@ -60,7 +60,7 @@ asBoxAndTag = record {
   expected = expect (inward 1 (196863 ∷ []) ∷ tau 1 ∷ tau 1 ∷ tau 1 ∷ tau 1 ∷ tau 1 ∷ tau 1 ∷ tau 1 ∷ tau 1 ∷ outward 1 (196863 ∷ []) ∷ []);
 }
 
--- `!in y. mid y` and `!mid y. out y`, the one's `mid` the other's; and `!in y. mid y` for side 2 as well
+-- `!in y. mid y` and `!mid y. out y`, each from its parent and to it
 abbrev pub toMid : List ℕ
 toMid = node 6 0 1 0 1 (node 4 2 1 0 0 [])
 

@@ -86,5 +86,5 @@ pub data SaysAll (b : Composition) : State → List Step → List Label → Type
 -- every run, refused steps among it, has its labels; and they are a sequence of published transitions, from the names known at its
 -- start, to the state after it
 unfoldable pub RunsAreTransitions : Type 0
-RunsAreTransitions = (b : Composition) (s : State) (X : List ℕ) (ks : List Step) → ready b s ≡ true → Brought b s X
-    → ((ls : List Label) × SaysAll b s ks ls) × ((ls : List Label) → SaysAll b s ks ls → Path b (knownOf X s) s ls (afterAll b s ks))
+RunsAreTransitions = (b : Composition) (s : State) (ks : List Step) → ready b s ≡ true
+    → ((ls : List Label) × SaysAll b s ks ls) × ((X : List ℕ) (ls : List Label) → Brought b s X → SaysAll b s ks ls → Path b (knownOf X s) s ls (afterAll b s ks))

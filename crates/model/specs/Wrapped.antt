@@ -59,8 +59,8 @@ SequencesPure = (b : Composition) (P Q : Proc (Unit {0}) []) (A : List ℕ) (ls 
 -- DEMAND 2 in one statement, from the tables to the trace: a load that succeeds is of the wrapper round the tables' processes; every run has
 -- its labels, and they are a sequence of published transitions of that wrapper; and each published transition of what it leads to is offered
 unfoldable pub TablesToTrace : Type 0
-TablesToTrace = (b : Composition) (s : State) (X : List ℕ) → load b ≡ ok s → every isOutside X ≡ true
+TablesToTrace = (b : Composition) (s : State) → load b ≡ ok s
     → (P : Proc (Unit {0}) []) × Wraps b P
     × ((ks : List Step) → (ls : List Label) × SaysAll b s ks ls
-    × (Q : Proc (Unit {0}) []) × Seq (knownOf X s) P ls Q
-    × ((l : Label) (R : Proc (Unit {0}) []) → Published (grownBy ls (knownOf X s)) Q l R → Written l → Offered (grownBy ls (knownOf X s)) b (afterAll b s ks) l R))
+    × ((X : List ℕ) → every isOutside X ≡ true → (Q : Proc (Unit {0}) []) × Seq (knownOf X s) P ls Q
+    × ((l : Label) (R : Proc (Unit {0}) []) → Published (grownBy ls (knownOf X s)) Q l R → Written l → Offered (grownBy ls (knownOf X s)) b (afterAll b s ks) l R)))

@@ -31,7 +31,7 @@ use Rattle.calculus.proofs.Unfolding.{proc-all}
 use Rattle.calculus.proofs.WrapperStart.{sound-names}
 use Rattle.calculus.proofs.Marks.{remark-all}
 use Rattle.model.proofs.Basics.Tests.{alt, both, every-append}
-use Rattle.model.proofs.Processes.KnownNames.{outsideNames, in-outside, is-low, by-known, keep-out, is-true}
+use Rattle.model.proofs.Processes.KnownNames.{outsideNames, in-outside, is-low, by-known, keep-out}
 use Rattle.model.proofs.Sound.StateMoves.{fn-all, is-process}
 use Rattle.model.proofs.Sound.Sound.{sound}
 use Rattle.model.proofs.Sound.NamesGrowing.{names-grow}
@@ -126,7 +126,7 @@ load-brought b s X e h =
 pub step-brought : (b : Composition) (s : State) (X : List ℕ) (k : Step) (l : Label) → ready b s ≡ true → Brought b s X → Says (wrapperOf b) (step b s k .answer) l → Brought b (step b s k .after) (outsideIn l ++ X)
 unfolding Sound SoundAt NamesGrow
 step-brought b s X k l e h sy =
-    let (w, at, asks, side, R, d, to) = sound b s X k e h .1 l sy in
+    let (w, at, asks, side, R, d, to) = sound b s k e .1 X l h sy in
     let known : (z : ℕ) → In (lnames l) z ⊎ In (knownOf X s) z → In (knownOf (outsideIn l ++ X) (step b s k .after)) z = λ z i. names-grow b s X k l e sy z .1 (⊎-elim (λ p. inr p) (λ p. inl p) i) in
     record {
       outside = every-append isOutside (outsideIn l) X (every-of isOutside (outsideIn l) (λ z i. keep-out isOutside (lnames l) z i .1)) (h .outside);

@@ -46,7 +46,7 @@ use Rattle.model.proofs.Results.Brought.{load-brought, step-brought}
 step-published : (b : Composition) (s : State) (X : List ℕ) (k : Step) (l : Label) → ready b s ≡ true → Brought b s X → Says (wrapperOf b) (step b s k .answer) l →
     Published (knownOf X s) (plainly (process (confOf b s))) l (plainly (process (confOf b (step b s k .after))))
 unfolding Sound SoundAt
-step-published b s X k l e h sy = let r = sound b s X k e h .1 l sy in (wmark forget (r .0), Struct (step-remark forget (r .5)) (r .6))
+step-published b s X k l e h sy = let r = sound b s k e .1 X l h sy in (wmark forget (r .0), Struct (step-remark forget (r .5)) (r .6))
 
 pub step-ready : (b : Composition) (s : State) (k : Step) → ready b s ≡ true → ready b (step b s k .after) ≡ true
 unfolding Reached
@@ -89,7 +89,7 @@ labels b (k ∷ ks) s e = by-answer (step b s k .answer) refl (labels b ks (step
 
 pub runs-are-transitions : RunsAreTransitions
 unfolding RunsAreTransitions
-runs-are-transitions b s X ks e h = (labels b ks s e, λ ls says. run b says e X h (knownOf X s) (λ z. refl))
+runs-are-transitions b s ks e = (labels b ks s e, λ X ls h says. run b says e X h (knownOf X s) (λ z. refl))
 
 -- labels by a run's answers
 abbrev EachSays : Wrapper → List Answer → List Label → Type 0
@@ -172,5 +172,5 @@ listing-a = (
   afterAll copier loadedA stepsA,
   load-is,
   subst (λ (P : Proc (Unit {0}) []). plainly (process (confOf copier loadedA)) ≋ W1 tt P) copier-is (load-agrees copier loadedA load-is .0 refl),
-  runs-are-transitions copier loadedA [] stepsA (reached copier .0 loadedA load-is) (load-brought copier loadedA [] load-is refl) .1 labelsA says-A,
+  runs-are-transitions copier loadedA stepsA (reached copier .0 loadedA load-is) .1 [] labelsA (load-brought copier loadedA [] load-is refl) says-A,
 )

@@ -1,14 +1,13 @@
 -- The new-name rule: a run is a sequence of transitions of the pipeline, of which W2's directionality speaks.
-use mathlib.Core.Path.{_≡_, refl, sym, ap, ap₂, _∙_, subst}
+use mathlib.Core.Path.{_≡_, refl, sym, ap, _∙_, subst}
 use mathlib.Core.List.{List, [], _∷_, _++_}
 use mathlib.Core.Bool.{Bool, true, false, not, _||_, cond, false≢true}
 use Prim.Native.Nat.{ℕ, _+_, _<_}
 use native.Mathlib.Omega.{arith}
 use borrow.Author.Tests.{eqb-true, eqb-false, ne-eqb, not-true}
 use lib.Dec.{eqb, T, eqb-refl}
-use Rattle.calculus.specs.Syntax.{Val, Proc, parent, plain, AllN}
-use Rattle.calculus.specs.Transitions.{Label, send, recv, In, Out∉, mem, names}
-use Rattle.calculus.specs.Marks.{Seq}
+use Rattle.calculus.specs.Syntax.{Val, AllN}
+use Rattle.calculus.specs.Transitions.{Label, In, Out∉, mem, names}
 use Rattle.calculus.specs.Purity.{EachLabel}
 use Rattle.calculus.specs.NewNames.{heardOn, sentOn, KnownNameDirectional}
 use Rattle.calculus.specs.Wrappers.{envIn, envOut, W2}
@@ -16,7 +15,7 @@ use Rattle.model.specs.Basics.{every, has}
 use Rattle.model.specs.Values.{isOutside}
 use Rattle.model.specs.Side.{State}
 use Rattle.model.specs.Wrapper.{Wrapper, described, pipeline}
-use Rattle.model.specs.Load.{Composition, wrapperOf, table, load, ok}
+use Rattle.model.specs.Load.{Composition, wrapperOf, table}
 use Rattle.model.specs.Step.{Step, silent, enters, leaves, logs, Answer, labelled, refusal, step}
 use Rattle.model.specs.Runs.{answers, afterAll, leftBy, Reached}
 use Rattle.model.specs.NewNames.{enteredBy, NewNames}
@@ -25,14 +24,13 @@ use Rattle.model.specs.Agreement.{handler}
 use Rattle.model.specs.Published.{SaysAll, says-none, says-more, says-refused, RunsAreTransitions}
 use Rattle.model.specs.Wrapped.{Wraps, as-pipeline, WrapperRuns}
 use Rattle.calculus.proofs.NewNames.{known-name-directional}
-use Rattle.calculus.proofs.KnownNames.{bool-no}
-use Rattle.model.proofs.Basics.Tests.{fst, snd, both, every-append, every-one}
+use Rattle.model.proofs.Basics.Tests.{fst, snd, both, every-append}
 use Rattle.model.proofs.Basics.Names.{outside-range}
 use Rattle.model.proofs.Formed.Reached.{reached}
 use Rattle.model.proofs.Processes.KnownNames.{is-brought, by-known}
 use Rattle.model.proofs.Processes.ValueWords.{names-words}
 use Rattle.model.proofs.Sound.Labels.{SaysInv, says-inv}
-use Rattle.model.proofs.Results.Brought.{wrapper-names, load-brought}
+use Rattle.model.proofs.Results.Brought.{wrapper-names}
 use Rattle.model.proofs.Results.Corollaries.{runs-are-transitions}
 use Rattle.model.proofs.Results.WrapperRuns.{wrapper-runs}
 
@@ -123,7 +121,7 @@ new-names b s xs k x w e o h = by-answer (step b (afterAll b s xs) k .answer) re
     -- where the last step brings nothing for side 1
     by-run : not (has x (enteredBy (1 ∷ []) (step b (afterAll b s xs) k .answer))) ≡ true → has x (leftBy (1 ∷ []) (step b (afterAll b s xs) k .answer)) ≡ false
     by-run q =
-        let (ls, says) = runs-are-transitions b s X (xs ++ k ∷ []) (reached b .0 s e) (load-brought b s X e outside) .0 in
+        let (ls, says) = runs-are-transitions b s (xs ++ k ∷ []) (reached b .0 s e) .0 in
         let (Q, sequence, to) = wrapper-runs b s X (xs ++ k ∷ []) ls (W2 tt (handler (table b 1)) (handler (table b 2))) e outside pipe says in
         let free : AllN (W2 tt (handler (table b 1)) (handler (table b 2))) (λ z. eqb x z ≡ false) = wrapper-names (λ z. eqb x z ≡ false) (λ z l. ne-eqb x z (λ p. let r = outside-range x o .0 in omega arith)) pipe in
         let all : every (λ a. not (has x (enteredBy (1 ∷ []) a))) (answers b s (xs ++ k ∷ [])) ≡ true = subst (λ (l : List Answer). every (λ a. not (has x (enteredBy (1 ∷ []) a))) l ≡ true) (sym (answers-more b k xs s))

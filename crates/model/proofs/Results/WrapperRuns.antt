@@ -41,7 +41,7 @@ from-congruent b P (go {s' = s'} p rest) e = let (Q, q, f) = from-congruent b (p
 
 pub wrapper-runs : WrapperRuns
 unfolding WrapperRuns RunsAreTransitions Reached
-wrapper-runs b s X ks ls P e h w says = from-congruent b P (runs-are-transitions b s X ks (reached b .0 s e) (load-brought b s X e h) .1 ls says) (wraps-start b s e w)
+wrapper-runs b s X ks ls P e h w says = from-congruent b P (runs-are-transitions b s ks (reached b .0 s e) .1 X ls (load-brought b s X e h) says) (wraps-start b s e w)
 
 -- after a run the state is ready, and with some outside names brought its known names are those of the start and of the labels
 pub record Behind (b : Composition) (s : State) (A : List ℕ) : Type 0 where
@@ -95,15 +95,19 @@ wrapper-pure b s X ks ls A Q R l r p = let q = led b s X ks ls A Q R l r in pure
 
 pub tables-to-trace : TablesToTrace
 unfolding TablesToTrace RunsAreTransitions Reached WrapperRuns WrapperComplete
-tables-to-trace b s X e h =
+tables-to-trace b s e =
     let (P, w) = wrapper-of b s e in (
       P,
       w,
       λ ks.
-          let (ls, says) = runs-are-transitions b s X ks (reached b .0 s e) (load-brought b s X e h) .0 in
-          let (Q, sequence, reaches) = wrapper-runs b s X ks ls P e h w says in
-          let led : Led b s X ks ls (grownBy ls (knownOf X s)) Q = record { loaded = e; outside = h; says = says; members = λ z. refl; reaches = reaches } in
-          (ls, says, Q, sequence, λ l R p written. wrapper-complete b s X ks ls (grownBy ls (knownOf X s)) Q R l led p written),
+          let (ls, says) = runs-are-transitions b s ks (reached b .0 s e) .0 in (
+            ls,
+            says,
+            λ X h.
+                let (Q, sequence, reaches) = wrapper-runs b s X ks ls P e h w says in
+                let led : Led b s X ks ls (grownBy ls (knownOf X s)) Q = record { loaded = e; outside = h; says = says; members = λ z. refl; reaches = reaches } in
+                (Q, sequence, λ l R p written. wrapper-complete b s X ks ls (grownBy ls (knownOf X s)) Q R l led p written),
+          ),
     )
 
 -- ANY SEQUENCE

@@ -94,9 +94,9 @@ asks-of b s e k l sy = sound-res b s e k l (says-inv sy) .2
 -- a transition where all outside names are known is one where fewer are, as long as those of the process are among them
 pub sound : Sound
 unfolding Sound SoundAt
-sound b s X k e br = (
+sound b s k e = (
   label-of b s e k,
-  λ l sy.
+  λ X l br sy.
       let r = sound-res b s e k l (says-inv sy) in
       let free : Fn⊆ (process (confOf b s)) (knownOf X s) = transport (sym (remark-all (λ m. tt) (process (confOf b s)) (In (knownOf X s)))) (br .free) in
       (r .0, r .1, r .2, r .3, r .4 .R, strengthen (r .4 .step) (knownOf X s) (known-fewer X s (br .outside)) free, r .4 .to),
