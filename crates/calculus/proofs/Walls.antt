@@ -7,15 +7,15 @@ use mathlib.Core.Option.{Option, none, some}
 use mathlib.Core.Bool.{Bool, true, false, cond}
 use Prim.Native.Nat.{ℕ}
 use lib.Dec.{eqb, T, eqb→eq, eqb-refl}
-use Rattle.calculus.specs.Syntax.{Val, Vals, nm, tup, vnil, vcons, Pat, Vars, var, Scope, Name, ITag, within, parent, child, Tag, plain, receivedParent, receivedChild, Proc, nil, par, box, new}
-use Rattle.calculus.specs.Syntax.{out, inp, comp, AllN, AllV, AllVs, AllT, AllI, outer, sub, Defined, IsName, theName, underV, match, closed, opened, theBound, nameOr, ren, vren, iren, tren}
+use Rattle.calculus.specs.Syntax.{Val, nm, Pat, Vars, var, Scope, Name, ITag, within, parent, child, Tag, plain, receivedParent, receivedChild, Proc, nil, par, box, new}
+use Rattle.calculus.specs.Syntax.{out, inp, comp, AllN, AllV, AllT, AllI, outer, sub, Defined, IsName, theName, underV, match, closed, opened, theBound, nameOr, ren, vren, iren, tren}
 use Rattle.calculus.specs.Syntax.{under}
 use Rattle.calculus.specs.Congruence.{Cong, swapped, par-nil, par-comm, par-assoc, new-new, new-par, new-box, rfl, symm, trans, in-par, in-box, in-new, in-inp}
 use Rattle.calculus.specs.Transitions.{Label, tau, send, recv, Participants, In, mem, Fn⊆, Out∉, names, tnames, lnames, beyond, restrict, mv, movable, inst, InstOk, Step, Out, In1, Repl, CommL}
 use Rattle.calculus.specs.Transitions.{CommR, ParL, ParR, Box1, Box2, Box3, Res1, Res2, Struct}
 use Rattle.calculus.specs.Marks.{Seq, ended, first, grownBy}
 use Rattle.calculus.specs.Purity.{EachLabel}
-use Rattle.calculus.proofs.Renaming.{AllN-map, AllV-map, AllT-map, AllV-ren}
+use Rattle.calculus.proofs.Renaming.{AllN-map, AllV-map, AllT-map, AllV-ren, AllV-map2, AllN-map2}
 use Rattle.calculus.proofs.Extrusion.{bound-fresh}
 use Rattle.calculus.proofs.Parallels.{Each, each-names, beyond-out, apart, T-true}
 use Rattle.calculus.proofs.FreeNames.{AllV-unren, AllN-unren, cong-fn, AllV-sub, AllN-sub, theName-in, Parts, match-in, eqb-true, eqb-sym, or-cases, or-left, or-right, mem-left, mem-right}
@@ -162,38 +162,6 @@ cong-walled (in-new d) r = (λ h. (h .0, cong-walled d (ext (bound (h .0)) r) .0
 cong-walled (in-inp d) r = (λ h. (h .0, h .1, cong-walled d (ext (other (h .0)) r) .0 (h .2)), λ h. (h .0, h .1, cong-walled d (ext (other (h .0)) r) .1 (h .2)))
 
 -- ROLES: those of the free names decide
-mutual
-  AllV-map2 : {N : Type 0} {A B C : N → Type 0} (v : Val N) → ((x : N) → A x → B x → C x) → AllV v A → AllV v B → AllV v C
-  AllV-map2 (nm x) f h k = f x h k
-  AllV-map2 (tup vs) f h k = AllVs-map2 vs f h k
-
-  AllVs-map2 : {N : Type 0} {A B C : N → Type 0} (v : Vals N) → ((x : N) → A x → B x → C x) → AllVs v A → AllVs v B → AllVs v C
-  AllVs-map2 vnil f h k = tt
-  AllVs-map2 (vcons v vs) f h k = (AllV-map2 v f (h .0) (k .0), AllVs-map2 vs f (h .1) (k .1))
-
-AllI-map2 : {N : Type 0} {A B C : N → Type 0} (i : ITag N) → ((x : N) → A x → B x → C x) → AllI i A → AllI i B → AllI i C
-AllI-map2 within f h k = tt
-AllI-map2 parent f h k = tt
-AllI-map2 (child n) f h k = f n h k
-
-AllT-map2 : {N : Type 0} {A B C : N → Type 0} (o : Tag N) → ((x : N) → A x → B x → C x) → AllT o A → AllT o B → AllT o C
-AllT-map2 (plain i) f h k = AllI-map2 i f h k
-AllT-map2 receivedParent f h k = tt
-AllT-map2 (receivedChild n) f h k = f n h k
-
-outer-map2 : {B N : Type 0} {A C D : N → Type 0} → ((x : N) → A x → C x → D x) → (x : B ⊎ N) → outer A x → outer C x → outer D x
-outer-map2 f (inl b) h k = tt
-outer-map2 f (inr n) h k = f n h k
-
-AllN-map2 : {U : Type 0} {s : Scope} {A B C : Name s → Type 0} (P : Proc U s) → ((x : Name s) → A x → B x → C x) → AllN P A → AllN P B → AllN P C
-unfolding AllN
-AllN-map2 nil f h k = tt
-AllN-map2 (par P Q) f h k = (AllN-map2 P f (h .0) (k .0), AllN-map2 Q f (h .1) (k .1))
-AllN-map2 (box t n P) f h k = (f n (h .0) (k .0), AllN-map2 P f (h .1) (k .1))
-AllN-map2 (new P) f h k = AllN-map2 P (outer-map2 f) h k
-AllN-map2 (out t x o v) f h k = (f x (h .0) (k .0), AllT-map2 o f (h .1) (k .1), AllV-map2 v f (h .2) (k .2))
-AllN-map2 (inp m t x i p P) f h k = (f x (h .0) (k .0), AllI-map2 i f (h .1) (k .1), AllN-map2 P (outer-map2 f) (h .2) (k .2))
-
 out-agree : {N : Type 0} (c : Level) (r r' : N → Role) (x : N) (o : Tag N) → r x ≡ r' x → AllT o (λ n. r n ≡ r' n) → OutOk c r x o → OutOk c r' x o
 out-agree c r r' x (plain within) e f h = h
 out-agree c r r' x (plain parent) e f h = (sym e ∙ h .0, subst (Guest c) e (h .1))

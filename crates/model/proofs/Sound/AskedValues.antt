@@ -20,7 +20,7 @@ use Rattle.model.specs.Step.{Label as Said, silent, enters, leaves, logs
 use Rattle.model.specs.Wrapper.{Wrapper}
 use Rattle.model.specs.Process.{vwords, vswords, vcount, valOf}
 use Rattle.model.specs.Agreement.{foreign, someName, enterable, mintedNumber, Says, says-tau, says-in, says-out, says-log}
-use Rattle.calculus.proofs.Renaming.{AllV-map}
+use Rattle.calculus.proofs.Renaming.{AllV-map, AllV-map2}
 use Rattle.model.proofs.Basics.Tests.{fst, snd, both, alt, alt-left, alt-right, append-nil, or-none, one-fails}
 use Rattle.model.proofs.Formed.Keeping.{Spoken, shaped-words}
 use Rattle.model.proofs.Formed.Invariant.{known-held}
@@ -29,16 +29,6 @@ use Rattle.model.proofs.Basics.Names.{minted-range, held-below, held-na
 use Rattle.model.proofs.Basics.Items.{items-zero, items-leaf, items-tuple, items-shaped, shaped-items, tuple-not-name, every-front, every-back}
 use Rattle.model.proofs.Processes.ValueWords.{worded, val-back, val-written, wfVal-all}
 use Rattle.model.proofs.Sound.Labels.{none-all, T-not, minted-number-is, enterable-is}
-
--- two properties of the names of a value are one
-mutual
-  all-two : {A B C : ℕ → Type 0} (v : Val ℕ) → ((x : ℕ) → A x → B x → C x) → AllV v A → AllV v B → AllV v C
-  all-two (nm x) f p q = f x p q
-  all-two (tup vs) f p q = alls-two vs f p q
-
-  alls-two : {A B C : ℕ → Type 0} (v : Vals ℕ) → ((x : ℕ) → A x → B x → C x) → AllVs v A → AllVs v B → AllVs v C
-  alls-two vnil f p q = tt
-  alls-two (vcons v vs) f p q = (all-two v f (p .0) (q .0), alls-two vs f (p .1) (q .1))
 
 -- a name of a value is one of its words
 mutual
@@ -182,7 +172,7 @@ module _ (v : Val ℕ) (wr : T (not (someName isTuple (names v)))) (iv : isValue
   words-ok = shaped-words (vwords v) (snd _ _ iv)
 
   pub names-ok : AllV v (λ x. isName x ≡ true)
-  names-ok = all-two v (λ x p q. ⊎-elim (λ a. a) (λ a. absurd (false≢true (sym q ∙ a))) (alt _ _ p)) (words-all worded v words-ok) (none-all isTuple v (T-not (someName isTuple (names v)) wr))
+  names-ok = AllV-map2 v (λ x p q. ⊎-elim (λ a. a) (λ a. absurd (false≢true (sym q ∙ a))) (alt _ _ p)) (words-all worded v words-ok) (none-all isTuple v (T-not (someName isTuple (names v)) wr))
 
   pub same-value : valOf (vwords v) ≡ v
   same-value = val-back v words-ok (none-all isTuple v (T-not (someName isTuple (names v)) wr))
@@ -195,4 +185,4 @@ module _ (v : Val ℕ) (wr : T (not (someName isTuple (names v)))) (iv : isValue
         (alt _ _ n))
 
     pub names-known : AllV v (In (knownAll s))
-    names-known = all-two v name-known names-ok (words-all (λ w. not (isMinted w) or known s w) v kv)
+    names-known = AllV-map2 v name-known names-ok (words-all (λ w. not (isMinted w) or known s w) v kv)
