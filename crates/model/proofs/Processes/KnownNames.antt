@@ -236,11 +236,8 @@ module _ (b : Composition) (s : State) where
   All = allOf (newOf b s) (knownAll s)
 
   -- public names, and those towards the environment
-  pub low-known : (y : ℕ) → y < 81 → In (knownAll s) y
-  low-known y h = by-known outsideNames s y (is-low h)
-
   pub low-in : (y : ℕ) → y < 81 → In All y
-  low-in y h = in-old (newOf b s) (knownAll s) y (low-known y h)
+  low-in y h = in-old (newOf b s) (knownAll s) y (by-known outsideNames s y (is-low h))
 
   pub own-in : (n : ℕ) → hasSide (wrapperOf b) n ≡ true → In All (ownName n)
   unfolding newOf

@@ -251,13 +251,6 @@ module _ {M U : Type 0} (mk : Mark → M) (h : M → U) where
       ritems-app h (map (enters mk w) (w .sides)) _
       ∙ ap₂ (λ (a b : List (Item U)). a ++ b) entering (ritems-app h (map (passes mk w) (w .sides)) _ ∙ ap₂ (λ (a b : List (Item U)). a ++ b) passing taking)
 
-  pub items-marks : (b : Composition) (s : State) → ritems h (confAs mk b s .items) ≡ confAs (λ m. h (mk m)) b s .items
-  unfolding confAs
-  items-marks b s =
-      ritems-app h (forwarders mk (wrapperOf b)) _ ∙ ap₂ (λ (a c : List (Item U)). a ++ c) (forwarders-marks (wrapperOf b))
-      (ritems-app h (bySide (λ n. shelfItems mk (isGone s n) n 0 (side s n .core .shelf)) (wrapperOf b .sides)) _ ∙ ap₂ (λ (a c : List (Item U)). a ++ c)
-      (by-marks _ _ (λ n. shelf-marks (isGone s n) n 0 (side s n .core .shelf)) (wrapperOf b .sides)) (by-marks _ _ (λ n. side-marks (wrapperOf b) n (table b n) (side s n .core)) (wrapperOf b .sides)))
-
   pub all-marks : (s : State) (ns : List ℕ) (acc : List (Place M)) → rplaces h (allPlaces mk s ns acc) ≡ allPlaces (λ m. h (mk m)) s ns (rplaces h acc)
   all-marks s [] acc = refl
   all-marks s (n ∷ ns) acc = all-marks s ns (placesOf mk n 0 (side s n .core .contents .boxes) acc) ∙ ap (allPlaces (λ m. h (mk m)) s ns) (places-marks mk h n 0 (side s n .core .contents .boxes) acc)

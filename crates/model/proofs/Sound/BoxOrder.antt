@@ -323,9 +323,6 @@ module _ (b : Composition) (s : State) (e : ready b s ≡ true) where
       is-now = put-self s n;
     }
       where
-        order : List ℕ
-        order = S .X ++ (S .Y ++ n ∷ [])
-
         n-in : has n (S .X ++ (S .Y ++ n ∷ [])) ≡ true
         n-in = has-last n n (S .X) (S .Y) ∙ ap (has n) (sym (S .is)) ∙ h
 
