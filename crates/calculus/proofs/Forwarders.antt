@@ -3,7 +3,7 @@ use mathlib.Core.Path.{_≡_, refl, ap, _∙_}
 use mathlib.Core.Logic.{inl, inr}
 use mathlib.Core.List.{List, [], _∷_, _++_, map}
 use Prim.Native.Nat.{ℕ}
-use Rattle.calculus.specs.Syntax.{Val, nm, var, Scope, Name, ITag, within, parent, child, plain, iren, Proc, par, out, AllI, AllN, outer, sub, Defined, remark}
+use Rattle.calculus.specs.Syntax.{Val, nm, var, Name, ITag, within, parent, child, plain, iren, Proc, par, out, AllI, AllN, outer, sub, Defined, remark}
 use Rattle.calculus.specs.Transitions.{inst, InstOk}
 use Rattle.calculus.specs.Tree.{Item}
 use Rattle.calculus.specs.Wrappers.{copying, forwardWith}
@@ -28,11 +28,6 @@ forward-all t u cs x i z o A hx hi hc hz ho = (hx, hi, copying-all u cs (body u 
     tag within h = tt
     tag parent h = tt
     tag (child n) h = h
-
-pub copying-marks : {T U : Type 0} (h : T → U) (s : Scope) (u : T) (cs : List (Name s)) (P : Proc T (var ∷ s)) → remark h (copying s u cs P) ≡ copying s (h u) cs (remark h P)
-unfolding remark
-copying-marks h s u [] P = refl
-copying-marks {U = U} h s u (c ∷ cs) P = ap (λ (Q : Proc U (var ∷ s)). par (out {s = var ∷ s} (h u) (inr c) (plain parent) (nm (inl tt))) Q) (copying-marks h s u cs P)
 
 -- what is sent on: copies of v, and P last
 abbrev pub sends : {M : Type 0} → M → List ℕ → Val ℕ → Proc M [] → Proc M []

@@ -25,9 +25,6 @@ use Rattle.model.proofs.Basics.Tests.{append-nil, or-cases, or-right, h
 use Rattle.model.proofs.Formed.Keeping.{done-inj}
 
 -- LISTS
-abbrev getDone : {A : Type 0} → A → Res A → A
-getDone d (refuse n) = d
-getDone d (done a) = a
 
 -- an element that passes a test is one of them, where what stands for none does not pass it
 get-one : {A : Type 0} (f : A → Bool) (l : List A) (i : ℕ) (d : A) → f d ≡ false → f (getD l i d) ≡ true → oneOf f l ≡ true

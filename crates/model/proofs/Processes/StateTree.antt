@@ -8,16 +8,16 @@ use native.Mathlib.Omega.{arith}
 use borrow.Author.Tests.{eqb-true, eq-eqb, ne-eqb}
 use lib.Dec.{eqb}
 use lib.ListN.{length}
-use Rattle.calculus.specs.Syntax.{AllN, ITag, replicated, Proc, Scope, var, remark, theName, iren}
+use Rattle.calculus.specs.Syntax.{AllN, Proc, Scope, var, remark, theName, iren}
 use Rattle.calculus.specs.Syntax.{par as ppar, box as pbox, new as pnew, inp as pinp, parent as iparent, child as ichild}
 use Rattle.calculus.specs.Transitions.{In, Fn⊆}
-use Rattle.calculus.specs.Wrappers.{inName, outName, forwardWith}
+use Rattle.calculus.specs.Wrappers.{inName, outName}
 use Rattle.calculus.specs.Tree.{Place}
 use Rattle.calculus.specs.Tree.{Item}
 use Rattle.calculus.specs.Named.{proc, Code, cnil, cpar, cbox, cnew, cout, cinp, named, shape, underPat}
 use Rattle.calculus.specs.Named.{Env as CEnv}
 use Rattle.model.specs.Table.{Table, term}
-use Rattle.model.specs.Side.{Particle, output, input, Message, down, arrived, leaving, Core, State, side, Status as SPlace}
+use Rattle.model.specs.Side.{Particle, output, input, Message, down, arrived, leaving, State, side, Status as SPlace}
 use Rattle.model.specs.Basics.{_&_, every, has}
 use Rattle.model.specs.Wrapper.{Wrapper, Route, described, hasSide, shelves}
 use Rattle.model.specs.Load.{Composition, wrapperOf, table, setting}
@@ -26,9 +26,9 @@ use Rattle.model.specs.Process.{Mark, part, lobby, shelf, enterer, passe
 use Rattle.model.specs.Process.{partItem, msgProc, msgItem, shelfItem, shelfItems, sideItems, enters, passes, takes, forwarders}
 use Rattle.calculus.proofs.Trees.{Wf, Behind, Reach}
 use Rattle.calculus.proofs.Moves.{Rooted}
-use Rattle.calculus.proofs.Bags.{item, ritem, ritems, ritems-app, rplaces}
+use Rattle.calculus.proofs.Bags.{ritem, ritems, ritems-app, rplaces}
 use Rattle.calculus.proofs.Parallels.{Each as Parts}
-use Rattle.calculus.proofs.Forwarders.{forward-all, copying-marks}
+use Rattle.calculus.proofs.Forwarders.{forward-all}
 use Rattle.model.proofs.Basics.Tests.{fst, snd, both, or-cases, or-right, or-none, or-first}
 use Rattle.model.proofs.Basics.Checked.{Checked}
 use Rattle.model.proofs.Basics.Sides.{described-by}
@@ -212,15 +212,6 @@ module _ {M U : Type 0} (mk : Mark → M) (h : M → U) where
       go arrived = refl
       go leaving = refl
 
-  pub numbered-marks : {X : Type 0} (f : ℕ → X → Item M) (g : ℕ → X → Item U) → ((i : ℕ) (x : X) → ritem h (f i x) ≡ g i x) → (n : ℕ) (l : List X) → ritems h (numbered f n l) ≡ numbered g n l
-  numbered-marks f g e n [] = refl
-  numbered-marks f g e n (x ∷ l) = ap₂ (λ (a : Item U) (r : List (Item U)). a ∷ r) (e n x) (numbered-marks f g e (suc n) l)
-
-  pub side-marks : (w : Wrapper) (side : ℕ) (T : Table) (c : Core) → ritems h (sideItems mk w side T c) ≡ sideItems (λ m. h (mk m)) w side T c
-  side-marks w side T c = ritems-app h (numbered (msgItem mk w side) 0 (c .lobby)) (numbered (partItem mk T side) 0 (c .contents .particles))
-      ∙ ap₂ (λ (a b : List (Item U)). a ++ b) (numbered-marks (msgItem mk w side) (msgItem (λ m. h (mk m)) w side) (msg-marks w side) 0 (c .lobby))
-      (numbered-marks (partItem mk T side) (partItem (λ m. h (mk m)) T side) (part-marks T side) 0 (c .contents .particles))
-
   pub shelf-marks : (gone : ℕ → Bool) (side i : ℕ) (l : List (List ℕ)) → ritems h (shelfItems mk gone side i l) ≡ shelfItems (λ m. h (mk m)) gone side i l
   unfolding remark
   shelf-marks tk side i [] = refl
@@ -230,26 +221,9 @@ module _ {M U : Type 0} (mk : Mark → M) (h : M → U) where
       go true = refl
       go false = refl
 
-  map-marks : {X : Type 0} (f : X → Item M) (g : X → Item U) → ((x : X) → ritem h (f x) ≡ g x) → (l : List X) → ritems h (map f l) ≡ map g l
-  map-marks f g e [] = refl
-  map-marks f g e (x ∷ l) = ap₂ (λ (a : Item U) (r : List (Item U)). a ∷ r) (e x) (map-marks f g e l)
-
   pub by-marks : (f : ℕ → List (Item M)) (g : ℕ → List (Item U)) → ((n : ℕ) → ritems h (f n) ≡ g n) → (ns : List ℕ) → ritems h (bySide f ns) ≡ bySide g ns
   by-marks f g e [] = refl
   by-marks f g e (n ∷ ns) = ritems-app h (f n) (bySide f ns) ∙ ap₂ (λ (a b : List (Item U)). a ++ b) (e n) (by-marks f g e ns)
-
-  forward-marks : (t : Mark) (cs : List ℕ) (x : ℕ) (i : ITag ℕ) (z : ℕ) (o : ITag ℕ) → ritem h (item 0 (forwardWith [] (mk t) (mk inert) cs x i z o)) ≡ item 0 (forwardWith [] (h (mk t)) (h (mk inert)) cs x i z o)
-  unfolding remark
-  forward-marks t cs x i z o = ap (λ (P : Proc U (var ∷ [])). item 0 (pinp replicated (h (mk t)) x i var P)) (copying-marks h [] (mk inert) cs _)
-
-  pub forwarders-marks : (w : Wrapper) → ritems h (forwarders mk w) ≡ forwarders (λ m. h (mk m)) w
-  unfolding remark
-  forwarders-marks w =
-      let entering = map-marks (enters mk w) (enters (λ m. h (mk m)) w) (λ n. forward-marks (enterer n) (w .copies) (w .inlet n) iparent inName (ichild (ownName n))) (w .sides) in
-      let passing = map-marks (passes mk w) (passes (λ m. h (mk m)) w) (λ n. forward-marks (passer n) (w .copies) outName (ichild (ownName n)) (w .outlet n) iparent) (w .sides) in
-      let taking = map-marks (takes mk) (takes (λ m. h (mk m))) (λ r. refl) (w .routes) in
-      ritems-app h (map (enters mk w) (w .sides)) _
-      ∙ ap₂ (λ (a b : List (Item U)). a ++ b) entering (ritems-app h (map (passes mk w) (w .sides)) _ ∙ ap₂ (λ (a b : List (Item U)). a ++ b) passing taking)
 
   pub all-marks : (s : State) (ns : List ℕ) (acc : List (Place M)) → rplaces h (allPlaces mk s ns acc) ≡ allPlaces (λ m. h (mk m)) s ns (rplaces h acc)
   all-marks s [] acc = refl
