@@ -4,6 +4,7 @@
 //!
 //! [`outcome`] runs an input and [`run`] also prints what came of it.
 
+pub mod claims;
 pub mod generator;
 pub mod lines;
 pub mod program;
@@ -12,6 +13,7 @@ pub mod state;
 pub mod steps;
 pub mod tables;
 pub mod terms;
+pub mod words;
 
 use lines::{LineFault, Script};
 use state::State;

@@ -2,24 +2,14 @@
 //! body `log y | in y`, its input on `out` the body `log y | out y`.
 
 mod common;
-use common::{bench, Bench};
-use reference::generator::sketch::{new, output, parallel, repeat, tuple, Sketch, PARENT};
+use common::{bench, copier, Bench};
+use reference::generator::sketch::{new, output, parallel, Sketch, PARENT};
 use reference::state::Stage;
 use reference::terms::{IN, LOG, OUT};
 
-const ON_IN: u32 = 0;
 const ON_OUT: u32 = 1;
 const ON_MID: u32 = 2;
 const ON_LOG: u32 = 3;
-
-fn copier() -> Sketch {
-    repeat(
-        ON_IN,
-        PARENT,
-        &[10],
-        output(ON_OUT, PARENT, &tuple(&[10, 10])),
-    )
-}
 
 fn stages(bench: &Bench) -> Vec<Stage> {
     let lobby = &bench.state.sides[0].lobby;

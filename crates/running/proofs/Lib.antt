@@ -1,3 +1,1 @@
-pub mod BeginLaws
 pub mod RunLaws
-pub mod Turns

@@ -6,18 +6,16 @@ use mathlib.Core.Option.{Option, none, some}
 use Prim.Native.Nat.{ℕ, _+_, _-_, _*_, _/_, _<_, _≤_}
 use native.Mathlib.Omega.{arith}
 use native.Mathlib.Numerals.{add-one}
-use borrow.Author.Tests.{lt-ltb, le-ltb}
-use lib.Dec.{ltb}
+use borrow.Author.Tests.{lt-ltb, le-ltb, leb-true, leb-false}
+use lib.Dec.{ltb, leb}
 use lib.ListN.{length, getD, take, drop, set, replicate, length-append, take-append-drop}
 use lib.Seq.{paste, take-all, length-take-le, drop-drop, paste-suc, length-paste, take-paste, drop-paste}
 use Rattle.model.specs.Basics.{choose}
 use Rattle.model.specs.Side.{State as MState}
 use Rattle.model.specs.Load.{Composition, refused, ok, load}
-use Rattle.model.specs.WellFormed.{ready}
 use Rattle.model.specs.Step.{Step, step}
 use Rattle.model.specs.Runs.{answers}
 use Rattle.model.proofs.Basics.Tests.{some-inj}
-use Rattle.model.proofs.Formed.Invariant.{keeps}
 use Rattle.format.specs.Words.{before, stepsOf, stepAt, saidWords, givenWords, answerWords, allAnswerWords, answersOf, tooShort, answered, runFrom, runSteps, runOf}
 use Rattle.format.specs.Words.{Ran as FRan}
 use Rattle.format.proofs.AnswerWords.{answers-many, words-answers}
@@ -25,6 +23,8 @@ use Rattle.format.proofs.StepWords.{steps-next, steps-short, steps-cut, steps-e
 use Rattle.steps.specs.declared.Said.{Said}
 use Rattle.steps.specs.declared.Said.the-variants as said
 use Rattle.answers.specs.Answers.{saidOf, givenFor}
+use Rattle.execution.specs.Execution.{recordEnd}
+use Rattle.execution.proofs.RecordEnds.{found-end, found-none}
 use Rattle.running.specs.declared.Ran.{Ran}
 use Rattle.running.specs.declared.Ran.the-variants as ran
 use Rattle.running.specs.Running.{countOf, wordsIn, Put, RunIs}
@@ -44,19 +44,27 @@ unfolding before
 count-before n x none = refl
 count-before n x (some xs) = ap some (omega arith)
 
-pub count-next : (l : List ℕ) (p n c : ℕ) (z : Option ℕ) → c ≡ getD l (p + 4) 0 → p + 5 ≤ length l → c ≤ length l - (p + 5) →
-    z ≡ plus n (countOf (stepsOf (drop p l))) → z ≡ plus (n + 1) (countOf (stepsOf (drop (p + 5 + c) l)))
-count-next l p n c z w a h e =
-    e
-    ∙ ap (λ (r : Option (List Step)). plus n (countOf r)) (steps-next l p a (omega arith))
+-- a record is found, with which a step is counted
+pub count-next : (l : List ℕ) (p n e : ℕ) (z : Option ℕ) → recordEnd 4 l p ≡ some e → z ≡ plus n (countOf (stepsOf (drop p l))) → z ≡ plus (n + 1) (countOf (stepsOf (drop e l)))
+count-next l p n e z f h =
+    let at = found-end 4 l p e f in
+    let next = steps-next l p (omega (arith, at .1)) (omega (arith, at .1)) in
+    let behind : p + 5 + getD l (p + 4) 0 ≡ e = omega (arith, at .0) in
+    h
+    ∙ ap (λ (r : Option (List Step)). plus n (countOf r)) next
     ∙ count-before n (stepAt l p) (stepsOf (drop (p + 5 + getD l (p + 4) 0) l))
-    ∙ ap (λ (x : ℕ). plus (n + 1) (countOf (stepsOf (drop (p + 5 + x) l)))) (sym w)
+    ∙ ap (λ (x : ℕ). plus (n + 1) (countOf (stepsOf (drop x l)))) behind
 
-pub count-short : (l : List ℕ) (p n : ℕ) (z : Option ℕ) → p < length l → length l < p + 5 → z ≡ plus n (countOf (stepsOf (drop p l))) → none ≡ z
-count-short l p n z a h e = sym (e ∙ ap (λ (r : Option (List Step)). plus n (countOf r)) (steps-short l p a h))
+-- or none, where words are left
+pub count-broken : (l : List ℕ) (p n : ℕ) (z : Option ℕ) → p < length l → recordEnd 4 l p ≡ none → z ≡ plus n (countOf (stepsOf (drop p l))) → none ≡ z
+count-broken l p n z a f h = sym (h ∙ ap (λ (r : Option (List Step)). plus n (countOf r)) (by (leb (p + 5) (length l)) refl))
+  where
+    off : length l < p + 4 + 1 + getD l (p + 4) 0
+    off = found-none 4 l p f
 
-pub count-cut : (l : List ℕ) (p n : ℕ) (z : Option ℕ) → p + 5 ≤ length l → length l - (p + 5) < getD l (p + 4) 0 → z ≡ plus n (countOf (stepsOf (drop p l))) → none ≡ z
-count-cut l p n z a h e = sym (e ∙ ap (λ (r : Option (List Step)). plus n (countOf r)) (steps-cut l p a h))
+    by : (t : Bool) → leb (p + 5) (length l) ≡ t → stepsOf (drop p l) ≡ none
+    by true e = let y = leb-true (p + 5) (length l) e in steps-cut l p y (omega (arith, off))
+    by false e = steps-short l p a (leb-false (p + 5) (length l) e)
 
 pub count-end : (l : List ℕ) (p n : ℕ) (z : Option ℕ) → length l ≤ p → z ≡ plus n (countOf (stepsOf (drop p l))) → some n ≡ z
 count-end l p n z h e = sym (e ∙ ap (λ (r : Option (List Step)). plus n (countOf r)) (steps-end l p h) ∙ ap some (omega arith))
@@ -106,13 +114,12 @@ pub record Running (b : Composition) (s : MState) (l lent : List ℕ) (n k p : �
   pub rest : List Step
   pub left : stepsOf (drop p l) ≡ some rest
   pub many : k + length rest ≡ n
-  pub ready : ready b t ≡ true
   pub size : length out ≡ length lent
   pub same : drop (20 * k) out ≡ drop (20 * k) lent
   pub total : (xs : List Step) → stepsOf l ≡ some xs → allAnswerWords (answers b s xs) ≡ take (20 * k) out ++ allAnswerWords (answers b t rest)
 
-pub run-start : (b : Composition) (s : MState) (l lent : List ℕ) (n : ℕ) → countOf (stepsOf l) ≡ some n → ready b s ≡ true → Running b s l lent n 0 0 s lent
-run-start b s l lent n e r = by (stepsOf l) refl
+pub run-start : (b : Composition) (s : MState) (l lent : List ℕ) (n : ℕ) → countOf (stepsOf l) ≡ some n → Running b s l lent n 0 0 s lent
+run-start b s l lent n e = by (stepsOf l) refl
   where
     by : (o : Option (List Step)) → stepsOf l ≡ o → Running b s l lent n 0 0 s lent
     by none q = let z : none ≡ some n = sym (ap countOf q) ∙ e in let w : _≡_ {A = ℕ} 0 1 = cc in absurd (omega arith)
@@ -121,7 +128,6 @@ run-start b s l lent n e r = by (stepsOf l) refl
           rest = xs;
           left = q;
           many = omega (arith, some-inj (sym (ap countOf q) ∙ e));
-          ready = r;
           size = refl;
           same = refl;
           total = λ ys f. ap (λ (zs : List Step). allAnswerWords (answers b s zs)) (some-inj (sym f ∙ q));
@@ -163,7 +169,6 @@ module _ {b : Composition} {s : MState} {l lent : List ℕ} {n k p : ℕ} {t : M
         rest = y .others;
         left = ap (λ (m : ℕ). stepsOf (drop m l)) at ∙ y .next .rest;
         many = omega (arith, h .many, ap length (y .is));
-        ready = ap (ready b) after ∙ keeps b t x (h .ready);
         size = ap length put ∙ length-paste out (20 * k) ws 20 (omega (arith, h .size)) all ∙ h .size;
         same =
             ap (λ (m : ℕ). drop m new) q ∙ ap (drop (20 * k + 20)) put ∙ drop-paste out (20 * k) ws 20 inside all ∙

@@ -13,7 +13,6 @@ use step_words::Counted;
 use step_words::count_steps;
 
 mod answer_words; // answers as words
-mod beginning; // the sides at their start
 mod runs; // the steps of a list of words
 mod step_words; // words as steps
 

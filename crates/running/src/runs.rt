@@ -3,65 +3,19 @@ ghost use mathlib.Core.Path.{_≡_};
 ghost use mathlib.Core.Bool.{true};
 ghost use mathlib.Core.List.{map};
 ghost use Rattle.model.specs.Load.{isOk, load};
-ghost use Rattle.format.specs.Words.{stepAt};
 ghost use Rattle.wrappers.specs.Compositions.{composition};
-ghost use Rattle.dispatch.specs.Stepping.{settingOf};
-ghost use Rattle.dispatch.specs.Sharing.{stateIn, SideReady};
-ghost use Rattle.running.specs.Runs.{StepStands, Moves, MayRun, HasRoom, AnswersPut, LoadedPut};
+ghost use Rattle.dispatch.specs.Sharing.{stateIn};
+ghost use Rattle.execution.specs.Execution.{MayRun};
+ghost use Rattle.running.specs.Runs.{HasRoom, AnswersPut, LoadedPut};
 use crate::answer_words::put_answer;
-use crate::beginning::begin_all;
-use crate::step_words::asked_at;
-use crate::step_words::next_place;
-use crate::step_words::side_at;
-use crate::step_words::value_at;
-use dispatch::mark_left;
-use dispatch::side_step;
-use loading::place_of;
+use execution::begin_all;
+use execution::next_place;
+use execution::place_asked;
+use execution::side_at;
+use execution::step_at;
 use sides::Rest;
 use sides::Rows;
 use sides::Sides;
-use steps::RestStep;
-use steps::Said;
-use values::Value;
-use wrappers::has_side;
-
-// A side's step by the words at a place, and the marks of what leaves by it.
-fn step_at(
-    wrapper: u32,
-    nodes: &[u32],
-    pool: &[u32],
-    side: u32,
-    rows: &mut [[u32; Rows::WORDS]; Sides::COUNT],
-    shelved: [usize; Sides::COUNT],
-    marks: &mut [[bool; Sides::MARKS]; Sides::COUNT],
-    o: Rest,
-    steps: &[u32],
-    p: usize,
-) -> RestStep
-    requires { ⌜ SideReady (settingOf wrapper side (now nodes) (now pool)) (now marks) (now rows) shelved o × StepStands (now steps) p ⌝ }
-    ensures { λ r. ⌜ Moves (settingOf wrapper side (now (nodes .entry)) (now (pool .entry))) o (now (rows .entry)) (now (marks .entry)) shelved (stepAt (now (steps .entry)) p) (now (rows .exit)) (now (marks .exit)) r ⌝ }
-{
-    let x = asked_at(steps, p);
-    let words = value_at(steps, p);
-    let d = side_step(
-        wrapper,
-        nodes,
-        pool,
-        side,
-        rows,
-        shelved,
-        marks,
-        o,
-        x.kind,
-        x.i,
-        x.j,
-        words,
-    );
-    let said = d.said;
-    let v = d.value;
-    mark_left(marks, side, said, v);
-    d
-}
 
 // The steps of a list of words, n of them, where what is lent is a state that is well formed for tables that load takes. A step
 // copies the rest of its own side alone.
@@ -84,30 +38,26 @@ fn run_steps(
     let mut k: usize = 0;
     while k < n {
         let side = side_at(steps, p);
-        if has_side(wrapper, side) {
-            let i = place_of(side);
-            let o = rests[i];
-            let d = step_at(
-                wrapper,
-                nodes[i],
-                pools[i],
-                side,
-                rows,
-                shelved,
-                marks,
-                o,
-                steps,
-                p,
-            );
-            let said = d.said;
-            let v = d.value;
-            let r = d.rest;
-            shelved[i] = r.shelved;
-            rests[i] = r;
-            put_answer(out, k, said, side, v);
-        } else {
-            put_answer(out, k, Said::Refused(10), side, Value::none());
-        }
+        let i = place_asked(wrapper, side);
+        let o = rests[i];
+        let d = step_at(
+            wrapper,
+            nodes[i],
+            pools[i],
+            side,
+            rows,
+            shelved,
+            marks,
+            o,
+            steps,
+            p,
+        );
+        let said = d.said;
+        let v = d.value;
+        let r = d.rest;
+        shelved[i] = r.shelved;
+        rests[i] = r;
+        put_answer(out, k, said, side, v);
         p = next_place(steps, p);
         k += 1;
     }

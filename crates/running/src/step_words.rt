@@ -1,9 +1,9 @@
 // A list of words as steps: for each its kind, side, i, j, how many value words, and these.
 ghost use mathlib.Core.Path.{_≡_};
-ghost use Prim.Native.Nat.{_+_, _-_, _≤_};
-ghost use lib.ListN.{length, getD};
-ghost use Rattle.format.specs.Words.{stepsOf, stepAt};
+ghost use Rattle.format.specs.Words.{stepsOf};
 ghost use Rattle.running.specs.Running.{countOf, countedOf};
+use execution::RecordEnd;
+use execution::record_end;
 
 // How many steps a list of words has, or that it breaks off.
 pub(crate) enum Counted {
@@ -11,73 +11,19 @@ pub(crate) enum Counted {
     BrokenOff,
 }
 
-fn wide(w: u32) -> usize
-    ensures { λ r. ⌜ r ≡ w ⌝ }
-{
-    w as usize
-}
-
 // Counts the steps of a list of words.
 pub(crate) fn count_steps(steps: &[u32]) -> Counted
     ensures { λ r. ⌜ countedOf r ≡ countOf (stepsOf (now (steps .entry))) ⌝ }
 {
-    let len = steps.len();
     let mut p: usize = 0;
     let mut n: usize = 0;
-    while p < len {
-        if len - p < 5 {
+    while p < steps.len() {
+        let end = record_end(steps, p, 4);
+        let RecordEnd::At(e) = end else {
             return Counted::BrokenOff;
-        }
-        let c = wide(steps[p + 4]);
-        if len - (p + 5) < c {
-            return Counted::BrokenOff;
-        }
-        p = p + 5 + c;
+        };
+        p = e;
         n += 1;
     }
     Counted::Steps(n)
-}
-
-// The place behind the words of the step at a place.
-pub(crate) fn next_place(steps: &[u32], p: usize) -> usize
-    requires { ⌜ (p + 5 ≤ length (now steps)) × (getD (now steps) (p + 4) 0 ≤ length (now steps) - (p + 5)) ⌝ }
-    ensures { λ r. ⌜ r ≡ p + 5 + getD (now (steps .entry)) (p + 4) 0 ⌝ }
-{
-    p + 5 + wide(steps[p + 4])
-}
-
-// The side that is asked by the words at a place.
-pub(crate) fn side_at(steps: &[u32], p: usize) -> u32
-    requires { ⌜ p + 5 ≤ length (now steps) ⌝ }
-    ensures { λ r. ⌜ r ≡ stepAt (now (steps .entry)) p .side ⌝ }
-{
-    steps[p + 1]
-}
-
-// Kind and places of a step.
-pub(crate) struct Asked {
-    pub(crate) kind: u32,
-    pub(crate) i: usize,
-    pub(crate) j: usize,
-}
-
-// Kind and places by the words at a place.
-pub(crate) fn asked_at(steps: &[u32], p: usize) -> Asked
-    requires { ⌜ p + 5 ≤ length (now steps) ⌝ }
-    ensures { λ r. ⌜ (r .kind ≡ stepAt (now (steps .entry)) p .kind) × (r .i ≡ stepAt (now (steps .entry)) p .i) × (r .j ≡ stepAt (now (steps .entry)) p .j) ⌝ }
-{
-    let kind = steps[p];
-    let i = wide(steps[p + 2]);
-    let j = wide(steps[p + 3]);
-    Asked { kind, i, j }
-}
-
-// The value words of the step at a place.
-pub(crate) fn value_at(steps: &[u32], p: usize) -> &[u32]
-    requires { ⌜ (p + 5 ≤ length (now steps)) × (getD (now steps) (p + 4) 0 ≤ length (now steps) - (p + 5)) ⌝ }
-    ensures { λ r. ⌜ now r ≡ stepAt (now (steps .entry)) p .words ⌝ }
-{
-    let a = p + 5;
-    let e = next_place(steps, p);
-    &steps[a..e]
 }

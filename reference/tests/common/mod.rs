@@ -3,13 +3,18 @@
 #![allow(dead_code)]
 
 use reference::generator::lay_out;
-use reference::generator::sketch::Sketch;
+use reference::generator::sketch::{output, repeat, tuple, Sketch, PARENT};
 use reference::lines::Script;
 use reference::load_script;
 use reference::random::Random;
 use reference::state::State;
 use reference::steps::{Label, Step};
 use reference::tables::LoadRefusal;
+
+/// `!in y. out <y y>` with its parent.
+pub fn copier() -> Sketch {
+    repeat(0, PARENT, &[10], output(1, PARENT, &tuple(&[10, 10])))
+}
 
 /// The text of a listing: its lines without indentation, tabs for blanks.
 pub fn text(listing: &str) -> String {

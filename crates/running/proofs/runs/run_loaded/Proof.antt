@@ -4,7 +4,7 @@ use denote.Ref.{now}
 use Rattle.model.specs.Load.{Composition}
 use Rattle.model.proofs.Formed.Starts.{starts}
 use Rattle.wrappers.specs.Compositions.{composition}
-use Rattle.running.proofs.BeginLaws.{zeros-long}
+use Rattle.execution.proofs.BeginLaws.{zeros-long}
 use Rattle.running.proofs.RunLaws.{put-from}
 use borrow.Author.Needs.{needs}
 use Rattle.running.proofs.runs.run_loaded.Statement.{statement}

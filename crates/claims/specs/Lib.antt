@@ -1,0 +1,4 @@
+pub mod Claims
+pub mod Verdicts
+pub mod Published
+pub mod ClaimTrials

@@ -1,0 +1,1 @@
+// What a maker claims, by words; definitions only (specs/).

@@ -1,0 +1,3 @@
+pub mod BeginLaws
+pub mod RecordEnds
+pub mod StepsMade
