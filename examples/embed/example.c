@@ -1,5 +1,6 @@
 /* Two handlers under the pipeline: what enters on side 1 goes over `mid` to side 2, which sends it out
- * twice. The steps run by words, a right claim and wrong ones are checked, and the same runs as text. */
+ * twice. The steps run by words, a right claim and wrong ones are checked, and the same runs as text.
+ * With the handler of side 1 on both sides, what side 2 sends on `mid` strands: the positions are asked. */
 #include "bench.h"
 
 #include <stdio.h>
@@ -36,6 +37,40 @@ static const uint32_t steps[] = {
 /* The steps without the last, which is refused. */
 static const size_t legal_len = COUNT(steps) - 5;
 
+/* The handler of side 1 on both sides. */
+static const uint32_t tables_alike[] = {
+    6, 0, 1, 0, 1, 4, 2, 1, 0, 0, 10, /* side 1 */
+    6, 0, 1, 0, 1, 4, 2, 1, 0, 0, 10, /* side 2 */
+};
+static const uint32_t lengths_alike[] = {10, 1, 10, 1};
+
+static const uint32_t steps_stranding[] = {
+    1, 2, 0, 0, 1, 20, /* enter 20 on side 2 */
+    2, 2, 0, 0, 0,     /* down into side 2's box */
+    5, 2, 1, 0, 0,     /* meet the input */
+    3, 2, 1, 0, 0,     /* up on `mid`: it arrives at position 0 of the lobby and is stranded */
+    6, 2, 0, 0, 0,     /* it does not pass: refused */
+    1, 2, 0, 0, 1, 21, /* enter 21, to position 1 */
+    1, 2, 0, 0, 1, 22, /* enter 22, to position 2 */
+    2, 2, 2, 0, 0,     /* 22 goes down */
+    5, 2, 1, 0, 0,     /* meet the input */
+    3, 2, 1, 0, 0,     /* up on `mid`, to position 2 behind 21 */
+};
+
+/* Tables of both sides and steps. */
+typedef struct {
+    const uint32_t *tables;
+    size_t tables_len;
+    const uint32_t *lengths;
+    size_t lengths_len;
+    const uint32_t *steps;
+    size_t steps_len;
+} Script;
+
+static const Script doubling = {tables, COUNT(tables), lengths, COUNT(lengths), steps, COUNT(steps)};
+static const Script stranding = {tables_alike,    COUNT(tables_alike), lengths_alike, COUNT(lengths_alike),
+                                 steps_stranding, COUNT(steps_stranding)};
+
 static const uint32_t labels[] = {
     0, 1, 1, 20,              /* in1 20 */
     1, 2, 3, 4000002, 20, 20, /* out2 <20 20> */
@@ -63,17 +98,32 @@ static void print_answer(size_t index, const uint32_t *answer)
     printf("\n");
 }
 
-/* Runs all steps and prints the answers. */
-static void run(uint32_t wrapper)
+/* Runs all steps, at most STEPS, and prints the answers. */
+static void run(uint32_t wrapper, const Script *script)
 {
     uint32_t out[STEPS * BENCH_ANSWER_WORDS];
     size_t numbers[3];
-    size_t result = bench_run(wrapper, tables, COUNT(tables), lengths, COUNT(lengths), steps, COUNT(steps), out,
-                              COUNT(out), numbers);
+    size_t result = bench_run(wrapper, script->tables, script->tables_len, script->lengths, script->lengths_len,
+                              script->steps, script->steps_len, out, COUNT(out), numbers);
     printf("run under wrapper %u: %zu, numbers %zu %zu %zu\n", (unsigned)wrapper, result, numbers[0], numbers[1],
            numbers[2]);
     for (size_t k = 0; result == 0 && k < numbers[0]; k++)
         print_answer(k, out + k * BENCH_ANSWER_WORDS);
+}
+
+/* Prints the stranded positions of a side, asked with so many words for them, at most 16. */
+static void ask_stranded(const Script *script, uint32_t side, size_t room)
+{
+    uint32_t out[BENCH_STRANDED_WORDS];
+    size_t numbers[3];
+    size_t result = bench_stranded_after(PIPELINE, script->tables, script->tables_len, script->lengths,
+                                         script->lengths_len, script->steps, script->steps_len, side, out, room,
+                                         numbers);
+    printf("stranded on side %u, in %zu words: %zu, numbers %zu %zu %zu:", (unsigned)side, room, result, numbers[0],
+           numbers[1], numbers[2]);
+    for (size_t k = 0; result == 0 && k < numbers[0]; k++)
+        printf(" %u", (unsigned)out[k]);
+    printf("\n");
 }
 
 /* Checks a claim of so many words of the steps and of these labels. */
@@ -113,9 +163,13 @@ static int run_text(size_t room)
 
 int main(void)
 {
-    run(PIPELINE);
-    run(1);
+    run(PIPELINE, &doubling);
+    run(1, &doubling);
     check_claims();
+    run(PIPELINE, &stranding);
+    ask_stranded(&stranding, 2, BENCH_STRANDED_WORDS);
+    ask_stranded(&stranding, 2, 1);
+    ask_stranded(&stranding, 1, 0);
     if (run_text(4) != 0 || run_text(BENCH_TEXT_BYTES) != 0) {
         fprintf(stderr, "example: no memory\n");
         return 1;

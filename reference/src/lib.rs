@@ -18,7 +18,7 @@ pub mod words;
 use lines::{LineFault, Script};
 use state::State;
 use steps::Answer;
-use tables::{LoadRefusal, Table};
+use tables::LoadRefusal;
 
 /// What comes of an input.
 #[derive(Clone, Debug, PartialEq, Eq)]
@@ -33,11 +33,7 @@ pub enum Outcome {
 
 /// Loads the tables of a script.
 pub fn load_script(script: &Script) -> Result<State, LoadRefusal> {
-    let table = |place: usize| Table {
-        nodes: &script.nodes[place],
-        pool: &script.pools[place],
-    };
-    tables::load(script.wrapper, [table(0), table(1)])
+    tables::load(script.wrapper, script.tables())
 }
 
 /// Reads an input and runs it.

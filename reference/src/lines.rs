@@ -2,7 +2,7 @@
 //! lines of an output.
 
 use crate::steps::{Answer, Label, Step};
-use crate::tables::LoadRefusal;
+use crate::tables::{LoadRefusal, Table};
 use crate::terms::Value;
 
 /// The most bytes of an input.
@@ -27,6 +27,16 @@ pub struct Script {
     /// The pool words of side 1 and of side 2.
     pub pools: [Vec<u32>; 2],
     pub steps: Vec<Step>,
+}
+
+impl Script {
+    /// The tables of side 1 and of side 2.
+    pub fn tables(&self) -> [Table<'_>; 2] {
+        [0, 1].map(|place| Table {
+            nodes: &self.nodes[place],
+            pool: &self.pools[place],
+        })
+    }
 }
 
 /// The number of the first line at fault; 0 for too much input.

@@ -122,6 +122,14 @@ pub struct Message {
     pub value: Value,
 }
 
+impl Message {
+    /// True if it arrived on a channel other than `out`, from where nothing
+    /// takes it on.
+    pub fn is_stranded(&self) -> bool {
+        matches!(self.stage, Stage::Arrived(channel) if channel != OUT)
+    }
+}
+
 /// How far a lobby message is on its way.
 #[derive(Clone, Copy, Debug, PartialEq, Eq)]
 pub enum Stage {
@@ -268,12 +276,13 @@ impl State {
         }
     }
 
-    /// The position of the first lobby message of this side that arrived on a
-    /// channel other than `out`, if there is one.
-    pub fn stranded(&self, side: u32) -> Option<usize> {
-        let side = self.sides.iter().find(|known| known.number == side)?;
-        let lost =
-            |message: &Message| matches!(message.stage, Stage::Arrived(channel) if channel != OUT);
-        side.lobby.iter().position(lost)
+    /// The positions of all stranded lobby messages of this side, smallest
+    /// first. A side that the wrapper lacks has none.
+    pub fn stranded(&self, side: u32) -> Vec<usize> {
+        let Some(side) = self.sides.iter().find(|known| known.number == side) else {
+            return Vec::new();
+        };
+        let stranded = |&i: &usize| side.lobby[i].is_stranded();
+        (0..side.lobby.len()).filter(stranded).collect()
     }
 }

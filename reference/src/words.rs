@@ -1,5 +1,6 @@
 //! What is lent as lists of words: both sides' tables in one list, steps and
-//! labels as records, and the answers of a run.
+//! labels as records, the answers of a run, and the stranded positions after
+//! one.
 
 use crate::steps::{Answer, Label, Step};
 use crate::tables::{self, LoadRefusal, Table};
@@ -32,6 +33,17 @@ pub enum NoRun {
     Unloaded(LoadRefusal),
 }
 
+/// Why there is no list of stranded positions.
+#[derive(Clone, Copy, Debug, PartialEq, Eq)]
+pub enum NoList {
+    /// Load refuses the tables.
+    Unloaded(LoadRefusal),
+    /// A step record breaks off.
+    BrokenOff,
+    /// The lent list has fewer words than there are stranded messages.
+    TooShort,
+}
+
 /// Both sides' tables: side 1's nodes and pool, then side 2's, each as long as
 /// its length says. A missing length is 0, and a part is cut where the list ends.
 pub fn lent_tables<'w>(words: &'w [u32], lengths: &[u32]) -> [Table<'w>; 2] {
@@ -62,6 +74,11 @@ pub fn steps(words: &[u32]) -> Vec<Result<Step, BrokenOff>> {
     };
     let records = records(words).into_iter();
     records.map(|record| record.map(step)).collect()
+}
+
+/// The steps of a list none of whose records breaks off.
+fn whole_steps(words: &[u32]) -> Result<Vec<Step>, BrokenOff> {
+    steps(words).into_iter().collect()
 }
 
 /// The labels of a list: channel, side, count and so many value words each.
@@ -144,8 +161,7 @@ pub fn run_words(
     words: &[u32],
     out: &mut [u32],
 ) -> Result<usize, NoRun> {
-    let steps: Result<Vec<Step>, BrokenOff> = steps(words).into_iter().collect();
-    let steps = steps.map_err(|BrokenOff| NoRun::BrokenOff)?;
+    let steps = whole_steps(words).map_err(|BrokenOff| NoRun::BrokenOff)?;
     if out.len() / ANSWER_WORDS < steps.len() {
         return Err(NoRun::TooShort);
     }
@@ -154,6 +170,28 @@ pub fn run_words(
         place.copy_from_slice(&answer_words(&state.step(step)));
     }
     Ok(steps.len())
+}
+
+/// Runs a list of steps and writes the positions of the side's stranded
+/// messages, smallest first, to the front of the lent list; gives how many.
+/// Where there is no list, nothing is written.
+pub fn stranded_words(
+    wrapper: u32,
+    tables: [Table; 2],
+    words: &[u32],
+    side: u32,
+    out: &mut [u32],
+) -> Result<usize, NoList> {
+    let mut state = tables::load(wrapper, tables).map_err(NoList::Unloaded)?;
+    for step in whole_steps(words).map_err(|BrokenOff| NoList::BrokenOff)? {
+        state.step(&step);
+    }
+    let positions = state.stranded(side);
+    let front = out.get_mut(..positions.len()).ok_or(NoList::TooShort)?;
+    for (word, &position) in front.iter_mut().zip(&positions) {
+        *word = position as u32;
+    }
+    Ok(positions.len())
 }
 
 /// The words of an answer: the sort (0 silent, 1 in, 2 out, 3 refused, 4 log),

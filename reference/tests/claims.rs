@@ -8,7 +8,7 @@ use reference::generator::sketch::{output, repeat, Sketch, PARENT};
 use reference::lines::{read_script, Script};
 use reference::load_script;
 use reference::steps::Step;
-use reference::tables::{LoadRefusal, Table};
+use reference::tables::LoadRefusal;
 use reference::words::{label_words, lent_tables, run_words, step_words, steps, NoRun};
 
 const ON_IN: u32 = 0;
@@ -20,15 +20,8 @@ fn link(from: u32, to: u32) -> Sketch {
     repeat(from, PARENT, &[10], output(to, PARENT, &[10]))
 }
 
-fn tables(script: &Script) -> [Table<'_>; 2] {
-    [0, 1].map(|place| Table {
-        nodes: &script.nodes[place],
-        pool: &script.pools[place],
-    })
-}
-
 fn judged(script: &Script, steps: &[u32], labels: &[u32]) -> Verdict {
-    check(script.wrapper, tables(script), steps, labels)
+    check(script.wrapper, script.tables(), steps, labels)
 }
 
 /// A copy of the value of an enter goes through the copier: enter, down, meet,
@@ -297,7 +290,7 @@ fn where_lent_tables_are_cut() {
 /// A run by words with so much room, each word 9 before it.
 fn ran(script: &Script, steps: &[u32], room: usize) -> (Result<usize, NoRun>, Vec<u32>) {
     let mut out = vec![9; room];
-    let told = run_words(script.wrapper, tables(script), steps, &mut out);
+    let told = run_words(script.wrapper, script.tables(), steps, &mut out);
     (told, out)
 }
 

@@ -97,9 +97,9 @@ fn what_the_handler_sends_on_log_strands() {
     bench.silent(3, 1, 0, 0);
     assert_eq!(bench.ask(6, 1, 0, 0), "no 13");
     assert_eq!(bench.ask(7, 1, 0, 0), "no 13");
-    assert_eq!(bench.state.stranded(1), Some(0));
+    assert_eq!(bench.state.stranded(1), [0]);
     bench.silent(3, 1, 0, 0);
-    assert_eq!(bench.side(1).lobby.len(), 2);
+    assert_eq!(bench.state.stranded(1), [0, 1]);
     assert!(bench.state.shelf.is_empty());
 }
 
@@ -109,7 +109,7 @@ fn there_is_one_side_and_no_copy_elsewhere() {
     assert_eq!(bench.ask(8, 1, 0, 0), "no 10");
     assert_eq!(bench.ask(8, 2, 0, 0), "no 10");
     assert_eq!(bench.enter(2, &[20]), "no 10");
-    assert_eq!(bench.state.stranded(2), None);
+    assert_eq!(bench.state.stranded(2), []);
     let mut filter = Bench::filter(Sketch::Nil);
     assert_eq!(filter.enter(1, &[20]), "in1 20");
     assert_eq!(stages(&filter), [Stage::Down(IN)]);

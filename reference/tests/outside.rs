@@ -214,7 +214,7 @@ fn as_the_channel_of_what_goes_up() {
     let stage = bench.side(1).lobby[0].stage;
     assert_eq!(stage, Stage::Arrived(Name::Outside(FIRST)));
     assert_eq!(bench.ask(6, 1, 0, 0), "no 13");
-    assert_eq!(bench.state.stranded(1), Some(0));
+    assert_eq!(bench.state.stranded(1), [0]);
 }
 
 #[test]

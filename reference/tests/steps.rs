@@ -109,7 +109,7 @@ fn in_out_and_mid_can_be_bound() {
     let mut bench = Bench::filter(new(OUT, output(OUT, PARENT, &[20])));
     bench.silent(3, 1, 0, 0);
     assert_eq!(bench.ask(6, 1, 0, 0), "no 13");
-    assert_eq!(bench.state.stranded(1), Some(0));
+    assert_eq!(bench.state.stranded(1), [0]);
     // in y. y^parent with y = public mid is `mid`.
     let handler = input(IN, PARENT, &[10], output(10, PARENT, &[20]));
     let mut bench = Bench::pipeline(handler, Sketch::Nil);
@@ -121,7 +121,7 @@ fn in_out_and_mid_can_be_bound() {
     let mut bench = Bench::pipeline(handler, Sketch::Nil);
     bench.silent(3, 1, 0, 0);
     assert!(bench.state.shelf.is_empty());
-    assert_eq!(bench.state.stranded(1), Some(0));
+    assert_eq!(bench.state.stranded(1), [0]);
 }
 
 // ---- Enter and down ----------------------------------------------------
@@ -358,7 +358,7 @@ fn up_from_box_0_goes_to_the_lobby_until_it_is_full() {
     }
     assert_eq!(bench.side(1).particles.len(), 2);
     assert_eq!(bench.ask(3, 1, 0, 0), "no 17");
-    assert_eq!(bench.state.stranded(1), Some(0));
+    assert_eq!(bench.state.stranded(1), Vec::from_iter(0..16));
 }
 
 #[test]
@@ -390,7 +390,7 @@ fn mid_under_the_filter_arrives() {
     bench.silent(3, 1, 0, 0);
     assert_eq!(bench.side(1).lobby[0].stage, Stage::Arrived(MID));
     assert_eq!(bench.ask(6, 1, 0, 0), "no 13");
-    assert_eq!(bench.state.stranded(1), Some(0));
+    assert_eq!(bench.state.stranded(1), [0]);
     assert_eq!(bench.ask(8, 1, 0, 0), "no 10");
     assert_eq!(bench.ask(8, 2, 0, 0), "no 10");
 }
@@ -1081,15 +1081,15 @@ fn stranded_messages() {
     let mut bench = Bench::filter(handler);
     bench.enter(1, &[20]);
     bench.silent(3, 1, 0, 0);
-    assert_eq!(bench.state.stranded(1), None);
+    assert_eq!(bench.state.stranded(1), []);
     bench.silent(6, 1, 1, 0);
-    assert_eq!(bench.state.stranded(1), None);
+    assert_eq!(bench.state.stranded(1), []);
     bench.silent(3, 1, 1, 0);
-    assert_eq!(bench.state.stranded(1), Some(2));
+    assert_eq!(bench.state.stranded(1), [2]);
     bench.silent(3, 1, 0, 0);
-    assert_eq!(bench.state.stranded(1), Some(2));
+    assert_eq!(bench.state.stranded(1), [2, 3]);
     for side in [0, 2, 3, u32::MAX] {
-        assert_eq!(bench.state.stranded(side), None);
+        assert_eq!(bench.state.stranded(side), []);
     }
 }
 

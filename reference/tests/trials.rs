@@ -40,11 +40,11 @@ fn a_listing_a_with_the_bench() {
 #[test]
 fn b_mid_from_side_2_strands() {
     let mut bench = Bench::pipeline(Sketch::Nil, output(MID, PARENT, &[20]));
-    assert_eq!(bench.state.stranded(2), None);
+    assert_eq!(bench.state.stranded(2), []);
     bench.silent(3, 2, 0, 0);
     assert_eq!(bench.ask(6, 2, 0, 0), "no 13");
-    assert_eq!(bench.state.stranded(2), Some(0));
-    assert_eq!(bench.state.stranded(1), None);
+    assert_eq!(bench.state.stranded(2), [0]);
+    assert_eq!(bench.state.stranded(1), []);
     assert!(bench.state.shelf.is_empty());
 }
 

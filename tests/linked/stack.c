@@ -38,7 +38,9 @@ typedef struct {
     size_t numbers[3];
 } Call;
 
-static const char *const functions[] = {"nothing", "bench_text", "bench_run", "bench_check_trace"};
+static const char *const functions[] = {"nothing", "bench_text", "bench_run", "bench_check_trace",
+                                        "bench_stranded_after"};
+enum { FUNCTIONS = sizeof functions / sizeof *functions };
 
 static void *make_call(void *lent)
 {
@@ -54,6 +56,9 @@ static void *make_call(void *lent)
     else if (call->function == 3)
         call->result = bench_check_trace(load->wrapper, load->tables, load->tables_len, load->lengths, four,
                                          load->steps, load->steps_len, load->labels, load->labels_len, call->numbers);
+    else if (call->function == 4)
+        call->result = bench_stranded_after(load->wrapper, load->tables, load->tables_len, load->lengths, four,
+                                            load->steps, load->steps_len, 1, call->out, call->out_len, call->numbers);
     return NULL;
 }
 
@@ -219,7 +224,7 @@ int main(int count, char **words)
         uint32_t *out = malloc(room * sizeof *out);
         if (out == NULL)
             fail("no memory");
-        for (int function = 0; function < 4; function++) {
+        for (int function = 0; function < FUNCTIONS; function++) {
             Call call = {function, load, out, room, 0, {0}};
             size_t used = measure(&call);
             most = used > most ? used : most;

@@ -1,4 +1,5 @@
-/* The repeater bench for C and C++: a run as text, a run by words, and the check of a maker's trace.
+/* The repeater bench for C and C++: a run as text, a run by words, the check of a maker's trace, and the
+ * stranded messages after a run.
  *
  * The functions are in libembed.a (`rt staticlib embed` writes it to target/staticlib/), for x86-64.
  * They read what is lent to them and write only to `out`, `bytes`, `numbers` and `place`; they keep
@@ -49,6 +50,10 @@
  *   channel, side, count, then `count` value words
  * Channels: 0 in, 1 out, 3 log. A silent step has no label record.
  *
+ * STRANDED: a message in a side's lobby that arrived there on a channel other than `out`. It can neither
+ * pass nor leave. Its position is the i that a step would name it by, 0 to 15; positions change when a
+ * message before it goes.
+ *
  * ANSWERS: 20 words for each step:
  *   0       the sort: 0 silent, 1 in, 2 out, 3 refused, 4 log
  *   1       the refusal's number, 10 to 17; 0 if the step is not refused
@@ -81,6 +86,8 @@
  *   20  a step is refused or its record breaks off: the index, from 0, of the first such record
  *   21  the labels are not as claimed: the first index where claim and run part. With too few claimed
  *       it is how many are claimed; a label over, or a record that breaks off, is at its own index
+ * Stranded positions (after load and the steps):
+ *   22  `out` has fewer words than the side has stranded messages
  */
 #ifndef BENCH_H
 #define BENCH_H
@@ -96,6 +103,8 @@ extern "C" {
 #define BENCH_TEXT_BYTES ((size_t)206848)
 /* Words of one answer of bench_run. */
 #define BENCH_ANSWER_WORDS ((size_t)20)
+/* Words of `out` that are enough for bench_stranded_after: a lobby has at most so many messages. */
+#define BENCH_STRANDED_WORDS ((size_t)16)
 
 /* Runs an input of the bench program (lines W, N, V, S) and writes the program's output.
  *   0  the output is at the front of `out`, *bytes of it; the bytes behind it stay as they were
@@ -123,6 +132,19 @@ size_t bench_run(uint32_t wrapper, const uint32_t *tables, size_t tables_len, co
 size_t bench_check_trace(uint32_t wrapper, const uint32_t *tables, size_t tables_len, const uint32_t *lengths,
                          size_t lengths_len, const uint32_t *steps, size_t steps_len, const uint32_t *labels,
                          size_t labels_len, size_t place[2]);
+
+/* Loads the tables, runs the steps and writes the positions of all stranded messages of a side, smallest
+ * first. Refused steps change nothing and the steps after them go on. A side that the wrapper lacks has no
+ * stranded messages. Tested in this order:
+ *   1    load refuses; numbers = number (1 to 7), side, node
+ *   2    a step record breaks off; numbers = 0, 0, 0
+ *   22   see above; numbers = 0, 0, 0
+ *   0    done; numbers = how many positions, 0, 0; the words of `out` behind them stay as they were
+ * Nothing is written to `out` unless 0 is returned.
+ */
+size_t bench_stranded_after(uint32_t wrapper, const uint32_t *tables, size_t tables_len, const uint32_t *lengths,
+                            size_t lengths_len, const uint32_t *steps, size_t steps_len, uint32_t side, uint32_t *out,
+                            size_t out_len, size_t numbers[3]);
 
 #ifdef __cplusplus
 }

@@ -19,7 +19,9 @@ use Rattle.running.specs.declared.Ran.the-variants as ran
 use Rattle.running.specs.Running.{ranOf, RunIs}
 use Rattle.checking.specs.declared.Checked.{Checked}
 use Rattle.checking.specs.Checking.{verdictOf}
-use Rattle.embed.specs.Numbers.{TextNumbers, codeOf, numbersOf, RunNumbers, TraceNumbers}
+use Rattle.stranding.specs.declared.After.{After}
+use Rattle.stranding.specs.Stranding.{Ended, afterOf, AfterIs}
+use Rattle.embed.specs.Numbers.{TextNumbers, codeOf, numbersOf, RunNumbers, TraceNumbers, codeAfter, numbersAfter, AfterNumbers}
 
 -- THE OUTPUT FOR AN INPUT
 
@@ -64,3 +66,10 @@ pub check-told : {v : Verdict} {r : Checked} → verdictOf r ≡ v → (c : Chec
 check-told h c d =
     let same = ap verdictOf (sym d) ∙ h in
     record { answer = ap numberOf same; place = ap (λ (z : Verdict). sideIn z ∷ indexOf z ∷ []) same }
+
+-- WHAT IS STRANDED AFTER SOME STEPS
+
+pub after-told : {x : Ended (List ℕ)} {lent new : List ℕ} {r : After} → AfterIs x lent new r → (c : After) → r ≡ c → AfterNumbers x lent new (numbersAfter (afterOf c)) (codeAfter (afterOf c))
+after-told h c d =
+    let same = ap afterOf (sym d) ∙ h .answer in
+    record { answer = ap codeAfter same; numbers = ap numbersAfter same; words = h .words }

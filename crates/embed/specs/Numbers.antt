@@ -3,8 +3,9 @@ use mathlib.Core.Path.{_≡_}
 use mathlib.Core.List.{List, [], _∷_}
 use Prim.Native.Nat.{ℕ}
 use lib.ListN.{length}
-use Rattle.model.specs.Basics.{choose}
+use Rattle.model.specs.Basics.{choose, Res, refuse, done}
 use Rattle.format.specs.Words.{Ran, brokenOff, tooShort, unloaded, answered, writtenBy, onto}
+use Rattle.stranding.specs.Stranding as ended
 use Rattle.claims.specs.Claims.{Verdict, numberOf, sideIn, indexOf}
 use Rattle.text.specs.Text.{hasRoom, bufferAfter}
 
@@ -44,3 +45,25 @@ pub record RunNumbers (x : Ran) (lent after ns : List ℕ) (r : ℕ) : Type 0 wh
 pub record TraceNumbers (v : Verdict) (p : List ℕ) (r : ℕ) : Type 0 where
   pub answer : r ≡ numberOf v
   pub place : p ≡ sideIn v ∷ indexOf v ∷ []
+
+-- WHAT IS STRANDED AFTER SOME STEPS
+
+-- what it comes to: 0 the positions are put, 1 load refuses, 2 the steps break off, 22 the lent list is too short
+abbrev pub codeAfter : ended.Ended (Res ℕ) → ℕ
+codeAfter (ended.told (done n)) = 0
+codeAfter (ended.told (refuse k)) = k
+codeAfter (ended.unloaded e) = 1
+codeAfter ended.brokenOff = 2
+
+-- three numbers of it: how many positions, or the number, side and node of load's refusal; 0 where there is nothing to say
+abbrev pub numbersAfter : ended.Ended (Res ℕ) → List ℕ
+numbersAfter (ended.told (done n)) = n ∷ 0 ∷ 0 ∷ []
+numbersAfter (ended.told (refuse k)) = 0 ∷ 0 ∷ 0 ∷ []
+numbersAfter (ended.unloaded e) = e .number ∷ e .side ∷ e .node ∷ []
+numbersAfter ended.brokenOff = 0 ∷ 0 ∷ 0 ∷ []
+
+-- r and the numbers are those of what it comes to, and the lent list has the positions at its start and is otherwise as it was
+pub record AfterNumbers (x : ended.Ended (List ℕ)) (lent after ns : List ℕ) (r : ℕ) : Type 0 where
+  pub answer : r ≡ codeAfter (ended.countFor x lent)
+  pub numbers : ns ≡ numbersAfter (ended.countFor x lent)
+  pub words : after ≡ ended.lentAfter x lent

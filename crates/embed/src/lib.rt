@@ -5,12 +5,15 @@ ghost use Rattle.format.specs.Output.{output};
 ghost use Rattle.format.specs.Words.{runOf};
 ghost use Rattle.claims.specs.Claims.{checkTrace};
 ghost use Rattle.embed.specs.Lent.{lentComposition};
-ghost use Rattle.embed.specs.Numbers.{TextNumbers, RunNumbers, TraceNumbers};
+ghost use Rattle.stranding.specs.Stranding.{strandedAfter};
+ghost use Rattle.embed.specs.Numbers.{TextNumbers, RunNumbers, TraceNumbers, AfterNumbers};
 use checking::Checked;
 use checking::check_trace;
 use parts::parts;
 use running::Ran;
 use running::run;
+use stranding::After;
+use stranding::stranded_after;
 use text::Written;
 use text::text;
 
@@ -103,6 +106,44 @@ pub extern "C" fn bench_check_trace(
         Checked::LabelAt(k) => {
             *place = [0, k];
             21
+        },
+    }
+}
+
+// The stranded positions of a side after a list of steps, smallest first, written to `out`. Answers 0 where they are written, and
+// `numbers` has how many there are; 1 where load refuses, with its number, side and node; 2 where the steps break off; 22 where `out` is
+// too short.
+#[no_mangle]
+pub extern "C" fn bench_stranded_after(
+    wrapper: u32,
+    tables: &[u32],
+    lengths: &[u32],
+    steps: &[u32],
+    side: u32,
+    out: &mut [u32],
+    numbers: &mut [usize; 3],
+) -> usize
+    ensures { λ r. ⌜ AfterNumbers (strandedAfter (lentComposition wrapper (now (tables .entry)) (now (lengths .entry))) (now (steps .entry)) side) (now (out .entry)) (now (out .exit)) (now (numbers .exit)) r ⌝ }
+{
+    let nodes = parts(tables, lengths, 0);
+    let pools = parts(tables, lengths, 1);
+    let after = stranded_after(wrapper, nodes, pools, steps, side, out);
+    match after {
+        After::Count(count) => {
+            *numbers = [count, 0, 0];
+            0
+        },
+        After::Unloaded(cause, of, node) => {
+            *numbers = [cause, of as usize, node];
+            1
+        },
+        After::BrokenOff => {
+            *numbers = [0, 0, 0];
+            2
+        },
+        After::TooShort => {
+            *numbers = [0, 0, 0];
+            22
         },
     }
 }

@@ -1,3 +1,3 @@
 pub mod LoadLaws
 pub mod StepLaws
-pub mod FindLaws
+pub mod StrandedLaws

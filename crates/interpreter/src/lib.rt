@@ -6,11 +6,11 @@ use values::Value;
 
 mod load_state; // load
 mod step_state; // step
-mod stranded_message; // stranded
+mod stranded_positions; // stranded
 
 pub use load_state::load;
 pub use step_state::step;
-pub use stranded_message::stranded;
+pub use stranded_positions::stranded;
 
 pub struct LoadAnswer {
     pub outcome: Outcome,
@@ -23,10 +23,4 @@ pub struct Stepped {
     pub side: u32,
     pub value: Value,
     pub state: State,
-}
-
-// The position of a stranded message, or that there is none.
-pub enum Found {
-    At(usize),
-    Nothing,
 }

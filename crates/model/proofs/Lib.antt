@@ -6,3 +6,4 @@ pub mod Complete
 pub mod Independent
 pub mod Results
 pub mod Causes
+pub mod Stranded

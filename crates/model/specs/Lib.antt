@@ -23,3 +23,4 @@ pub mod LoggingTrials
 pub mod FormedStates
 pub mod Corollaries
 pub mod OutsideTrials
+pub mod StrandedTrials

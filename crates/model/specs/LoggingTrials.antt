@@ -1,6 +1,5 @@
 -- Trials of the logging wrapper (document 02, request 2.1): where copies stand, what they fill, what they let out.
 use mathlib.Core.Path.{_≡_}
-use mathlib.Core.Bool.{false}
 use mathlib.Core.List.{List, [], _∷_, _++_, map}
 use mathlib.Core.Option.{none}
 use Prim.Native.Nat.{ℕ}
@@ -68,7 +67,7 @@ notLogged = record {
   composition = logged (filter (node 1 1 2 0 0 (node 4 3 1 0 0 (node 4 2 1 0 0 []))) (20 ∷ []));
   steps = ask 3 1 0 0 ∷ ask 3 1 0 0 ∷ ask 6 1 0 0 ∷ ask 7 1 0 0 ∷ ask 6 1 1 0 ∷ [];
   asked = 1;
-  expected = record { answers = tau 1 ∷ tau 1 ∷ no 1 13 ∷ no 1 13 ∷ no 1 13 ∷ []; positions = 0 ∷ 1 ∷ []; nothing = false };
+  expected = record { answers = tau 1 ∷ tau 1 ∷ no 1 13 ∷ no 1 13 ∷ no 1 13 ∷ []; positions = 0 ∷ 1 ∷ [] };
 }
 
 -- nobody takes, and there is no side 2

@@ -1,6 +1,6 @@
 -- Trials of names brought from outside (document 02, request 2.3): which enter, what they may be, where they come out, and two runs with them.
 use mathlib.Core.Path.{_≡_}
-use mathlib.Core.Bool.{true, false}
+use mathlib.Core.Bool.{true}
 use mathlib.Core.List.{List, [], _∷_, _++_, map}
 use Prim.Native.Nat.{ℕ}
 use Rattle.model.specs.Side.{State, side}
@@ -48,7 +48,7 @@ strandedOn = record {
   composition = filter (node 6 0 1 0 1 (node 4 10 1 1 0 [])) (10 ∷ 20 ∷ []);
   steps = entering 1 (196863 ∷ []) ∷ ask 2 1 0 0 ∷ ask 5 1 1 0 ∷ ask 3 1 1 0 ∷ ask 6 1 0 0 ∷ [];
   asked = 1;
-  expected = record { answers = inward 1 (196863 ∷ []) ∷ tau 1 ∷ tau 1 ∷ tau 1 ∷ no 1 13 ∷ []; positions = 0 ∷ []; nothing = false };
+  expected = record { answers = inward 1 (196863 ∷ []) ∷ tau 1 ∷ tau 1 ∷ tau 1 ∷ no 1 13 ∷ []; positions = 0 ∷ [] };
 }
 
 -- as a box name and as a tag, by binding: `!in y. (y[5^up z. 6^up z] | 5^y y | 6^y z. out^up z)`; into the box, out of it, and out
@@ -82,7 +82,7 @@ onSide2Alone = record {
   composition = pipeline toMid (10 ∷ []) toMid (10 ∷ []);
   steps = entering 2 (196700 ∷ []) ∷ ask 2 2 0 0 ∷ ask 5 2 1 0 ∷ ask 3 2 1 0 ∷ ask 8 1 0 0 ∷ ask 6 1 0 0 ∷ ask 7 1 0 0 ∷ ask 6 2 0 0 ∷ [];
   asked = 2;
-  expected = record { answers = inward 2 (196700 ∷ []) ∷ tau 2 ∷ tau 2 ∷ tau 2 ∷ no 1 10 ∷ no 1 10 ∷ no 1 10 ∷ no 2 13 ∷ []; positions = 0 ∷ []; nothing = false };
+  expected = record { answers = inward 2 (196700 ∷ []) ∷ tau 2 ∷ tau 2 ∷ tau 2 ∷ no 1 10 ∷ no 1 10 ∷ no 1 10 ∷ no 2 13 ∷ []; positions = 0 ∷ [] };
 }
 
 abbrev pub outsideTrials : List Trial

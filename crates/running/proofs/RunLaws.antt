@@ -6,8 +6,8 @@ use mathlib.Core.Option.{Option, none, some}
 use Prim.Native.Nat.{ℕ, _+_, _-_, _*_, _/_, _<_, _≤_}
 use native.Mathlib.Omega.{arith}
 use native.Mathlib.Numerals.{add-one}
-use borrow.Author.Tests.{lt-ltb, le-ltb, leb-true, leb-false}
-use lib.Dec.{ltb, leb}
+use borrow.Author.Tests.{lt-ltb, le-ltb}
+use lib.Dec.{ltb}
 use lib.ListN.{length, getD, take, drop, set, replicate, length-append, take-append-drop}
 use lib.Seq.{paste, take-all, length-take-le, drop-drop, paste-suc, length-paste, take-paste, drop-paste}
 use Rattle.model.specs.Basics.{choose}
@@ -19,12 +19,12 @@ use Rattle.model.proofs.Basics.Tests.{some-inj}
 use Rattle.format.specs.Words.{before, stepsOf, stepAt, saidWords, givenWords, answerWords, allAnswerWords, answersOf, tooShort, answered, runFrom, runSteps, runOf}
 use Rattle.format.specs.Words.{Ran as FRan}
 use Rattle.format.proofs.AnswerWords.{answers-many, words-answers}
-use Rattle.format.proofs.StepWords.{steps-next, steps-short, steps-cut, steps-end, Next, next-step}
+use Rattle.format.proofs.StepWords.{steps-end, Next, next-step}
 use Rattle.steps.specs.declared.Said.{Said}
 use Rattle.steps.specs.declared.Said.the-variants as said
 use Rattle.answers.specs.Answers.{saidOf, givenFor}
 use Rattle.execution.specs.Execution.{recordEnd}
-use Rattle.execution.proofs.RecordEnds.{found-end, found-none}
+use Rattle.execution.proofs.RecordEnds.{steps-found, steps-broken}
 use Rattle.running.specs.declared.Ran.{Ran}
 use Rattle.running.specs.declared.Ran.the-variants as ran
 use Rattle.running.specs.Running.{countOf, wordsIn, Put, RunIs}
@@ -47,24 +47,13 @@ count-before n x (some xs) = ap some (omega arith)
 -- a record is found, with which a step is counted
 pub count-next : (l : List ℕ) (p n e : ℕ) (z : Option ℕ) → recordEnd 4 l p ≡ some e → z ≡ plus n (countOf (stepsOf (drop p l))) → z ≡ plus (n + 1) (countOf (stepsOf (drop e l)))
 count-next l p n e z f h =
-    let at = found-end 4 l p e f in
-    let next = steps-next l p (omega (arith, at .1)) (omega (arith, at .1)) in
-    let behind : p + 5 + getD l (p + 4) 0 ≡ e = omega (arith, at .0) in
     h
-    ∙ ap (λ (r : Option (List Step)). plus n (countOf r)) next
-    ∙ count-before n (stepAt l p) (stepsOf (drop (p + 5 + getD l (p + 4) 0) l))
-    ∙ ap (λ (x : ℕ). plus (n + 1) (countOf (stepsOf (drop x l)))) behind
+    ∙ ap (λ (r : Option (List Step)). plus n (countOf r)) (steps-found l p e f)
+    ∙ count-before n (stepAt l p) (stepsOf (drop e l))
 
 -- or none, where words are left
 pub count-broken : (l : List ℕ) (p n : ℕ) (z : Option ℕ) → p < length l → recordEnd 4 l p ≡ none → z ≡ plus n (countOf (stepsOf (drop p l))) → none ≡ z
-count-broken l p n z a f h = sym (h ∙ ap (λ (r : Option (List Step)). plus n (countOf r)) (by (leb (p + 5) (length l)) refl))
-  where
-    off : length l < p + 4 + 1 + getD l (p + 4) 0
-    off = found-none 4 l p f
-
-    by : (t : Bool) → leb (p + 5) (length l) ≡ t → stepsOf (drop p l) ≡ none
-    by true e = let y = leb-true (p + 5) (length l) e in steps-cut l p y (omega (arith, off))
-    by false e = steps-short l p a (leb-false (p + 5) (length l) e)
+count-broken l p n z a f h = sym (h ∙ ap (λ (r : Option (List Step)). plus n (countOf r)) (steps-broken l p a f))
 
 pub count-end : (l : List ℕ) (p n : ℕ) (z : Option ℕ) → length l ≤ p → z ≡ plus n (countOf (stepsOf (drop p l))) → some n ≡ z
 count-end l p n z h e = sym (e ∙ ap (λ (r : Option (List Step)). plus n (countOf r)) (steps-end l p h) ∙ ap some (omega arith))

@@ -1,14 +1,15 @@
 // Load, a step and the question `stranded`, with one pool for both sides, and how the lines about them begin.
 ghost use Prim.Native.Nat.{_≤_};
-use interpreter::Found;
 use interpreter::Stepped;
 use interpreter::load;
 use interpreter::step;
 use interpreter::stranded;
+use listing::Listed;
 use sides::State;
 use test_output::number;
 use test_output::word;
 use test_output::write;
+use test_schedules::shown::words;
 
 // So many, or none.
 fn count_if(lent: bool, n: usize) -> usize
@@ -66,19 +67,6 @@ pub fn after<'a>(
     r.state
 }
 
-// What is stranded on a side.
-fn lost_at<'a>(
-    wrapper: u32,
-    nodes1: &'a [u32],
-    nodes2: &'a [u32],
-    pool: &[u32],
-    s: State,
-    side: u32,
-) -> Found {
-    let n = count_if(0 < nodes2.len(), pool.len());
-    stranded(wrapper, [nodes1, nodes2], [pool, &pool[0..n]], s, side)
-}
-
 // A wrapper's name, or its number where it is none.
 fn wrapper_name(wrapper: u32) {
     if wrapper == 1 {
@@ -108,15 +96,16 @@ pub fn begin(question: &[u8], name: &[u8], wrapper: u32, side: u32) {
     write(b":");
 }
 
-// The position of a stranded message, or none.
-fn position(f: Found) {
-    match f {
-        Found::At(k) => number(k),
-        Found::Nothing => write(b" none"),
+// How many positions there are, or 22.
+fn count(l: Listed) {
+    match l {
+        Listed::Count(n) => number(n),
+        Listed::TooShort => write(b" too short (22)"),
     }
 }
 
-// A line: what is stranded on the side that is asked.
+// A line: how many messages are stranded on the side that is asked, with a list lent of so many words, at most 18, all of them 7
+// before; and its words after that.
 pub fn line<'a>(
     name: &[u8],
     wrapper: u32,
@@ -125,8 +114,23 @@ pub fn line<'a>(
     pool: &[u32],
     s: State,
     side: u32,
+    room: usize,
 ) {
     begin(b"stranded", name, wrapper, side);
-    position(lost_at(wrapper, nodes1, nodes2, pool, s, side));
-    write(b"\n");
+    let n = count_if(0 < nodes2.len(), pool.len());
+    let mut list = [7u32; 18];
+    if room <= 18 {
+        let lent = &mut list[0..room];
+        count(stranded(
+            wrapper,
+            [nodes1, nodes2],
+            [pool, &pool[0..n]],
+            s,
+            side,
+            lent,
+        ));
+        write(b",");
+        words(lent);
+        write(b"\n");
+    }
 }

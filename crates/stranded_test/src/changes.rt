@@ -67,3 +67,17 @@ pub fn with_messages(s: State, k: usize, n: usize) -> State
     };
     with_arrived(with_rest(s, k, r.with_lobby(l)), k, 0)
 }
+
+// All 16 messages arrived on a channel.
+pub fn with_all_arrived(s: State, k: usize, channel: u32) -> State
+    requires { ⌜ k < 2 ⌝ }
+{
+    let o = s.sides[k];
+    let r = o.rest;
+    let m = message(Status::Arrived, channel);
+    let l = Lobby {
+        msgs: [m; 16],
+        len: 16,
+    };
+    with_rest(s, k, r.with_lobby(l))
+}

@@ -17,7 +17,7 @@ fn ask<'a>(
     i: usize,
 ) {
     let t = after(wrapper, nodes1, nodes2, pool, s, kind, side, i);
-    line(name, wrapper, nodes1, nodes2, pool, t, side);
+    line(name, wrapper, nodes1, nodes2, pool, t, side, 4);
 }
 
 // One message: it goes up on `out`, `in`, `mid` or a new name, or enters. Side 1's on `mid` goes to the shelf under the pipeline.
@@ -47,31 +47,40 @@ fn one_side<'a>(wrapper: u32, nodes1: &'a [u32], nodes2: &'a [u32], pool: &[u32]
 fn absent_filtered(nodes: &[u32], pool: &[u32]) {
     let none = &nodes[..0];
     let s = stranded_on_1(1, nodes, none, pool);
-    line(b"one on side 1", 1, nodes, none, pool, s, 1);
-    line(b"one on side 1", 1, nodes, none, pool, s, 2);
-    line(b"one on side 1", 1, nodes, none, pool, s, 0);
-    line(b"one on side 1", 1, nodes, none, pool, s, 3);
-    line(b"one on side 1", 1, nodes, none, pool, s, 4294967295);
+    line(b"one on side 1", 1, nodes, none, pool, s, 1, 4);
+    line(b"one on side 1", 1, nodes, none, pool, s, 2, 4);
+    line(b"one on side 1", 1, nodes, none, pool, s, 0, 4);
+    line(b"one on side 1", 1, nodes, none, pool, s, 3, 4);
+    line(b"one on side 1", 1, nodes, none, pool, s, 4294967295, 4);
 }
 
 // Both sides of the pipeline have one.
 fn absent_piped(nodes: &[u32], pool: &[u32]) {
     let s = stranded_on_both(nodes, pool);
-    line(b"one on both sides", 2, nodes, nodes, pool, s, 1);
-    line(b"one on both sides", 2, nodes, nodes, pool, s, 2);
-    line(b"one on both sides", 2, nodes, nodes, pool, s, 0);
-    line(b"one on both sides", 2, nodes, nodes, pool, s, 3);
-    line(b"one on both sides", 2, nodes, nodes, pool, s, 4294967295);
+    line(b"one on both sides", 2, nodes, nodes, pool, s, 1, 4);
+    line(b"one on both sides", 2, nodes, nodes, pool, s, 2, 4);
+    line(b"one on both sides", 2, nodes, nodes, pool, s, 0, 4);
+    line(b"one on both sides", 2, nodes, nodes, pool, s, 3, 4);
+    line(
+        b"one on both sides",
+        2,
+        nodes,
+        nodes,
+        pool,
+        s,
+        4294967295,
+        4,
+    );
 }
 
 // So has the logging wrapper's side 1: a message that leaves as a copy is not stranded.
 fn absent_logged(nodes: &[u32], pool: &[u32]) {
     let none = &nodes[..0];
     let s = stranded_on_1(3, nodes, none, pool);
-    line(b"one on side 1", 3, nodes, none, pool, s, 1);
-    line(b"one on side 1", 3, nodes, none, pool, s, 2);
+    line(b"one on side 1", 3, nodes, none, pool, s, 1, 4);
+    line(b"one on side 1", 3, nodes, none, pool, s, 2, 4);
     let t = after(3, nodes, none, pool, s, 1, 1, 0);
-    line(b"one on side 1, enter", 3, nodes, none, pool, t, 1);
+    line(b"one on side 1, enter", 3, nodes, none, pool, t, 1, 4);
 }
 
 // Side 1's message on `in` is up.

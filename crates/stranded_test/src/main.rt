@@ -1,7 +1,8 @@
 // What the question `stranded` answers: in lobbies that load and steps give, of a side that is not there, and where tables are refused or the
-// state is not well formed. Then the side in a refusal.
+// state is not well formed; with lent lists of every length. Then the side in a refusal.
 mod calls; // load, a step and the question `stranded`
 mod changes; // states with one thing put anew
+mod lists; // lent lists that are too short, long enough and longer
 mod lobbies; // what is stranded in lobbies by load and steps
 mod refusals; // the side of a refused step
 mod unready; // what is stranded where tables are refused or the state is broken
@@ -28,6 +29,7 @@ fn asked<'a>(list: &'a [u32], n: usize, nil: &'a [u32], unknown: &'a [u32]) {
     if n <= list.len() {
         let nodes = &list[0..n];
         lobbies::lines(nodes, &pool);
+        lists::lines(nodes, &pool);
         unready::lines(nodes, &pool, nil, unknown);
         refusals::lines(nodes, &pool, unknown);
     }

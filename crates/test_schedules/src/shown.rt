@@ -29,6 +29,15 @@ fn word(w: u32) {
     io::print_decimal(1, wide_word(w));
 }
 
+// All words of a list, each behind a blank.
+pub fn words(list: &[u32]) {
+    let mut k: usize = 0;
+    while k < list.len() {
+        word(list[k]);
+        k += 1;
+    }
+}
+
 fn word_at(words: &[u32], i: usize) -> u32 {
     if i < words.len() { words[i] } else { 0 }
 }

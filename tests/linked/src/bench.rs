@@ -2,7 +2,7 @@
 
 use reference::claims::{check, Verdict};
 use reference::tables::{LoadRefusal, Table};
-use reference::words::{lent_tables, run_words, NoRun};
+use reference::words::{lent_tables, run_words, stranded_words, NoList, NoRun};
 
 /// What load takes: the wrapper, both sides' tables in one list and the lengths of its parts.
 #[derive(Clone, Copy, Debug)]
@@ -28,6 +28,14 @@ pub trait Bench {
         steps: &[u32],
         labels: &[u32],
         place: &mut [usize; 2],
+    ) -> usize;
+    fn stranded_after(
+        &self,
+        tables: Tables,
+        steps: &[u32],
+        side: u32,
+        out: &mut [u32],
+        numbers: &mut [usize; 3],
     ) -> usize;
 }
 
@@ -74,20 +82,47 @@ impl Bench for Separate {
         let verdict = check(tables.wrapper, tables.parts(), steps, labels);
         told_verdict(verdict, place)
     }
+
+    fn stranded_after(
+        &self,
+        tables: Tables,
+        steps: &[u32],
+        side: u32,
+        out: &mut [u32],
+        numbers: &mut [usize; 3],
+    ) -> usize {
+        let found = stranded_words(tables.wrapper, tables.parts(), steps, side, out);
+        told_stranded(found, numbers)
+    }
 }
 
 /// The result of a run with its numbers.
 pub fn told_run(ran: Result<usize, NoRun>, numbers: &mut [usize; 3]) -> usize {
     let (result, told) = match ran {
         Ok(count) => (0, [count, 0, 0]),
-        Err(NoRun::Unloaded(LoadRefusal { number, side, node })) => {
-            (1, [number, side, node].map(|word| word as usize))
-        }
+        Err(NoRun::Unloaded(refusal)) => (1, refusal_numbers(refusal)),
         Err(NoRun::BrokenOff) => (2, [0; 3]),
         Err(NoRun::TooShort) => (3, [0; 3]),
     };
     *numbers = told;
     result
+}
+
+/// The result of the question for stranded positions with its numbers.
+pub fn told_stranded(found: Result<usize, NoList>, numbers: &mut [usize; 3]) -> usize {
+    let (result, told) = match found {
+        Ok(count) => (0, [count, 0, 0]),
+        Err(NoList::Unloaded(refusal)) => (1, refusal_numbers(refusal)),
+        Err(NoList::BrokenOff) => (2, [0; 3]),
+        Err(NoList::TooShort) => (22, [0; 3]),
+    };
+    *numbers = told;
+    result
+}
+
+/// Number, side and node of load's refusal.
+fn refusal_numbers(LoadRefusal { number, side, node }: LoadRefusal) -> [usize; 3] {
+    [number, side, node].map(|word| word as usize)
 }
 
 /// The number of a verdict with its place.

@@ -34,7 +34,7 @@ impl List {
     }
 }
 
-/// Tables, steps and labels; a run has no labels.
+/// Tables, steps and labels; only a check asks about the labels.
 #[derive(Clone, Debug, Default)]
 pub struct Claim {
     pub wrapper: u32,
@@ -93,6 +93,8 @@ pub enum Call {
     Check(Claim),
     /// A run with so many words for its answers.
     Run(Claim, usize),
+    /// The stranded positions of a side after a run, with so many words for them.
+    Stranded(Claim, u32, usize),
     /// An input with so many bytes for its output.
     Text(Vec<u8>, usize),
 }
@@ -103,6 +105,7 @@ impl Call {
         match self {
             Call::Check(_) => "check_trace",
             Call::Run(..) => "run",
+            Call::Stranded(..) => "stranded_after",
             Call::Text(..) => "text",
         }
     }

@@ -3,6 +3,7 @@
 use crate::bench::{Bench, Separate, Tables};
 use crate::call::{Call, Claim, List};
 use crate::lent::{odd_byte, odd_number, odd_word, small_word, Lent};
+use reference::state::LOBBY_LIMIT;
 use std::fmt::Debug;
 
 /// What the separate implementation told, and how the bench differs.
@@ -16,6 +17,7 @@ pub fn compare(bench: &dyn Bench, call: &Call) -> Compared {
     match call {
         Call::Check(claim) => compare_check(bench, claim),
         Call::Run(claim, room) => compare_run(bench, claim, *room),
+        Call::Stranded(claim, side, room) => compare_stranded(bench, claim, *side, *room),
         Call::Text(input, room) => compare_text(bench, input, *room),
     }
 }
@@ -110,11 +112,23 @@ fn compare_check(bench: &dyn Bench, claim: &Claim) -> Compared {
     })
 }
 
-fn compare_run(bench: &dyn Bench, claim: &Claim, room: usize) -> Compared {
+/// A call of a function that writes words and three numbers.
+type Filling<'f> = &'f dyn Fn(&dyn Bench, Tables, &[u32], &mut [u32], &mut [usize; 3]) -> usize;
+
+/// What the separate implementation told, and how the bench differs.
+struct Filled {
+    result: usize,
+    numbers: [usize; 3],
+    differences: Differences,
+}
+
+/// Makes such a call of both, with so many words to write to, and compares.
+fn compare_filling(bench: &dyn Bench, claim: &Claim, room: usize, fill: Filling) -> Filled {
     let lists = Lists::new(claim);
     let mut numbers = Lent::filled(3, odd_number);
     let mut out = Lent::filled(room, odd_word);
-    let got = bench.run(
+    let got = fill(
+        bench,
         lists.tables(claim.wrapper),
         lists.steps.list(),
         out.list_mut(),
@@ -122,7 +136,8 @@ fn compare_run(bench: &dyn Bench, claim: &Claim, room: usize) -> Compared {
     );
     let mut right_numbers = [0; 3];
     let mut right_out = out.first().to_vec();
-    let right = Separate.run(
+    let right = fill(
+        &Separate,
         claim.tables(),
         claim.steps.lent(),
         &mut right_out,
@@ -135,12 +150,43 @@ fn compare_run(bench: &dyn Bench, claim: &Claim, room: usize) -> Compared {
     differences.expect_kept("a word of the tables or steps", lists.are_kept());
     differences.expect_kept("a number beside numbers", numbers.beside_is_kept());
     differences.expect_kept("a word beside out", out.beside_is_kept());
-    differences.told(match right {
-        0 => String::from("done"),
-        1 => format!("load {}", right_numbers[0]),
-        2 => String::from("broken off"),
-        _ => String::from("too short"),
-    })
+    Filled {
+        result: right,
+        numbers: right_numbers,
+        differences,
+    }
+}
+
+impl Filled {
+    /// What was told: by these words where the list was filled.
+    fn told(self, done: &str) -> Compared {
+        self.differences.told(match self.result {
+            0 => String::from(done),
+            1 => format!("load {}", self.numbers[0]),
+            2 => String::from("broken off"),
+            _ => String::from("too short"),
+        })
+    }
+}
+
+fn compare_run(bench: &dyn Bench, claim: &Claim, room: usize) -> Compared {
+    let filled = compare_filling(bench, claim, room, &|bench, tables, steps, out, numbers| {
+        bench.run(tables, steps, out, numbers)
+    });
+    filled.told("done")
+}
+
+fn compare_stranded(bench: &dyn Bench, claim: &Claim, side: u32, room: usize) -> Compared {
+    let filled = compare_filling(bench, claim, room, &|bench, tables, steps, out, numbers| {
+        bench.stranded_after(tables, steps, side, out, numbers)
+    });
+    let done = match filled.numbers[0] {
+        0 => "none",
+        1 => "one",
+        LOBBY_LIMIT => "sixteen",
+        _ => "several",
+    };
+    filled.told(done)
 }
 
 fn compare_text(bench: &dyn Bench, input: &[u8], room: usize) -> Compared {

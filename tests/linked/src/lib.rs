@@ -1,5 +1,6 @@
 //! Compares the static library of the bench with the separate implementation: generated calls of
-//! `bench_check_trace`, `bench_run` and `bench_text`, right ones and damaged ones, each made of both.
+//! `bench_check_trace`, `bench_run`, `bench_stranded_after` and `bench_text`, right ones and damaged ones,
+//! each made of both.
 //!
 //! A call differs if the answer, the numbers beside it or a word of the lent list differ, or if a word
 //! that is only lent for reading or stands beside a lent list is no longer what it was.

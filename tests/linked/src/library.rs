@@ -37,6 +37,19 @@ extern "C" {
         labels_len: usize,
         place: *mut [usize; 2],
     ) -> usize;
+    fn bench_stranded_after(
+        wrapper: u32,
+        tables: *const u32,
+        tables_len: usize,
+        lengths: *const u32,
+        lengths_len: usize,
+        steps: *const u32,
+        steps_len: usize,
+        side: u32,
+        out: *mut u32,
+        out_len: usize,
+        numbers: *mut [usize; 3],
+    ) -> usize;
 }
 
 impl Bench for Library {
@@ -97,6 +110,32 @@ impl Bench for Library {
                 labels.as_ptr(),
                 labels.len(),
                 place,
+            )
+        }
+    }
+
+    fn stranded_after(
+        &self,
+        tables: Tables,
+        steps: &[u32],
+        side: u32,
+        out: &mut [u32],
+        numbers: &mut [usize; 3],
+    ) -> usize {
+        // As above.
+        unsafe {
+            bench_stranded_after(
+                tables.wrapper,
+                tables.words.as_ptr(),
+                tables.words.len(),
+                tables.lengths.as_ptr(),
+                tables.lengths.len(),
+                steps.as_ptr(),
+                steps.len(),
+                side,
+                out.as_mut_ptr(),
+                out.len(),
+                numbers,
             )
         }
     }

@@ -6,7 +6,6 @@ use reference::generator::generate;
 use reference::lines::{read_script, Script};
 use reference::load_script;
 use reference::steps::Step;
-use reference::tables::Table;
 use reference::words::{label_words, step_words, Record};
 
 /// Most runs are cut after so many steps.
@@ -87,9 +86,5 @@ pub fn claim_about(script: &Script, steps: Vec<u32>, labels: Vec<u32>) -> Claim 
 
 /// The visible labels of these steps, if all are legal.
 pub fn labels_of(script: &Script, steps: &[u32]) -> Option<Vec<Record>> {
-    let tables = [0, 1].map(|place| Table {
-        nodes: &script.nodes[place],
-        pool: &script.pools[place],
-    });
-    visible_labels(script.wrapper, tables, steps).ok()
+    visible_labels(script.wrapper, script.tables(), steps).ok()
 }

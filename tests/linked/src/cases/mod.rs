@@ -6,6 +6,7 @@ mod lists;
 mod long;
 mod runs;
 mod steps;
+mod stranded;
 mod tables;
 mod texts;
 
@@ -50,5 +51,6 @@ pub fn of_seed(seed: u64) -> Vec<Case> {
         1 => cases.extend(long::cases(random)),
         _ => {}
     }
+    cases.extend(stranded::cases(random, seed, &base, &cases));
     cases
 }

@@ -12,15 +12,41 @@ const CLAIMS: usize = 14;
 pub fn cases(random: &mut Random, base: &Base, checked: &[Case]) -> Vec<Case> {
     let mut cases = with_rooms(random, &base.claim_of(&base.asked, &[]));
     cases.extend(with_rooms(random, &base.claim()));
-    let damaged = |case: &&Case| case.sort == "tables damaged";
-    let (damaged, others): (Vec<&Case>, Vec<&Case>) = checked.iter().partition(damaged);
+    let checked = Checked::of(checked);
     for place in 0..CLAIMS {
-        let from = if place % 3 == 0 { &damaged } else { &others };
-        if let Call::Check(claim) = &from[random.below(from.len())].call {
-            cases.extend(with_rooms(random, claim));
-        }
+        let claim = checked.pick(random, place);
+        cases.extend(with_rooms(random, claim));
     }
     cases
+}
+
+/// The claims of a seed that are checked.
+pub struct Checked<'c> {
+    damaged: Vec<&'c Claim>,
+    others: Vec<&'c Claim>,
+}
+
+impl<'c> Checked<'c> {
+    /// The claims among these cases.
+    pub fn of(cases: &'c [Case]) -> Checked<'c> {
+        let (mut damaged, mut others) = (Vec::new(), Vec::new());
+        for case in cases {
+            match &case.call {
+                Call::Check(claim) if case.sort == "tables damaged" => damaged.push(claim),
+                Call::Check(claim) => others.push(claim),
+                _ => {}
+            }
+        }
+        Checked { damaged, others }
+    }
+
+    /// One of them; every third time it has damaged tables.
+    pub fn pick(&self, random: &mut Random, place: usize) -> &'c Claim {
+        random.pick(match place % 3 {
+            0 => &self.damaged,
+            _ => &self.others,
+        })
+    }
 }
 
 /// A run with exactly enough words, with one too few, with more and with some other number.

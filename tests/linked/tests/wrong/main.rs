@@ -3,6 +3,7 @@
 
 mod checks;
 mod runs;
+mod stranded;
 mod texts;
 
 use linked::bench::{Bench, Separate, Tables};
@@ -16,12 +17,14 @@ const SEEDS: u64 = 24;
 
 type Check = fn(Tables, &[u32], &[u32], &mut [usize; 2]) -> usize;
 type Run = fn(Tables, &[u32], &mut [u32], &mut [usize; 3]) -> usize;
+type Stranded = fn(Tables, &[u32], u32, &mut [u32], &mut [usize; 3]) -> usize;
 type Text = fn(&[u8], &mut [u8], &mut usize) -> usize;
 
-/// A bench of any three functions.
+/// A bench of any four functions.
 struct Stub {
     check: Check,
     run: Run,
+    stranded: Stranded,
     text: Text,
 }
 
@@ -29,6 +32,9 @@ struct Stub {
 const RIGHT: Stub = Stub {
     check: |tables, steps, labels, place| Separate.check_trace(tables, steps, labels, place),
     run: |tables, steps, out, numbers| Separate.run(tables, steps, out, numbers),
+    stranded: |tables, steps, side, out, numbers| {
+        Separate.stranded_after(tables, steps, side, out, numbers)
+    },
     text: |input, out, bytes| Separate.text(input, out, bytes),
 };
 
@@ -55,6 +61,17 @@ impl Bench for Stub {
         place: &mut [usize; 2],
     ) -> usize {
         (self.check)(tables, steps, labels, place)
+    }
+
+    fn stranded_after(
+        &self,
+        tables: Tables,
+        steps: &[u32],
+        side: u32,
+        out: &mut [u32],
+        numbers: &mut [usize; 3],
+    ) -> usize {
+        (self.stranded)(tables, steps, side, out, numbers)
     }
 }
 
@@ -90,16 +107,21 @@ fn expect_found<'n>(function: &str, stubs: impl Iterator<Item = (&'n str, Stub)>
 #[test]
 fn nothing_is_found_in_a_right_bench() {
     let tally = compare_seeds(&RIGHT, 0, SEEDS, |_, _, _, _| {});
-    assert!(tally.compared > 200 * SEEDS);
+    assert!(tally.compared > 250 * SEEDS);
     assert_eq!(tally.different, 0);
     assert_eq!(tally.missing(), []);
 }
 
 #[test]
-fn nothing_is_found_in_the_check_that_wrong_ones_are_made_from() {
-    let check: Check = checks::RIGHT;
-    let stub = Stub { check, ..RIGHT };
+fn nothing_is_found_in_the_functions_that_wrong_ones_are_made_from() {
+    let (check, stranded) = (checks::RIGHT, stranded::RIGHT);
+    let stub = Stub {
+        check,
+        stranded,
+        ..RIGHT
+    };
     assert_eq!(found(&stub, &calls_of("check_trace")), 0);
+    assert_eq!(found(&stub, &calls_of("stranded_after")), 0);
 }
 
 #[test]
@@ -114,6 +136,13 @@ fn wrong_runs_are_found() {
     let stubs = runs::WRONG.iter();
     let stubs = stubs.map(|&(name, run)| (name, Stub { run, ..RIGHT }));
     expect_found("run", stubs);
+}
+
+#[test]
+fn wrong_questions_for_stranded_positions_are_found() {
+    let stubs = stranded::WRONG.iter();
+    let stubs = stubs.map(|&(name, stranded)| (name, Stub { stranded, ..RIGHT }));
+    expect_found("stranded_after", stubs);
 }
 
 #[test]

@@ -152,7 +152,7 @@ fn answers<'w>(
 }
 
 /// The words of the step records that are whole.
-fn whole(steps: &[u32]) -> Vec<u32> {
+pub fn whole(steps: &[u32]) -> Vec<u32> {
     let steps: Vec<_> = words::steps(steps).into_iter().flatten().collect();
     words::step_words(&steps)
 }

@@ -2,10 +2,10 @@ use mathlib.Core.Path.{refl, ap}
 use Rattle.model.specs.Step.{isArrived}
 use Rattle.sides.specs.declared.Status.{Status}
 use Rattle.sides.specs.Views.{viewStatus, viewMessage}
-use Rattle.interpreter.proofs.FindLaws.{not-arrived, arrived-is}
+use Rattle.listing.proofs.ListLaws.{not-arrived, arrived-is}
 use borrow.Author.Needs.{needs}
-use Rattle.interpreter.proofs.stranded_message.is_stranded.Statement.{statement}
-use Rattle.interpreter.proofs.stranded_message.is_stranded.Tie as tie
+use Rattle.listing.proofs.is_stranded.Statement.{statement}
+use Rattle.listing.proofs.is_stranded.Tie as tie
 
 enum-told : tie.Need-enum-told
 enum-told c = search needs

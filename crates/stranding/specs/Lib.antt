@@ -1,0 +1,2 @@
+pub mod Stranding
+pub mod Ending
