@@ -13,7 +13,7 @@
  * Whatever numbers the lists hold, every call comes back with one of the results given below.
  *
  * They run on the caller's stack, and 1,024 KB of it are enough: on the deepest tables bench_text was
- * measured to use 516 KB and the other two 128 KB, and longer lists do not make it more (tests/linked/stack).
+ * measured to use 516 KB and the others 131 KB, and longer lists do not make it more (tests/linked/stack).
  *
  * TABLES AND LENGTHS
  *
@@ -51,8 +51,8 @@
  * Channels: 0 in, 1 out, 3 log. A silent step has no label record.
  *
  * STRANDED: a message in a side's lobby that arrived there on a channel other than `out`. It can neither
- * pass nor leave. Its position is the i that a step would name it by, 0 to 15; positions change when a
- * message before it goes.
+ * go down, pass nor leave, and stays for the rest of the run. Its position is the i that a step would name
+ * it by, 0 to 15; it gets smaller when a message before it goes, and what strands later stands behind it.
  *
  * ANSWERS: 20 words for each step:
  *   0       the sort: 0 silent, 1 in, 2 out, 3 refused, 4 log

@@ -1,7 +1,7 @@
 -- The stranded positions of the first messages of a lobby, one message after another.
 use mathlib.Core.Path.{_≡_, refl, sym, ap, _∙_}
 use mathlib.Core.Bool.{Bool, true, false, not, cond}
-use mathlib.Core.List.{List, [], _∷_, _++_, map, append-assoc, append-nil}
+use mathlib.Core.List.{List, [], _∷_, _++_, map, map-append, append-assoc, append-nil}
 use Prim.Native.Nat.{ℕ, suc, _+_, _<_, _≤_}
 use native.Mathlib.Omega.{arith}
 use native.Mathlib.Numerals.{add-one}
@@ -48,10 +48,6 @@ first l k = map viewMessage (take k (l .msgs))
 
 abbrev pub front : Lobby → ℕ → List ℕ
 front l k = strandedFrom 0 (first l k)
-
-map-append : {A B : Type 0} (f : A → B) (l r : List A) → map f (l ++ r) ≡ map f l ++ map f r
-map-append f [] r = refl
-map-append f (x ∷ l) r = ap (λ xs. f x ∷ xs) (map-append f l r)
 
 module _ (l : Lobby) (full : length (l .msgs) ≡ 16) where
   first-many : (k : ℕ) → k ≤ 16 → length (first l k) ≡ k

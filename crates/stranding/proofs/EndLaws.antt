@@ -33,29 +33,29 @@ use Rattle.listing.specs.Listing.{listedOf, ListedIs}
 use Rattle.stranding.specs.declared.After.{After}
 use Rattle.stranding.specs.declared.After.the-variants as after
 use Rattle.stranding.specs.declared.ended_steps.End.{End}
-use Rattle.stranding.specs.Stranding.{endFrom, endOf, Ended, brokenOff, told, positionsAt, positionsFrom, strandedAfter, afterOf, AfterIs}
-use Rattle.stranding.specs.Ending.{lobbiesIn, lobbyIn, endedBy, EndIs}
+use Rattle.stranding.specs.Stranding.{behind, Ended, brokenOff, told, positionsIn, positionsFrom, strandedAfter, afterOf, AfterIs}
+use Rattle.stranding.specs.Ending.{lobbiesIn, lobbyIn, loadedBehind, endedBy, EndIs}
 
 -- THE STATE BEHIND THE STEPS is that behind those from place p on, from the state t
-end-before : (b : Composition) (t : MState) (x : Step) (o : Option (List Step)) → endFrom b t (before x o) ≡ endFrom b (step b t x .after) o
+end-before : (b : Composition) (t : MState) (x : Step) (o : Option (List Step)) → behind b t (before x o) ≡ behind b (step b t x .after) o
 unfolding before afterAll
 end-before b t x none = refl
 end-before b t x (some xs) = refl
 
-module _ (b : Composition) (l : List ℕ) (p : ℕ) (t : MState) (z : Option MState) (h : z ≡ endFrom b t (stepsOf (drop p l))) where
-  pub end-next : (e : ℕ) → recordEnd 4 l p ≡ some e → (u : MState) → u ≡ step b t (stepAt l p) .after → z ≡ endFrom b u (stepsOf (drop e l))
+module _ (b : Composition) (l : List ℕ) (p : ℕ) (t : MState) (z : Option MState) (h : z ≡ behind b t (stepsOf (drop p l))) where
+  pub end-next : (e : ℕ) → recordEnd 4 l p ≡ some e → (u : MState) → u ≡ step b t (stepAt l p) .after → z ≡ behind b u (stepsOf (drop e l))
   end-next e f u after =
       h
-      ∙ ap (endFrom b t) (steps-found l p e f)
+      ∙ ap (behind b t) (steps-found l p e f)
       ∙ end-before b t (stepAt l p) (stepsOf (drop e l))
-      ∙ ap (λ (y : MState). endFrom b y (stepsOf (drop e l))) (sym after)
+      ∙ ap (λ (y : MState). behind b y (stepsOf (drop e l))) (sym after)
 
   pub end-broken : p < length l → recordEnd 4 l p ≡ none → z ≡ none
-  end-broken lt f = h ∙ ap (endFrom b t) (steps-broken l p lt f)
+  end-broken lt f = h ∙ ap (behind b t) (steps-broken l p lt f)
 
   pub end-all : length l ≤ p → z ≡ some t
   unfolding afterAll
-  end-all le = h ∙ ap (endFrom b t) (steps-end l p le)
+  end-all le = h ∙ ap (behind b t) (steps-end l p le)
 
 -- A SIDE'S LOBBY by its place, or an empty one where the wrapper lacks the side
 module _ (w n : ℕ) (os : List Rest) where
@@ -108,24 +108,24 @@ pub ends-there : {b : Composition} {ls : List (List ℕ)} {os : List Rest} {ms :
 ends-there m o n z r is short = rw z (record { whole = refl; lobby = is ∙ lobby-asked m n; short = short })
 
 -- from where load leads
-pub ends-loaded : (b : Composition) (ws : List ℕ) (s : MState) → load b ≡ ok s → (n : ℕ) (r : End) → EndIs b (endFrom b s (stepsOf ws)) n r → EndIs b (endOf b ws (load b)) n r
-ends-loaded b ws s e n r is = subst (λ (l : Loaded). EndIs b (endOf b ws l) n r) (sym e) is
+pub ends-loaded : (b : Composition) (ws : List ℕ) (s : MState) → load b ≡ ok s → (n : ℕ) (r : End) → EndIs b (behind b s (stepsOf ws)) n r → EndIs b (loadedBehind b ws (load b)) n r
+ends-loaded b ws s e n r is = subst (λ (l : Loaded). EndIs b (loadedBehind b ws l) n r) (sym e) is
 
 -- THE ANSWER
 after-by : {x y : Ended (List ℕ)} {lent new : List ℕ} {r : After} → x ≡ y → AfterIs y lent new r → AfterIs x lent new r
 after-by {lent = lent} {new = new} {r = r} e h = subst (λ (z : Ended (List ℕ)). AfterIs z lent new r) (sym e) h
 
 -- of what a struct tells
-module _ (e : End) (lent : List ℕ) where
-  by-whole : (t : Bool) → e .whole ≡ t → endedBy e ≡ cond t (told (strandedFrom 0 (viewLobby (e .lobby)))) brokenOff
-  by-whole t z = ap (λ (x : Bool). cond x (told (strandedFrom 0 (viewLobby (e .lobby)))) brokenOff) z
+by-whole : (e : End) (t : Bool) → e .whole ≡ t → endedBy e ≡ cond t (told (strandedFrom 0 (viewLobby (e .lobby)))) brokenOff
+by-whole e t z = ap (λ (x : Bool). cond x (told (strandedFrom 0 (viewLobby (e .lobby)))) brokenOff) z
 
+module _ (e : End) (lent : List ℕ) where
   pub told-broken : e .whole ≡ false → AfterIs (endedBy e) lent lent after.BrokenOff
-  told-broken z = after-by (by-whole false z) (record { answer = refl; words = refl })
+  told-broken z = after-by (by-whole e false z) (record { answer = refl; words = refl })
 
   pub told-listed : e .whole ≡ true → (new : List ℕ) (r : Listed) → ListedIs (strandedFrom 0 (viewLobby (e .lobby))) lent new r →
       (a : After) → afterOf a ≡ told (listedOf r) → AfterIs (endedBy e) lent new a
-  told-listed z new r is a same = after-by (by-whole true z) (record { answer = same ∙ ap told (is .answer); words = is .words })
+  told-listed z new r is a same = after-by (by-whole e true z) (record { answer = same ∙ ap told (is .answer); words = is .words })
 
 -- of a load and some steps
 module _ (b : Composition) (ws : List ℕ) (n : ℕ) (lent : List ℕ) where
@@ -133,14 +133,14 @@ module _ (b : Composition) (ws : List ℕ) (n : ℕ) (lent : List ℕ) where
   unfolding strandedAfter
   after-refused k i m e = after-by (ap (positionsFrom b ws n) e) (record { answer = refl; words = refl })
 
-  pub after-ended : isOk (load b) ≡ true → (e : End) → EndIs b (endOf b ws (load b)) n e → (new : List ℕ) (r : After) → AfterIs (endedBy e) lent new r → AfterIs (strandedAfter b ws n) lent new r
+  pub after-ended : isOk (load b) ≡ true → (e : End) → EndIs b (loadedBehind b ws (load b)) n e → (new : List ℕ) (r : After) → AfterIs (endedBy e) lent new r → AfterIs (strandedAfter b ws n) lent new r
   unfolding strandedAfter
-  after-ended h e is new r a = after-by (at-load (load b) h ∙ sym (at-end (endOf b ws (load b)) is)) a
+  after-ended h e is new r a = after-by (at-load (load b) h ∙ sym (at-end (loadedBehind b ws (load b)) is)) a
     where
-      at-load : (x : Loaded) → isOk x ≡ true → positionsFrom b ws n x ≡ positionsAt b n (endOf b ws x)
+      at-load : (x : Loaded) → isOk x ≡ true → positionsFrom b ws n x ≡ positionsIn b n (loadedBehind b ws x)
       at-load (refused y) q = absurd (false≢true q)
       at-load (ok s) q = refl
 
-      at-end : (o : Option MState) → EndIs b o n e → endedBy e ≡ positionsAt b n o
-      at-end none q = by-whole e lent false (q .whole)
-      at-end (some s) q = by-whole e lent true (q .whole) ∙ ap (λ (l : List Message). told (strandedFrom 0 l)) (q .lobby)
+      at-end : (o : Option MState) → EndIs b o n e → endedBy e ≡ positionsIn b n o
+      at-end none q = by-whole e false (q .whole)
+      at-end (some s) q = by-whole e true (q .whole) ∙ ap (λ (l : List Message). told (strandedFrom 0 l)) (q .lobby)

@@ -7,12 +7,13 @@ use Prim.Native.Nat.{ℕ, _-_, _≤_}
 use lib.ListN.{getD}
 use Rattle.model.specs.Side.{Message, State}
 use Rattle.model.specs.Wrapper.{described, hasSide}
-use Rattle.model.specs.Load.{Composition}
+use Rattle.model.specs.Load.{Composition, Loaded, refused, ok}
 use Rattle.model.specs.Stranded.{lobbyAsked, strandedFrom}
+use Rattle.format.specs.Words.{stepsOf}
 use Rattle.sides.specs.declared.Rest.{Rest}
 use Rattle.sides.specs.Views.{viewLobby}
 use Rattle.stranding.specs.declared.ended_steps.End.{End}
-use Rattle.stranding.specs.Stranding.{Ended, brokenOff, told}
+use Rattle.stranding.specs.Stranding.{behind, Ended, brokenOff, told}
 
 -- the lobbies of all sides, and that of side n; an empty one where the wrapper lacks it
 abbrev pub lobbiesIn : List Rest → List (List Message)
@@ -20,6 +21,11 @@ lobbiesIn os = map (λ (o : Rest). viewLobby (o .lobby)) os
 
 abbrev pub lobbyIn : (wrapper n : ℕ) → List Rest → List Message
 lobbyIn w n os = cond (hasSide (described w) n) (getD (lobbiesIn os) (n - 1) []) []
+
+-- the state behind a load and some steps
+abbrev pub loadedBehind : Composition → (steps : List ℕ) → Loaded → Option State
+loadedBehind b ws (refused e) = none
+loadedBehind b ws (ok s) = behind b s (stepsOf ws)
 
 -- there is a state
 abbrev pub isState : Option State → Bool

@@ -14,15 +14,10 @@ use Rattle.listing.specs.Listing.{listing, listedOn}
 use Rattle.stranding.specs.declared.After.{After}
 use Rattle.stranding.specs.declared.After.the-variants as after
 
--- the state behind some steps; none where their list breaks off. A refused step changes nothing, and those after it go on
-abbrev pub endFrom : Composition → State → Option (List Step) → Option State
-endFrom b s none = none
-endFrom b s (some xs) = some (afterAll b s xs)
-
--- the state behind a load and some steps
-abbrev pub endOf : Composition → (steps : List ℕ) → Loaded → Option State
-endOf b ws (refused e) = none
-endOf b ws (ok s) = endFrom b s (stepsOf ws)
+-- the state behind some steps from s on; none where their list breaks off. A refused step changes nothing, and those after it go on
+abbrev pub behind : Composition → (s : State) → Option (List Step) → Option State
+behind b s none = none
+behind b s (some xs) = some (afterAll b s xs)
 
 -- what it comes to: load refuses, the list of steps breaks off, or what is told of the state behind them
 pub data Ended (A : Type 0) : Type 0 where
@@ -30,16 +25,18 @@ pub data Ended (A : Type 0) : Type 0 where
   brokenOff : Ended A
   told : A → Ended A
 
-abbrev pub positionsAt : Composition → (side : ℕ) → Option State → Ended (List ℕ)
-positionsAt b n none = brokenOff
-positionsAt b n (some s) = told (strandedAll b (some s) n)
+-- the stranded positions of side n in the state behind the steps
+abbrev pub positionsIn : Composition → (n : ℕ) → Option State → Ended (List ℕ)
+positionsIn b n none = brokenOff
+positionsIn b n (some s) = told (strandedAll b (some s) n)
 
-abbrev pub positionsFrom : Composition → (steps : List ℕ) → (side : ℕ) → Loaded → Ended (List ℕ)
+-- the same from what load gives
+abbrev pub positionsFrom : Composition → (steps : List ℕ) → (n : ℕ) → Loaded → Ended (List ℕ)
 positionsFrom b ws n (refused e) = unloaded e
-positionsFrom b ws n (ok s) = positionsAt b n (endFrom b s (stepsOf ws))
+positionsFrom b ws n (ok s) = positionsIn b n (behind b s (stepsOf ws))
 
--- the stranded positions of a side after a load and some steps
-unfoldable pub strandedAfter : Composition → (steps : List ℕ) → (side : ℕ) → Ended (List ℕ)
+-- THE QUESTION: the stranded positions of side n after a load and some steps
+unfoldable pub strandedAfter : Composition → (steps : List ℕ) → (n : ℕ) → Ended (List ℕ)
 strandedAfter b ws n = positionsFrom b ws n (load b)
 
 -- how many are put into a lent list, or 22

@@ -12,8 +12,8 @@ ghost use Rattle.sides.specs.declared.Rest.{Rest};
 ghost use Rattle.sides.specs.Views.{viewLobby};
 ghost use Rattle.dispatch.specs.Sharing.{stateIn};
 ghost use Rattle.execution.specs.Execution.{MayRun};
-ghost use Rattle.stranding.specs.Stranding.{endFrom, endOf};
-ghost use Rattle.stranding.specs.Ending.{lobbyIn, EndIs};
+ghost use Rattle.stranding.specs.Stranding.{behind};
+ghost use Rattle.stranding.specs.Ending.{lobbyIn, loadedBehind, EndIs};
 use execution::RecordEnd;
 use execution::begin_all;
 use execution::place_asked;
@@ -59,7 +59,7 @@ fn end_steps(
     side: u32,
 ) -> End
     requires { ⌜ MayRun (composition wrapper (map now nodes) (map now pools)) (now rows) rests (now marks) shelved ⌝ }
-    ensures { λ r. ⌜ EndIs (composition wrapper (map now (nodes .entry)) (map now (pools .entry))) (endFrom (composition wrapper (map now (nodes .entry)) (map now (pools .entry))) (stateIn (now (rows .entry)) rests (now (marks .entry))) (stepsOf (now (steps .entry)))) side r ⌝ }
+    ensures { λ r. ⌜ EndIs (composition wrapper (map now (nodes .entry)) (map now (pools .entry))) (behind (composition wrapper (map now (nodes .entry)) (map now (pools .entry))) (stateIn (now (rows .entry)) rests (now (marks .entry))) (stepsOf (now (steps .entry)))) side r ⌝ }
 {
     let mut p: usize = 0;
     while p < steps.len() {
@@ -104,7 +104,7 @@ pub(crate) fn end_loaded(
     side: u32,
 ) -> End
     requires { ⌜ isOk (load (composition wrapper (map now nodes) (map now pools))) ≡ true ⌝ }
-    ensures { λ r. ⌜ EndIs (composition wrapper (map now (nodes .entry)) (map now (pools .entry))) (endOf (composition wrapper (map now (nodes .entry)) (map now (pools .entry))) (now (steps .entry)) (load (composition wrapper (map now (nodes .entry)) (map now (pools .entry))))) side r ⌝ }
+    ensures { λ r. ⌜ EndIs (composition wrapper (map now (nodes .entry)) (map now (pools .entry))) (loadedBehind (composition wrapper (map now (nodes .entry)) (map now (pools .entry))) (now (steps .entry)) (load (composition wrapper (map now (nodes .entry)) (map now (pools .entry))))) side r ⌝ }
 {
     let mut rows = [[0; Rows::WORDS]; Sides::COUNT];
     let mut marks = [[false; Sides::MARKS]; Sides::COUNT];

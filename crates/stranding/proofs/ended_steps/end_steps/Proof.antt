@@ -12,7 +12,7 @@ use Rattle.dispatch.specs.Sharing.{stateIn}
 use Rattle.execution.specs.Execution.{recordEnd, endOf, MayRun}
 use Rattle.execution.proofs.RecordEnds.{found-end}
 use Rattle.execution.proofs.StepsMade.{may-step, makes, place-within}
-use Rattle.stranding.specs.Stranding.{endFrom}
+use Rattle.stranding.specs.Stranding.{behind}
 use Rattle.stranding.proofs.EndLaws.{end-next, end-broken, end-all, rests-short, ends-broken, ends-there}
 use borrow.Author.Needs.{needs}
 use Rattle.stranding.proofs.ended_steps.end_steps.Statement.{statement}
@@ -21,8 +21,8 @@ use Rattle.stranding.proofs.ended_steps.end_steps.Tie as tie
 abbrev Inv-loop : tie.InvT-loop
 Inv-loop wrapper t2 t3 rows₀ marks₀ steps side nodes pools rests₀ shelved₀ p₀ rows marks rests shelved p =
     (p ≤ length steps) × MayRun (composition wrapper (map now t2) (map now t3)) rows rests marks shelved
-    × (endFrom (composition wrapper (map now t2) (map now t3)) (stateIn rows₀ rests₀ marks₀) (stepsOf steps)
-    ≡ endFrom (composition wrapper (map now t2) (map now t3)) (stateIn rows rests marks) (stepsOf (drop p steps)))
+    × (behind (composition wrapper (map now t2) (map now t3)) (stateIn rows₀ rests₀ marks₀) (stepsOf steps)
+    ≡ behind (composition wrapper (map now t2) (map now t3)) (stateIn rows rests marks) (stepsOf (drop p steps)))
 
 abbrev μ-loop : tie.MeasureT-loop
 μ-loop wrapper t2 t3 rows₀ marks₀ steps side nodes pools rests₀ shelved₀ p₀ rows marks rests shelved p = length steps - p
