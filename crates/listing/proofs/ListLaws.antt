@@ -144,7 +144,7 @@ module _ (l : Lobby) (full : length (l .msgs) ≡ 16) (short : l .len ≤ 16) (l
 
 -- THE ANSWER
 module _ (ps lent : List ℕ) where
-  by-room : (t : Bool) → leb (length ps) (length lent) ≡ t → (listing ps lent ≡ need t 22 (done (length ps))) × (listedOn ps lent ≡ choose t (ps ++ drop (length ps) lent) lent)
+  pub by-room : (t : Bool) → leb (length ps) (length lent) ≡ t → (listing ps lent ≡ need t 22 (done (length ps))) × (listedOn ps lent ≡ choose t (ps ++ drop (length ps) lent) lent)
   unfolding listing listedOn
   by-room t e = (ap (λ (x : Bool). need x 22 (done (length ps))) e, ap (λ (x : Bool). choose x (ps ++ drop (length ps) lent) lent) e)
 
