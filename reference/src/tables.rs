@@ -3,8 +3,8 @@
 
 use crate::state::{Side, State, Wrapper};
 use crate::terms::{
-    asked_name, Direction, Expression, Name, Pattern, Process, Slot, Subject, Tree, LAST_PUBLIC,
-    WILDCARD_WORD, WORD_LIMIT,
+    Direction, Expression, Name, Pattern, Process, Slot, Subject, Tree, LAST_PUBLIC, WILDCARD_WORD,
+    WORD_LIMIT,
 };
 
 /// Words of one node.
@@ -243,7 +243,7 @@ fn read_pattern(pool: &[u32], place: u32) -> Option<Pattern> {
     let leaf = |word: u32| match word {
         WILDCARD_WORD => Some(Slot::Wildcard),
         0..=LAST_PUBLIC => Some(Slot::Binder(word)),
-        _ => asked_name(word).map(Slot::Asked),
+        _ => None,
     };
     let (pattern, _) = Tree::read_front(window(pool, place), &leaf)?;
     let mut binders = pattern.binders();

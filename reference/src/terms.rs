@@ -13,9 +13,6 @@ pub const TUPLE_WORD: u32 = 4_000_000;
 pub const MOST_PARTS: u32 = 15;
 /// The word of the wildcard pattern.
 pub const WILDCARD_WORD: u32 = 4_999_999;
-/// The pattern word that asks for public name 0; the word that asks for name
-/// `n` is `n` more.
-pub const ASKED_WORD: u32 = 5_000_000;
 /// The greatest public name.
 pub const LAST_PUBLIC: u32 = 63;
 /// Minted names are this number times their side, plus the serial.
@@ -77,12 +74,6 @@ pub fn is_outside(word: u32) -> bool {
     (FIRST_OUTSIDE..=LAST_OUTSIDE).contains(&word)
 }
 
-/// The public name that a pattern word asks for.
-pub fn asked_name(word: u32) -> Option<Name> {
-    let number = word.checked_sub(ASKED_WORD)?;
-    (number <= LAST_PUBLIC).then_some(Name::Public(number))
-}
-
 /// A tuple-structured item: values, patterns and the values inside a process
 /// differ only in what stands at the leaves.
 #[derive(Clone, Debug, PartialEq, Eq)]
@@ -97,7 +88,7 @@ pub type Value = Tree<Name>;
 /// A value inside a process: its leaves may still be bound.
 pub type Expression = Tree<Subject>;
 
-/// A pattern; it binds no number twice.
+/// A pattern, with no number twice.
 pub type Pattern = Tree<Slot>;
 
 /// A leaf of a pattern.
@@ -107,10 +98,6 @@ pub enum Slot {
     Wildcard,
     /// Takes anything and binds it to this number.
     Binder(u32),
-    /// Takes this public name alone and binds nothing. It is a name of the
-    /// running system from the start, so no binder and no substitution has a
-    /// bearing on it.
-    Asked(Name),
 }
 
 impl<L> Tree<L> {
@@ -186,18 +173,9 @@ impl Pattern {
     pub fn binders(&self) -> Vec<u32> {
         let bound = |slot: &&Slot| match **slot {
             Slot::Binder(number) => Some(number),
-            Slot::Wildcard | Slot::Asked(_) => None,
+            Slot::Wildcard => None,
         };
         self.leaves().iter().filter_map(bound).collect()
-    }
-
-    /// The names that the pattern asks for, from left to right.
-    pub fn asked(&self) -> Vec<Name> {
-        let asked = |slot: &&Slot| match **slot {
-            Slot::Asked(name) => Some(name),
-            Slot::Wildcard | Slot::Binder(_) => None,
-        };
-        self.leaves().iter().filter_map(asked).collect()
     }
 
     /// The substitution of the value's parts for the pattern's names, or none
@@ -206,9 +184,6 @@ impl Pattern {
         match (self, value) {
             (Tree::Leaf(Slot::Wildcard), _) => Some(Substitution::default()),
             (Tree::Leaf(Slot::Binder(number)), _) => Some(Substitution::one(*number, value)),
-            (Tree::Leaf(Slot::Asked(asked)), Tree::Leaf(name)) if asked == name => {
-                Some(Substitution::default())
-            }
             (Tree::Tuple(patterns), Tree::Tuple(values)) if patterns.len() == values.len() => {
                 let mut whole = Substitution::default();
                 for (pattern, value) in patterns.iter().zip(values) {
@@ -279,18 +254,6 @@ pub enum Process {
         pattern: Pattern,
         body: Box<Process>,
     },
-}
-
-impl Process {
-    /// The patterns of all its inputs, outer ones first.
-    pub fn patterns(&self) -> Vec<&Pattern> {
-        match self {
-            Process::Nil | Process::Output { .. } => vec![],
-            Process::Parallel(left, right) => [left.patterns(), right.patterns()].concat(),
-            Process::Boxed(_, body) | Process::New(_, body) => body.patterns(),
-            Process::Input { pattern, body, .. } => [vec![pattern], body.patterns()].concat(),
-        }
-    }
 }
 
 /// A substitution of values for bound names.

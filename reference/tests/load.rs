@@ -210,7 +210,6 @@ fn values_in_the_pool() {
         4_000_016,
         4_999_999,
         5_000_000,
-        5_000_063,
         u32::MAX,
     ] {
         assert_eq!(value_fault(&[word, 7, 7, 7]), 5, "{word}");
@@ -250,9 +249,7 @@ fn sixteen_words_at_most() {
 fn patterns_in_the_pool() {
     assert_eq!(pattern_fault(&[4_999_999]), 0);
     assert_eq!(pattern_fault(&[4_999_998]), 5);
-    assert_eq!(pattern_fault(&[5_000_000]), 0);
-    assert_eq!(pattern_fault(&[5_000_063]), 0);
-    assert_eq!(pattern_fault(&[5_000_064]), 5);
+    assert_eq!(pattern_fault(&[5_000_000]), 5);
     for word in [64, 65_536, 131_072, 196_608, 196_863] {
         assert_eq!(pattern_fault(&[word]), 5, "{word}");
         assert_eq!(pattern_fault(&[4_000_002, 10, word]), 5, "{word}");

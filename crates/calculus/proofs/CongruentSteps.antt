@@ -5,8 +5,8 @@ use mathlib.Core.List.{List, [], ◌∷◌, ◌++◌}
 use mathlib.Core.Bool.{Bool, true, false, cond, ◌||◌}
 use Prim.Native.Nat.{ℕ}
 use lib.Dec.{eqb, T, eqb_refl}
-use Rattle.calculus.specs.Syntax.{Val, nm, Pat, Vars, Exacts, var, Scope, Name, ITag, within, parent, child, Tag, plain, received_parent, received_child, Mode, once, replicated, Proc, nil, par, box, new}
-use Rattle.calculus.specs.Syntax.{out, inp, comp, AllN, AllV, outer, opened, closed, the_bound, name_or, ren, iren, eren, under}
+use Rattle.calculus.specs.Syntax.{Val, nm, Pat, Vars, var, Scope, Name, ITag, within, parent, child, Tag, plain, received_parent, received_child, Mode, once, replicated, Proc, nil, par, box, new}
+use Rattle.calculus.specs.Syntax.{out, inp, comp, AllN, AllV, outer, opened, closed, the_bound, name_or, ren, iren, under}
 use Rattle.calculus.specs.Congruence.{Cong, ◌≋◌, swapped, par_nil, par_comm, par_assoc, new_new, new_par, new_box, rfl, symm, trans, in_par, in_box, in_new, in_inp}
 use Rattle.calculus.specs.Transitions.{Label, tau, send, recv, Participants, lone, joint, In, mem, Fn⊆, Out∉, names, tnames, lnames, beyond, restrict, mv, movable, fixed, InstOk, Step, CommL}
 use Rattle.calculus.specs.Transitions.{CommR, ParL, ParR, Box1, Box2, Box3, Res1, Res2, Struct}
@@ -142,19 +142,19 @@ pub does_new : {M : Type 0} (P Q : Proc M (var ∷ [])) → new P ≋ new Q → 
 does_new P Q e f A l w R d = newed f ((cong_fn e (In A)).0 (step_source d)) (invert d)
 
 -- a context xp.P, or !xp.P
-inp_after : {M : Type 0} (m : Mode) (t : M) (x : ℕ) (i : ITag ℕ) (p : Pat) (c : Exacts p ℕ) (P Q : Proc M (p ∷ [])) (σ : Vars p → Val ℕ) → Cong (p ∷ []) P Q → InstOk P σ → after m t x i p c P σ ≋ after m t x i p c Q σ
-inp_after once t x i p c P Q σ e k = cong_sub {r = []} e (⊎_elim σ nm) k
-inp_after replicated t x i p c P Q σ e k = in_par (in_inp e) (cong_sub {r = []} e (⊎_elim σ nm) k)
+inp_after : {M : Type 0} (m : Mode) (t : M) (x : ℕ) (i : ITag ℕ) (p : Pat) (P Q : Proc M (p ∷ [])) (σ : Vars p → Val ℕ) → Cong (p ∷ []) P Q → InstOk P σ → after m t x i p P σ ≋ after m t x i p Q σ
+inp_after once t x i p P Q σ e k = cong_sub {r = []} e (⊎_elim σ nm) k
+inp_after replicated t x i p P Q σ e k = in_par (in_inp e) (cong_sub {r = []} e (⊎_elim σ nm) k)
 
-pub does_inp : {M : Type 0} (m : Mode) (t : M) (x : ℕ) (i : ITag ℕ) (p : Pat) (c : Exacts p ℕ) (P Q : Proc M (p ∷ [])) → Cong (p ∷ []) P Q → Does (inp m t x i p c P) (inp m t x i p c Q)
-does_inp {M} m t x i p c P Q e A l w R d = go (invert d)
+pub does_inp : {M : Type 0} (m : Mode) (t : M) (x : ℕ) (i : ITag ℕ) (p : Pat) (P Q : Proc M (p ∷ [])) → Cong (p ∷ []) P Q → Does (inp m t x i p P) (inp m t x i p Q)
+does_inp {M} m t x i p P Q e A l w R d = go (invert d)
   where
-    h_q : Fn⊆ (inp m t x i p c Q) A
+    h_q : Fn⊆ (inp m t x i p Q) A
     h_q = (cong_fn (in_inp {m = m} {t = t} {x = x} {i = i} e) (In A)).0 (step_source d)
 
-    go : InpInv m t x i p c P l w R → Step A (inp m t x i p c Q) l w R
-    go r = subst₂ (λ k z. Step A (inp m t x i p c Q) k z R) (sym r.lab) (sym r.who)
-        (Struct (recv_of m h_q r.fits ((cong_defined e (⊎_elim r.σ nm)).0 r.ok)) (trans (symm (inp_after m t x i p c P Q r.σ e r.ok)) r.to))
+    go : InpInv m t x i p P l w R → Step A (inp m t x i p Q) l w R
+    go r = subst₂ (λ k z. Step A (inp m t x i p Q) k z R) (sym r.lab) (sym r.who)
+        (Struct (recv_of m h_q r.fits ((cong_defined e (⊎_elim r.σ nm)).0 r.ok)) (trans (symm (inp_after m t x i p P Q r.σ e r.ok)) r.to))
 
 -- Binders that a transition puts back
 new_news : {M : Type 0} (x : ℕ) (N : List ℕ) (P : Proc M []) → Off x N → new (closed x (restrict N P)) ≋ restrict N (new (closed x P))
@@ -533,11 +533,9 @@ cong_does {M} {s} (in_new {P = P} {P' = P'} d) f =
     let c = cong_ren {r = var ∷ []} d (under f) in
     let ih = opened_same P P' f (λ x. cong_does d (λ y. name_or x (under f y))) in
     (does_new (ren {r = var ∷ []} P (under f)) (ren {r = var ∷ []} P' (under f)) (in_new c) (λ x. (ih x).0), does_new (ren {r = var ∷ []} P' (under f)) (ren {r = var ∷ []} P (under f)) (in_new (symm c)) (λ x. (ih x).1))
-cong_does (in_inp {m = m} {t = t} {x = x} {i = i} {p = p} {c = c} {P = P} {P' = P'} d) f =
-    let e = cong_ren {r = p ∷ []} d (under f) in (
-      does_inp m t (f x) (iren i f) p (eren p c f) (ren {r = p ∷ []} P (under f)) (ren {r = p ∷ []} P' (under f)) e,
-      does_inp m t (f x) (iren i f) p (eren p c f) (ren {r = p ∷ []} P' (under f)) (ren {r = p ∷ []} P (under f)) (symm e),
-    )
+cong_does (in_inp {m = m} {t = t} {x = x} {i = i} {p = p} {P = P} {P' = P'} d) f =
+    let c = cong_ren {r = p ∷ []} d (under f) in
+    (does_inp m t (f x) (iren i f) p (ren {r = p ∷ []} P (under f)) (ren {r = p ∷ []} P' (under f)) c, does_inp m t (f x) (iren i f) p (ren {r = p ∷ []} P' (under f)) (ren {r = p ∷ []} P (under f)) (symm c))
 
 -- Congruent processes have the very same transitions
 pub same_steps : {M : Type 0} {A : List ℕ} {P Q R : Proc M []} {l : Label} {w : Participants M} → P ≋ Q → Step A P l w R → Step A Q l w R

@@ -9,7 +9,7 @@ respected (beside C R) P Q e = in_par (respected C P Q e) rfl
 respected (behind R C) P Q e = in_par rfl (respected C P Q e)
 respected (in_a_box t n C) P Q e = in_box (respected C P Q e)
 respected (under_new C) P Q e = in_new (respected C P Q e)
-respected (under_input m t x i p c C) P Q e = in_inp (respected C P Q e)
+respected (under_input m t x i p C) P Q e = in_inp (respected C P Q e)
 
 pub contexts_respect : ContextsRespect
 unfolding ContextsRespect

@@ -22,7 +22,7 @@ body u cs z o = copying [] u cs (out {s = var ∷ []} u (inr z) (plain (iren o i
 -- a forwarder's names are its channels, those of its tags, and those of its copies
 pub forward_all : {T : Type 0} (t u : T) (cs : List ℕ) (x : ℕ) (i : ITag ℕ) (z : ℕ) (o : ITag ℕ) (A : ℕ → Type 0) → A x → AllI i A → Each A cs → A z → AllI o A → AllN (forward_with [] t u cs x i z o) A
 unfolding AllN
-forward_all t u cs x i z o A hx hi hc hz ho = (hx, hi, tt, copying_all u cs (body u [] z o) A hc (hz, tag o ho, tt))
+forward_all t u cs x i z o A hx hi hc hz ho = (hx, hi, copying_all u cs (body u [] z o) A hc (hz, tag o ho, tt))
   where
     tag : (o : ITag ℕ) → AllI o A → AllI {N = Name (var ∷ [])} (iren o inr) (outer A)
     tag within h = tt

@@ -158,8 +158,8 @@ AlmostAny A P l w P' = (K : List ℕ) × ((u : ℕ) → Out∉ K u → Step (u �
 
 weaken_new : {M : Type 0} {A : List ℕ} {P P' : Proc M []} {l : Label} {w : Participants M} → Step A P l w P' → AlmostAny A P l w P'
 weaken_new {A = A} (Out {t = t} {x = x} {o = o} {v = v} h) = ([], λ u k. Out (fn_more A u (out t x o v) h))
-weaken_new {A = A} (In1 {t = t} {x = x} {i = i} {p = p} {c = c} {P = P} h e j) = ([], λ u k. In1 (fn_more A u (inp once t x i p c P) h) e j)
-weaken_new {A = A} (Repl {t = t} {x = x} {i = i} {p = p} {c = c} {P = P} h e j) = ([], λ u k. Repl (fn_more A u (inp replicated t x i p c P) h) e j)
+weaken_new {A = A} (In1 {t = t} {x = x} {i = i} {p = p} {P = P} h e j) = ([], λ u k. In1 (fn_more A u (inp once t x i p P) h) e j)
+weaken_new {A = A} (Repl {t = t} {x = x} {i = i} {p = p} {P = P} h e j) = ([], λ u k. Repl (fn_more A u (inp replicated t x i p P) h) e j)
 weaken_new {A = A} (CommL {P = P} {Q = Q} {P' = P'} {Q' = Q'} {x = x} {g = g} {v = v} {t = t} {u = u'} d d') =
     let r = weaken_new d in let q = weaken_new d' in (
       r.0 ++ (q.0 ++ (x ∷ names v)),
@@ -247,8 +247,8 @@ IsRecv (recv y o v) = Unit {0}
 
 pub weaken_recv : {M : Type 0} {A : List ℕ} {P P' : Proc M []} {l : Label} {w : Participants M} → Step A P l w P' → (x : ℕ) → IsRecv l → T (mem x (lnames l)) → Step (x ∷ A) P l w P'
 weaken_recv (Out h) x r k = absurd r
-weaken_recv {A = A} (In1 {t = t} {x = y} {i = i} {p = p} {c = c} {P = P} h e j) x r k = In1 (fn_more A x (inp once t y i p c P) h) e j
-weaken_recv {A = A} (Repl {t = t} {x = y} {i = i} {p = p} {c = c} {P = P} h e j) x r k = Repl (fn_more A x (inp replicated t y i p c P) h) e j
+weaken_recv {A = A} (In1 {t = t} {x = y} {i = i} {p = p} {P = P} h e j) x r k = In1 (fn_more A x (inp once t y i p P) h) e j
+weaken_recv {A = A} (Repl {t = t} {x = y} {i = i} {p = p} {P = P} h e j) x r k = Repl (fn_more A x (inp replicated t y i p P) h) e j
 weaken_recv (CommL d d') x r k = absurd r
 weaken_recv (CommR d d') x r k = absurd r
 weaken_recv {A = A} (ParL {Q = Q} h d) x r k = ParL (fn_more A x Q h) (weaken_recv d x r k)

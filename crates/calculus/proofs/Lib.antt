@@ -1,4 +1,3 @@
-pub mod ExactNames
 pub mod Renaming
 pub mod Extrusion
 pub mod Inversion
@@ -28,4 +27,3 @@ pub mod CongruentSteps
 pub mod Walls
 pub mod Purity
 pub mod NewNames
-pub mod Untouched

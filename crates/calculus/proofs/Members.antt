@@ -31,8 +31,8 @@ beyond_same A B (x ∷ l) h =
 
 pub step_members : {M : Type 0} {A : List ℕ} {P Q : Proc M []} {l : Label} {w : Participants M} → Step A P l w Q → (B : List ℕ) → SameMembers A B → Step B P l w Q
 step_members (Out {A = A} {t = t} {x = x} {o = o} {v = v} f) B h = Out (fn_same A B h (out t x o v) f)
-step_members (In1 {A = A} {t = t} {x = x} {i = i} {p = p} {c = c} {P = P} f e k) B h = In1 (fn_same A B h (inp once t x i p c P) f) e k
-step_members (Repl {A = A} {t = t} {x = x} {i = i} {p = p} {c = c} {P = P} f e k) B h = Repl (fn_same A B h (inp replicated t x i p c P) f) e k
+step_members (In1 {A = A} {t = t} {x = x} {i = i} {p = p} {P = P} f e k) B h = In1 (fn_same A B h (inp once t x i p P) f) e k
+step_members (Repl {A = A} {t = t} {x = x} {i = i} {p = p} {P = P} f e k) B h = Repl (fn_same A B h (inp replicated t x i p P) f) e k
 step_members (CommL {A = A} {P = P} {Q = Q} {P' = P'} {Q' = Q'} {x = x} {v = v} {t = t} {u = u} d d') B h =
     subst (λ (r : List ℕ). Step B (par P Q) tau (joint t u) (restrict r (par P' Q'))) (sym (beyond_same A B (x ∷ names v) h)) (CommL (step_members d B h) (step_members d' B h))
 step_members (CommR {A = A} {P = P} {Q = Q} {P' = P'} {Q' = Q'} {x = x} {v = v} {t = t} {u = u} d d') B h =

@@ -7,7 +7,7 @@ use mathlib.Core.Option.{Option, none, some}
 use mathlib.Core.Bool.{Bool, true, false, cond}
 use Prim.Native.Nat.{ℕ}
 use lib.Dec.{eqb, T, eqb→eq, eqb_refl}
-use Rattle.calculus.specs.Syntax.{Val, nm, Pat, Vars, Exacts, var, Scope, Name, ITag, within, parent, child, Tag, plain, received_parent, received_child, Proc, nil, par, box, new}
+use Rattle.calculus.specs.Syntax.{Val, nm, Pat, Vars, var, Scope, Name, ITag, within, parent, child, Tag, plain, received_parent, received_child, Proc, nil, par, box, new}
 use Rattle.calculus.specs.Syntax.{out, inp, comp, AllN, AllV, AllT, AllI, outer, sub, Defined, IsName, the_name, under_v, match, closed, opened, the_bound, name_or, ren, vren, iren, tren}
 use Rattle.calculus.specs.Syntax.{under}
 use Rattle.calculus.specs.Congruence.{Cong, swapped, par_nil, par_comm, par_assoc, new_new, new_par, new_box, rfl, symm, trans, in_par, in_box, in_new, in_inp}
@@ -91,7 +91,7 @@ Walled (par P Q) r = Walled P r × Walled Q r
 Walled (box t n P) r = (c : Level) × (r n ≡ own c) × AllN P (λ x. Guest c (r x))
 Walled (new P) r = (h : Option Level) × Walled P (ext (bound h) r)
 Walled (out t x o v) r = (c : Level) × OutOk c r x o × AllV v (λ x. Guest c (r x))
-Walled (inp m t x i p a P) r = (c : Level) × InOk c r x i × Walled P (ext (other c) r)
+Walled (inp m t x i p P) r = (c : Level) × InOk c r x i × Walled P (ext (other c) r)
 
 -- RENAMING
 out_ren : {N M : Type 0} (c : Level) (x : N) (o : Tag N) (f : N → M) (r : M → Role) → OutOk c (λ y. r (f y)) x o ≡ OutOk c r (f x) (tren o f)
@@ -116,7 +116,7 @@ walled_ren q (par P Q) f r = λ k. walled_ren q P f r k × walled_ren q Q f r k
 walled_ren q (box t n P) f r = λ k. (c : Level) × (r (f n) ≡ own c) × AllN-unren q P f (λ x. Guest c (r x)) k
 walled_ren q (new P) f r = λ k. (h : Option Level) × (ap (λ F. Walled P F) (ext_under (bound h) f r) ∙ walled_ren (var ∷ q) P (under f) (ext (bound h) r)) k
 walled_ren q (out t x o v) f r = λ k. (c : Level) × out_ren c x o f r k × AllV-unren v f (λ x. Guest c (r x)) k
-walled_ren q (inp m t x i p a P) f r = λ k. (c : Level) × in_ren c x i f r k × (ap (λ F. Walled P F) (ext_under (other c) f r) ∙ walled_ren (p ∷ q) P (under f) (ext (other c) r)) k
+walled_ren q (inp m t x i p P) f r = λ k. (c : Level) × in_ren c x i f r k × (ap (λ F. Walled P F) (ext_under (other c) f r) ∙ walled_ren (p ∷ q) P (under f) (ext (other c) r)) k
 
 -- CONGRUENCE
 ext_swapped : {B C N : Type 0} (a c : Role) (r : N → Role) → ◌≡◌ {A = B ⊎ (C ⊎ N) → Role} (ext a (ext c r)) (λ x. ext c (ext a r) (swapped x))
@@ -185,9 +185,9 @@ walled_agree (par P Q) r r' e h = (walled_agree P r r' e.0 h.0, walled_agree Q r
 walled_agree (box t n P) r r' e h = (h.0, sym e.0 ∙ h.1, AllN-map2 P (λ x q. subst (Guest h.0) q) e.1 h.2)
 walled_agree (new P) r r' e h = let a = bound h.0 in (h.0, walled_agree P (ext a r) (ext a r') (AllN-map P (ext_agree a r r') e) h.1)
 walled_agree (out t x o v) r r' e h = (h.0, out_agree h.0 r r' x o e.0 e.1 h.1, AllV-map2 v (λ x q. subst (Guest h.0) q) e.2 h.2)
-walled_agree (inp m t x i p a P) r r' e h =
-    let ρ = other h.0 in
-    (h.0, in_agree h.0 r r' x i e.0 e.1 h.1, walled_agree P (ext ρ r) (ext ρ r') (AllN-map P (ext_agree ρ r r') e.3) h.2)
+walled_agree (inp m t x i p P) r r' e h =
+    let a = other h.0 in
+    (h.0, in_agree h.0 r r' x i e.0 e.1 h.1, walled_agree P (ext a r) (ext a r') (AllN-map P (ext_agree a r r') e.2) h.2)
 
 -- SUBSTITUTION: a name by a name of its role, or any other name by a value with guests' names
 data Fits {N : Type 0} (r : N → Role) : Role → Val N → Type 0 where
@@ -238,15 +238,15 @@ walled_sub q (box t n P) f r r' fit k h =
 walled_sub q (new P) f r r' fit k h = let a = bound h.0 in (h.0, walled_sub (var ∷ q) P (under_v f) (ext a r) (ext a r') (fits_under a r r' f fit) k h.1)
 walled_sub q (out t x o v) f r r' fit k h =
     (h.0, out_sub q h.0 r r' f fit x o k.0 h.1, AllV-sub v f (λ x. Guest h.0 (r' x)) (AllV-map v (λ y. guest_of h.0 r' (fit y)) h.2))
-walled_sub q (inp m t x i p a P) f r r' fit k h =
-    let ρ = other h.0 in
-    (h.0, in_sub q h.0 r r' f fit x i h.1, walled_sub (p ∷ q) P (under_v f) (ext ρ r) (ext ρ r') (fits_under ρ r r' f fit) k.3 h.2)
+walled_sub q (inp m t x i p P) f r r' fit k h =
+    let a = other h.0 in
+    (h.0, in_sub q h.0 r r' f fit x i h.1, walled_sub (p ∷ q) P (under_v f) (ext a r) (ext a r') (fits_under a r r' f fit) k.2 h.2)
 
-walled_inst : {U : Type 0} (p : Pat) (a : Exacts p ℕ) (P : Proc U (p ∷ [])) (v : Val ℕ) (σ : Vars p → Val ℕ) (c : Level) (r : ℕ → Role) → match p a v ≡ some σ → InstOk P σ → AllV v (λ x. Guest c (r x)) → Walled P (ext (other c) r) → Walled (inst P σ) r
-walled_inst p a P v σ c r e k hv h = walled_sub [] P (⊎_elim σ nm) (ext (other c) r) r (elim [ inl b ↦ guest (parts b) | inr n ↦ same n ]) k h
+walled_inst : {U : Type 0} (p : Pat) (P : Proc U (p ∷ [])) (v : Val ℕ) (σ : Vars p → Val ℕ) (c : Level) (r : ℕ → Role) → match p v ≡ some σ → InstOk P σ → AllV v (λ x. Guest c (r x)) → Walled P (ext (other c) r) → Walled (inst P σ) r
+walled_inst p P v σ c r e k hv h = walled_sub [] P (⊎_elim σ nm) (ext (other c) r) r (elim [ inl b ↦ guest (parts b) | inr n ↦ same n ]) k h
   where
     parts : (b : Vars p) → AllV (σ b) (λ x. Guest c (r x))
-    parts = subst (Parts (λ x. Guest c (r x))) e (match-in (λ x. Guest c (r x)) p a v hv)
+    parts = subst (Parts (λ x. Guest c (r x))) e (match-in (λ x. Guest c (r x)) p v hv)
 
 -- BINDERS
 
@@ -424,12 +424,12 @@ module _ {U : Type 0} {A : List ℕ} {P P' : Proc U []} {w : Participants U} (c 
 pub keeps : {U : Type 0} {A : List ℕ} {P P' : Proc U []} {l : Label} {w : Participants U} → Step A P l w P' → (r : ℕ → Role) → Guard A r → Walled P r → Told r l → Speaks r l × Walled P' r
 unfolding Walled AllN
 keeps (Out {v = v} f) r g h k = ((h.0, h.1, guests_of h.0 r v h.2), tt)
-keeps (In1 {p = p} {c = a} {P = P} {v = v} {σ = σ} f e j) r g h k =
+keeps (In1 {p = p} {P = P} {v = v} {σ = σ} f e j) r g h k =
     let q = k h.0 h.1 in
-    ((h.0, h.1), walled_inst p a P v σ h.0 r e j (of_guests h.0 r v q.1) h.2)
-keeps (Repl {p = p} {c = a} {P = P} {v = v} {σ = σ} f e j) r g h k =
+    ((h.0, h.1), walled_inst p P v σ h.0 r e j (of_guests h.0 r v q.1) h.2)
+keeps (Repl {p = p} {P = P} {v = v} {σ = σ} f e j) r g h k =
     let q = k h.0 h.1 in
-    ((h.0, h.1), (h, walled_inst p a P v σ h.0 r e j (of_guests h.0 r v q.1) h.2))
+    ((h.0, h.1), (h, walled_inst p P v σ h.0 r e j (of_guests h.0 r v q.1) h.2))
 keeps {A = A} (CommL {P' = P'} {Q' = Q'} {x = x} {g = o} {v = v} d d') r g h k =
     let a = keeps d r g h.0 tt in
     let b = keeps d' r g h.1 (told_by r x o v a.0) in

@@ -35,8 +35,7 @@
  * 2 + n (child box named n). A place is that of the first word in the side's pool.
  *
  * A value is a name, or 4000000 + k (k from 0 to 15) followed by k values; at most 16 words. A
- * pattern is likewise; its names bind, none twice, 4999999 takes anything and binds nothing, and
- * 5000000 + n (n from 0 to 63) takes public name n alone and binds nothing.
+ * pattern is likewise; its names bind, none twice, and 4999999 takes anything and binds nothing.
  * A value that enters may also hold names that were minted and have left (65536 x side + serial, serial
  * 0 to 255), and names from outside (196608 to 196863).
  *

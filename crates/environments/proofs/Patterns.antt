@@ -7,10 +7,10 @@ use native.Mathlib.Omega.{arith}
 use borrow.Author.Tests.{le-leb}
 use lib.Dec.{leb, eqb}
 use lib.ListN.{length, length-drop, length-take}
-use Rattle.model.specs.Basics.{Res, refuse, done, is_done, or_else, every}
-use Rattle.model.specs.Values.{items, at, is_tuple, is_name, is_public, is_pattern_leaf, arity, binders, rest_of, first_of, Fit, leaf_takes, matches}
-use Rattle.model.proofs.Basics.Tests.{both, bind_done, need_done}
-use Rattle.model.proofs.Causes.CauseTools.{match_refuses}
+use Rattle.model.specs.Basics.{Res, refuse, done, bind, is_done, or_else, every}
+use Rattle.model.specs.Values.{items, at, is_tuple, is_name, is_public, is_pattern_leaf, arity, binders, rest_of, first_of, Fit, matches}
+use Rattle.model.specs.Values.{binds as with_bound}
+use Rattle.model.proofs.Basics.Tests.{both, bind_done}
 use Rattle.model.proofs.Formed.Keeping.{done_inj}
 use Rattle.model.proofs.Basics.Items.{clash, items_leaf, items_tuple, items_bad, at_whole, tuple_not_leaf, tuple_not_public}
 use Rattle.values.proofs.Spans.{items_tail}
@@ -73,8 +73,7 @@ module _ (p : ℕ) (ps : List ℕ) (ih : Binds ps) (n : ℕ) where
           let shorts = subst (λ (y : Fit). every is_short y.bound ≡ true) (done_inj b) (both _ _ (first_short v l) r.1) in
           (ap (λ (y : Fit). length y.bound) (sym (done_inj b)) ∙ rw q (ap suc r.0), shorts)
       go false q ip' =
-          let taken = need_done (leaf_takes p v) 14 (matches ps n (rest_of v)) m (rw (t, q, matches) at e) in
-          let r = ih n (rest_of v) m taken.1 ip' (omega (arith, rest_le v)) in
+          let r = ih n (rest_of v) m (rw (t, q, matches) at e) ip' (omega (arith, rest_le v)) in
           (rw q r.0, r.1)
 
 binds_cons : (p : ℕ) (ps : List ℕ) → Binds ps → Binds (p ∷ ps)
@@ -101,12 +100,42 @@ pattern_binds pool place v m = go (at is_pattern_leaf pool place) refl
     go (refuse k) a e l = absurd (clash e)
     go (done p) a e l = binds p 1 v m e (at_whole is_pattern_leaf pool place p a) l
 
--- THE TWO ANSWERS OF A MATCH: it is refused with 14 alone
-pub match_no : (p v : List ℕ) → is_done (matches p 1 v) ≡ false → matches p 1 v ≡ refuse 14
-match_no p v = go (matches p 1 v) refl
+-- A MATCH IS REFUSED with 14 alone
+abbrev number_of : Res Fit → ℕ
+number_of (refuse k) = k
+number_of (done m) = 14
+
+number_14 : (p : List ℕ) (n : ℕ) (v : List ℕ) → number_of (matches p n v) ≡ 14
+unfolding matches bind
+number_14 [] zero v = refl
+number_14 [] (suc n) v = refl
+number_14 (p ∷ ps) zero v = refl
+number_14 (p ∷ ps) (suc n) v = go (is_tuple p) (is_public p) v (number_14 ps (arity p + n)) (number_14 ps n (rest_of v))
   where
-    go : (q : Res Fit) → matches p 1 v ≡ q → is_done q ≡ false → q ≡ refuse 14
-    go (refuse k) e z = ap refuse (match_refuses p 1 v k e)
+    tuple : (t : Bool) (q : Res Fit) → number_of q ≡ 14 → number_of (elim t [ true ↦ q | false ↦ refuse 14 ]) ≡ 14
+    tuple true q e = e
+    tuple false q e = refl
+
+    name : (x : List ℕ) (q : Res Fit) → number_of q ≡ 14 → number_of (bind q (λ m. done (with_bound x m))) ≡ 14
+    name x (refuse k) e = e
+    name x (done m) e = refl
+
+    go : (t u : Bool) (v : List ℕ) → ((ws : List ℕ) → number_of (matches ps (arity p + n) ws) ≡ 14) → number_of (matches ps n (rest_of v)) ≡ 14 →
+        number_of (elim t [
+          | true ↦ elim v [ [] ↦ refuse 14 | w ∷ ws ↦ elim (eqb w p) [ true ↦ matches ps (arity p + n) ws | false ↦ refuse 14 ] ]
+          | false ↦ elim u [ true ↦ bind (matches ps n (rest_of v)) (λ m. done (with_bound (first_of v) m)) | false ↦ matches ps n (rest_of v) ]
+        ]) ≡ 14
+    go true u [] e f = refl
+    go true u (w ∷ ws) e f = tuple (eqb w p) (matches ps (arity p + n) ws) (e ws)
+    go false true v e f = name (first_of v) (matches ps n (rest_of v)) f
+    go false false v e f = f
+
+-- the two answers of a match
+pub match_no : (p v : List ℕ) → is_done (matches p 1 v) ≡ false → matches p 1 v ≡ refuse 14
+match_no p v = go (matches p 1 v) (number_14 p 1 v)
+  where
+    go : (q : Res Fit) → number_of q ≡ 14 → is_done q ≡ false → q ≡ refuse 14
+    go (refuse k) e z = ap refuse e
     go (done m) e z = absurd (let y : ◌≡◌ {A = ℕ} 0 1 = cc in omega arith)
 
 pub match_yes : (p v : List ℕ) → is_done (matches p 1 v) ≡ true → (m : Fit) × (matches p 1 v ≡ done m)

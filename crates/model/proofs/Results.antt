@@ -1,5 +1,4 @@
--- What is computed, and what follows: trials, purity, the names brought, runs of the wrappers themselves, the new-name rule, patterns that
--- ask for one name.
+-- What is computed, and what follows: trials, purity, the names brought, runs of the wrappers themselves, the new-name rule.
 pub mod Trials
 pub mod FormedStates
 pub mod Purity
@@ -7,4 +6,3 @@ pub mod Brought
 pub mod Corollaries
 pub mod WrapperRuns
 pub mod NewNames
-pub mod ExactPatterns

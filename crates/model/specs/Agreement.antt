@@ -1,13 +1,12 @@
--- DEMAND 2: the bench agrees with the published calculus, with its one pattern =n more (calculus, Untouched), for every state that is well formed for
--- tables that load takes.
+-- DEMAND 2: the bench agrees with the published calculus, for every state that is well formed for tables that load takes.
 use Rattle.std.specs.Prelude.{◌≡◌, ◌⊎◌, ◌↔◌, List, [], ◌∷◌, ◌++◌, Bool, true, false, not, ◌&&◌, ◌||◌, ℕ, ◌+◌, ◌≤◌, eqb, ltb, T, length}
 use Rattle.std.proofs.Math.Option.{some}
 use Rattle.std.proofs.Math.ListN.{get_elem?}
-use Rattle.calculus.specs.Syntax.{Val, nm, Vars, parent, Tag, plain, Proc, remark, ren, vren, tren, vsub}
+use Rattle.calculus.specs.Syntax.{Val, nm, Vars, parent, Tag, plain, Proc, remark, ren, vren, tren, vsub, match}
 use Rattle.calculus.specs.Congruence.{◌≋◌}
 use Rattle.calculus.specs.Transitions.{Label, tau, send, recv, Participants, lone, joint, In, Fn⊆, names, lnames}
 use Rattle.calculus.specs.Transitions.{Step as Trans}
-use Rattle.calculus.specs.Named.{Code, cnil, cpar, cbox, cnew, cout, cinp, named, shape, match_p, with_pat, public, proc}
+use Rattle.calculus.specs.Named.{Code, cnil, cpar, cbox, cnew, cout, cinp, named, shape, with_pat, public, proc}
 use Rattle.calculus.specs.Wrappers.{W1, W2, L, mid_name}
 use Rattle.calculus.specs.Tree.{process}
 use Rattle.model.specs.Basics.{has, every}
@@ -179,7 +178,7 @@ pub data Excused (b : Composition) (s : State) (k : Step) : Label → ℕ → Ty
   by_12 : {x : ℕ} {o : Tag ℕ} {v : Val ℕ} → k.kind ≡ 1 → T (some_name (λ n. minted_number n && not (known s n)) (names v)) → Excused b s k (recv x o v) 12
   by_16 : {at at' n m x x' g : ℕ} {vs : List (List ℕ)} {r : Bool} {p : List ℕ} {a : Term} {o : STag} {v : List ℕ} {σ : Vars (shape (pat_of p)) → Val ℕ}
       → k.kind ≡ 5 → get_elem? (parts_of s k.side) k.i ≡ some (output at' x' o v) → get_elem? (parts_of s k.side) k.j ≡ some (input at n vs)
-      → term_at (table b k.side) n ≡ inp m r x g p a → match_p (pat_of p) (val_of v) ≡ some σ
+      → term_at (table b k.side) n ≡ inp m r x g p a → match (shape (pat_of p)) (val_of v) ≡ some σ
       → T (long (code_of a) (with_pat (pat_of p) σ (env_of (env_at (table b k.side) n vs)))) → Excused b s k tau 16
   by_17 : {l : Label} → Over b s k → Excused b s k l 17
 

@@ -56,7 +56,7 @@ PremiseNeeded = (s s' : State) × (load sending ≡ ok s) × (load idle ≡ ok s
 
 -- the copier of document 004: !in^up y. out^up <y y>
 abbrev pub copier_process : Proc (Unit {0}) []
-copier_process = inp replicated tt in_name parent var tt (out tt (inr out_name) (plain parent) (tup (vcons (nm (inl tt)) (vcons (nm (inl tt)) vnil))))
+copier_process = inp replicated tt in_name parent var (out tt (inr out_name) (plain parent) (tup (vcons (nm (inl tt)) (vcons (nm (inl tt)) vnil))))
 
 -- in^up 20, four silent ones, out^up <20 20>
 abbrev pub labels_a : List Label

@@ -24,5 +24,3 @@ pub mod FormedStates
 pub mod Corollaries
 pub mod OutsideTrials
 pub mod StrandedTrials
-pub mod ExactTrials
-pub mod ExactPatterns

@@ -3,11 +3,11 @@
 use Rattle.std.specs.Prelude.{◌≡◌, Bool, true, false, not, cond, List, [], ◌∷◌, ◌++◌, map, ℕ, zero, suc, ◌+◌, ◌*◌, ltb, eqb}
 use Rattle.calculus.specs.Syntax.{Val, Vals, nm, tup, vnil, vcons, ITag, Tag, plain, received_parent, received_child, Mode, once, replicated, Proc}
 use Rattle.calculus.specs.Syntax.{within as iwithin, parent as iparent, child as ichild, out as pout}
-use Rattle.calculus.specs.Named.{NPat, NPats, any, named, exactly, parts, pno, pand, Code, cnil, cpar, cbox, cnew, cout, cinp, proc}
+use Rattle.calculus.specs.Named.{NPat, NPats, any, named, parts, pno, pand, Code, cnil, cpar, cbox, cnew, cout, cinp, proc}
 use Rattle.calculus.specs.Wrappers.{in_name, out_name, mid_name, env_in, env_out, forward, forward_with}
 use Rattle.calculus.specs.Tree.{Place, Item, Conf}
 use Rattle.model.specs.Basics.{◌or◌, one_of, every}
-use Rattle.model.specs.Values.{is_public, is_minted, is_outside, is_exact, exact_name, is_tuple, arity, distinct, Env, value}
+use Rattle.model.specs.Values.{is_public, is_minted, is_outside, is_tuple, arity, distinct, Env, value}
 use Rattle.model.specs.Table.{Table, Term, nil, par, box, new, out, inp, term}
 use Rattle.model.specs.Side.{Particle, output, input, Box, Message, down, arrived, leaving, Core, State, side, has_taken}
 use Rattle.model.specs.Side.{Status}
@@ -73,17 +73,13 @@ behind_p zero ps = ps
 behind_p (suc k) pno = pno
 behind_p (suc k) (pand p ps) = behind_p k ps
 
--- a leaf that binds nothing: a word that asks for one name, or the wildcard
-abbrev pub bare_leaf : ℕ → NPat
-bare_leaf w = cond (is_exact w) (exactly (exact_name w)) any
-
 unfoldable pub reads_p : List ℕ → ℕ → NPats
 reads_p [] n = pno
 reads_p (w ∷ ws) zero = pno
 reads_p (w ∷ ws) (suc n) =
     elim (is_tuple w) [
       | true ↦ (let ps = reads_p ws (arity w + n) in pand (parts (first_p (arity w) ps)) (behind_p (arity w) ps))
-      | false ↦ elim (is_public w) [ true ↦ pand (named w) (reads_p ws n) | false ↦ pand (bare_leaf w) (reads_p ws n) ]
+      | false ↦ elim (is_public w) [ true ↦ pand (named w) (reads_p ws n) | false ↦ pand any (reads_p ws n) ]
     ]
 
 abbrev pub head_p : NPats → NPat

@@ -5,13 +5,12 @@ use mathlib.Core.List.{List, [], ◌∷◌, ◌++◌, append_assoc, append_nil}
 use Prim.Native.Nat.{ℕ, zero, suc, ◌+◌, ◌-◌, ◌<◌, ◌≤◌}
 use native.Mathlib.Nat.{zero-add, suc-add, add_assoc, add-zero}
 use native.Mathlib.Omega.{arith}
-use borrow.Author.Tests.{le-leb, lt-leb, leb-true, eq-eqb, ne_eqb}
+use borrow.Author.Tests.{le-leb, lt-leb, eq-eqb, ne_eqb}
 use lib.Dec.{eqb}
 use lib.ListN.{length, get_or, take, drop, set, length-drop, drop_of_length-le, length-take, length-map}
 use lib.Seq.{take_all, length-take-le}
-use Rattle.model.specs.Basics.{Res, refuse, done, bind, need, choose}
-use Rattle.model.specs.Values.{is_public, is_tuple, is_exact, arity, rest_of, first_of, Fit, binds, leaf_takes, matches, binders}
-use Rattle.model.proofs.Basics.Tests.{snd, need_done}
+use Rattle.model.specs.Basics.{Res, refuse, done, bind, choose}
+use Rattle.model.specs.Values.{is_public, is_tuple, arity, rest_of, first_of, Fit, binds, matches, binders}
 use Rattle.values.specs.declared.Part.{Part}
 use Rattle.values.specs.declared.Bound.{Bound}
 use Rattle.values.specs.declared.Matched.{Matched}
@@ -52,7 +51,7 @@ further n m = stored_after m.bound (matches m.pattern n m.value)
 
 -- a items and then b
 after_add : (p : List ℕ) (a b : ℕ) (v : List ℕ) (bs : List (List ℕ)) → stored_after bs (matches p (a + b) v) ≡ bind (stored_after bs (matches p a v)) (further b)
-unfolding stored_after matches bind need
+unfolding stored_after matches bind
 after_add [] zero b v bs = rw zero-add (sym (ap (λ (l : List (List ℕ)). stored_after l (matches [] b v)) (ap (take 8) (append_nil bs)) ∙ after_cut bs (matches [] b v)))
 after_add [] (suc a) b v bs = rw suc-add
 after_add (p ∷ ps) zero b v bs = rw zero-add (sym (ap (λ (l : List (List ℕ)). stored_after l (matches (p ∷ ps) b v)) (ap (take 8) (append_nil bs)) ∙ after_cut bs (matches (p ∷ ps) b v)))
@@ -64,26 +63,22 @@ after_add (p ∷ ps) (suc a) b v bs =
     tup ws true ih = rw (← add_assoc (arity p) a b) ih
     tup ws false ih = refl
 
-    bare : (t : Bool) (all part : Res Fit) → stored_after bs all ≡ bind (stored_after bs part) (further b) → stored_after bs (need t 14 all) ≡ bind (stored_after bs (need t 14 part)) (further b)
-    bare true all part ih = ih
-    bare false all part ih = refl
-
     go : (t u : Bool) (v : List ℕ) → ((xs : List ℕ) → stored_after bs (matches ps ((arity p + a) + b) xs) ≡ bind (stored_after bs (matches ps (arity p + a) xs)) (further b)) →
         stored_after (bs ++ (first_of v ∷ [])) (matches ps (a + b) (rest_of v)) ≡ bind (stored_after (bs ++ (first_of v ∷ [])) (matches ps a (rest_of v))) (further b) →
         stored_after bs (matches ps (a + b) (rest_of v)) ≡ bind (stored_after bs (matches ps a (rest_of v))) (further b) →
         stored_after bs (elim t [
           | true ↦ elim v [ [] ↦ refuse 14 | w ∷ ws ↦ elim (eqb w p) [ true ↦ matches ps (arity p + (a + b)) ws | false ↦ refuse 14 ] ]
-          | false ↦ elim u [ true ↦ bind (matches ps (a + b) (rest_of v)) (λ m. done (binds (first_of v) m)) | false ↦ need (leaf_takes p v) 14 (matches ps (a + b) (rest_of v)) ]
+          | false ↦ elim u [ true ↦ bind (matches ps (a + b) (rest_of v)) (λ m. done (binds (first_of v) m)) | false ↦ matches ps (a + b) (rest_of v) ]
         ]) ≡
         bind (stored_after bs (elim t [
           | true ↦ elim v [ [] ↦ refuse 14 | w ∷ ws ↦ elim (eqb w p) [ true ↦ matches ps (arity p + a) ws | false ↦ refuse 14 ] ]
-          | false ↦ elim u [ true ↦ bind (matches ps a (rest_of v)) (λ m. done (binds (first_of v) m)) | false ↦ need (leaf_takes p v) 14 (matches ps a (rest_of v)) ]
+          | false ↦ elim u [ true ↦ bind (matches ps a (rest_of v)) (λ m. done (binds (first_of v) m)) | false ↦ matches ps a (rest_of v) ]
         ])) (further b)
     go true u [] x y z = refl
     go true u (w ∷ ws) x y z = tup ws (eqb w p) (x ws)
     go false true v x y z =
         after_binds bs (first_of v) (matches ps (a + b) (rest_of v)) ∙ y ∙ ap (λ (q : Res Fit). bind q (further b)) (sym (after_binds bs (first_of v) (matches ps a (rest_of v))))
-    go false false v x y z = bare (leaf_takes p v) (matches ps (a + b) (rest_of v)) (matches ps a (rest_of v)) z
+    go false false v x y z = z
 
 -- the first item, then the rest
 first_then : (p v : List ℕ) (bs : List (List ℕ)) (k : ℕ) → ((k ≡ 0) → ⊥) → stored_after bs (matches p k v) ≡ bind (stored_after bs (matches p 1 v)) (further (k - 1))
@@ -119,17 +114,6 @@ pub parts_none : (p v : List ℕ) (i j k : ℕ) (b : Bound) (m : Matched) → le
     fit_of p v m ≡ stored_after (view_bound v b) (matches (drop i p) k (drop j v))
 parts_none p v i j k b m full z e = rw (e, z) (fit_yes p v _ refl ∙ sym (after_none (view_bound v b) (drop i p) (drop j v) ∙ ap (λ (l : List (List ℕ)). done (fit (drop i p) (drop j v) l)) (bound_few v b full)))
 
--- what a leaf that binds nothing takes, by the word at place j
-module _ (w : ℕ) (v : List ℕ) (j : ℕ) (e : is_exact w ≡ true) where
-  pub takes_none : length v ≤ j → false ≡ leaf_takes w (drop j v)
-  takes_none l = rw (e, drop_of_length-le v l) (sym (ne_eqb 64 (w - 5000000) (λ q. let h = leb-true w 5000063 (snd _ _ e) in omega (arith, q))))
-
-  pub takes_word : j < length v → eqb (get_or v j 0) (w - 5000000) ≡ leaf_takes w (drop j v)
-  takes_word l = rw (e, at_i v j l)
-
-pub takes_any_lem : (w : ℕ) (v : List ℕ) → is_exact w ≡ false → true ≡ leaf_takes w v
-takes_any_lem w v e = rw e
-
 -- one item at the head of the pattern
 module _ (w : ℕ) (ps : List ℕ) where
   tuple_eq : (x : ℕ) (xs : List ℕ) → is_tuple w ≡ true → x ≡ w → matches (w ∷ ps) 1 (x ∷ xs) ≡ matches ps (w - 4000000) xs
@@ -148,13 +132,9 @@ module _ (w : ℕ) (ps : List ℕ) where
   unfolding matches
   name_eq v t e = rw (t, e, matches)
 
-  bare_eq : (v : List ℕ) → is_tuple w ≡ false → is_public w ≡ false → leaf_takes w v ≡ true → matches (w ∷ ps) 1 v ≡ matches ps 0 (rest_of v)
-  unfolding matches need
-  bare_eq v t e q = rw (t, e, matches) (ap (λ (b : Bool). need b 14 (matches ps 0 (rest_of v))) q)
-
-  bare_ne : (v : List ℕ) → is_tuple w ≡ false → is_public w ≡ false → leaf_takes w v ≡ false → matches (w ∷ ps) 1 v ≡ refuse 14
-  unfolding matches need
-  bare_ne v t e q = rw (t, e, matches) (ap (λ (b : Bool). need b 14 (matches ps 0 (rest_of v))) q)
+  wild_eq : (v : List ℕ) → is_tuple w ≡ false → is_public w ≡ false → matches (w ∷ ps) 1 v ≡ matches ps 0 (rest_of v)
+  unfolding matches
+  wild_eq v t e = rw (t, e, matches)
 
 refused_is : (bs : List (List ℕ)) (q : Res Fit) → q ≡ refuse 14 → refuse 14 ≡ stored_after bs q
 unfolding stored_after
@@ -194,17 +174,12 @@ module _ (p v : List ℕ) (i j : ℕ) (b : Bound) (m : Matched) where
           sym (ap (stored_after bs) (rw (at_i p i h, z.left, z.first) (name_eq (get_or p i 0) (drop (i + 1) p) (drop j v) t (le-leb _ _ n))) ∙
           after_binds bs x (matches (drop (i + 1) p) 0 (drop e v)) ∙ after_none (bs ++ (x ∷ [])) (drop (i + 1) p) (drop e v)))
 
-      -- a leaf that binds nothing, and takes the value
-      pub item_bare : 63 < get_or p i 0 → leaf_takes (get_or p i 0) (drop j v) ≡ true → length b.rows ≡ 8 → m ≡ record { fits = true; pattern = i + 1; value = e; bound = b } →
+      -- the wildcard
+      pub item_wild : 63 < get_or p i 0 → length b.rows ≡ 8 → m ≡ record { fits = true; pattern = i + 1; value = e; bound = b } →
           fit_of p v m ≡ stored_after (view_bound v b) (matches (drop i p) 1 (drop j v))
-      item_bare n k full g =
-          rw g (fit_yes p v _ refl ∙ sym (ap (stored_after (view_bound v b)) (rw (at_i p i h, z.left) (bare_eq (get_or p i 0) (drop (i + 1) p) (drop j v) t (lt-leb _ _ n) k)) ∙
+      item_wild n full g =
+          rw g (fit_yes p v _ refl ∙ sym (ap (stored_after (view_bound v b)) (rw (at_i p i h, z.left) (wild_eq (get_or p i 0) (drop (i + 1) p) (drop j v) t (lt-leb _ _ n))) ∙
           after_none (view_bound v b) (drop (i + 1) p) (drop e v) ∙ ap (λ (l : List (List ℕ)). done (fit (drop (i + 1) p) (drop e v) l)) (bound_few v b full)))
-
-    -- one that does not take it
-    pub item_unlike : is_tuple (get_or p i 0) ≡ false → 63 < get_or p i 0 → leaf_takes (get_or p i 0) (drop j v) ≡ false → m.fits ≡ false →
-        fit_of p v m ≡ stored_after (view_bound v b) (matches (drop i p) 1 (drop j v))
-    item_unlike t n k f = fit_no p v m f ∙ refused_is (view_bound v b) _ (rw (at_i p i h) (bare_ne (get_or p i 0) (drop (i + 1) p) (drop j v) t (lt-leb _ _ n) k))
 
 -- one item makes the pattern shorter
 clash : {n : ℕ} {a : Fit} → refuse n ≡ done a → ⊥
@@ -237,12 +212,12 @@ matches_le (p ∷ ps) (suc n) v m e = go (is_tuple p) (is_public p) v (λ xs q. 
         ◌≡◌ {A = Res Fit}
         (elim t [
           | true ↦ elim v [ [] ↦ refuse 14 | w ∷ ws ↦ elim (eqb w p) [ true ↦ matches ps (arity p + n) ws | false ↦ refuse 14 ] ]
-          | false ↦ elim u [ true ↦ bind (matches ps n (rest_of v)) (λ m. done (binds (first_of v) m)) | false ↦ need (leaf_takes p v) 14 (matches ps n (rest_of v)) ]
+          | false ↦ elim u [ true ↦ bind (matches ps n (rest_of v)) (λ m. done (binds (first_of v) m)) | false ↦ matches ps n (rest_of v) ]
         ]) (done m) → (length m.pattern ≤ length (p ∷ ps)) × (0 < suc n → length m.pattern < length (p ∷ ps))
     go true u [] x y q = absurd (clash q)
     go true u (w ∷ ws) x y q = out (tup (eqb w p) ws (x ws) q)
     go false true v x y q = out (name (first_of v) (matches ps n (rest_of v)) y q)
-    go false false v x y q = out (y m (need_done (leaf_takes p v) 14 (matches ps n (rest_of v)) m q).1)
+    go false false v x y q = out (y m q)
 
 -- the measure falls
 pub item_falls : (p v : List ℕ) (m : Matched) (i : ℕ) (x : List ℕ) (bs : List (List ℕ)) → m.fits ≡ true → fit_of p v m ≡ stored_after bs (matches (drop i p) 1 x) → length p - m.pattern < length p - i
@@ -276,7 +251,7 @@ bound_of (refuse n) = 0
 bound_of (done m) = length m.bound
 
 bound_le : (p : List ℕ) (n : ℕ) (v : List ℕ) → bound_of (matches p n v) ≤ length (binders p)
-unfolding matches bind need
+unfolding matches bind
 bound_le [] zero v = omega arith
 bound_le [] (suc n) v = omega arith
 bound_le (p ∷ ps) zero v = omega arith
@@ -293,19 +268,15 @@ bound_le (p ∷ ps) (suc n) v = go (is_tuple p) (is_public p) refl v (λ xs. bou
     name x (refuse d) l = omega arith
     name x (done m) l = omega arith
 
-    bare : (t : Bool) (q : Res Fit) → bound_of q ≤ length (binders ps) → bound_of (need t 14 q) ≤ length (binders ps)
-    bare true q l = l
-    bare false q l = omega arith
-
     go : (t u : Bool) → is_public p ≡ u → (v : List ℕ) → ((xs : List ℕ) → bound_of (matches ps (arity p + n) xs) ≤ length (binders ps)) → bound_of (matches ps n (rest_of v)) ≤ length (binders ps) →
         bound_of (elim t [
           | true ↦ elim v [ [] ↦ refuse 14 | w ∷ ws ↦ elim (eqb w p) [ true ↦ matches ps (arity p + n) ws | false ↦ refuse 14 ] ]
-          | false ↦ elim u [ true ↦ bind (matches ps n (rest_of v)) (λ m. done (binds (first_of v) m)) | false ↦ need (leaf_takes p v) 14 (matches ps n (rest_of v)) ]
+          | false ↦ elim u [ true ↦ bind (matches ps n (rest_of v)) (λ m. done (binds (first_of v) m)) | false ↦ matches ps n (rest_of v) ]
         ]) ≤ length (binders (p ∷ ps))
     go true u a [] x y = omega arith
     go true u a (w ∷ ws) x y = less _ (tup (eqb w p) ws (x ws))
     go false true a v x y = rw a (name (first_of v) (matches ps n (rest_of v)) y)
-    go false false a v x y = less _ (bare (leaf_takes p v) (matches ps n (rest_of v)) y)
+    go false false a v x y = less _ y
 
 pub all_stored : (p v : List ℕ) (n : ℕ) → length (binders p) ≤ 8 → stored_after [] (matches p n v) ≡ matches p n v
 unfolding stored_after

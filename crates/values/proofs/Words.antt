@@ -3,10 +3,10 @@ use mathlib.Core.Path.{◌≡◌, refl, sym, ◌∙◌}
 use mathlib.Core.Bool.{Bool, true, false}
 use Prim.Native.Nat.{ℕ, ◌<◌, ◌≤◌, ◌%◌}
 use native.Mathlib.Omega.{arith}
-use borrow.Author.Tests.{le-leb, lt-leb, leb-true, leb-false, eq-eqb, ne_eqb}
-use lib.Dec.{leb}
+use borrow.Author.Tests.{le-leb, lt-leb, leb-true, leb-false}
+use lib.Dec.{leb, eqb}
 use Rattle.model.specs.Basics.{◌&◌, ◌or◌}
-use Rattle.model.specs.Values.{is_tuple, is_minted, is_outside, is_exact}
+use Rattle.model.specs.Values.{is_tuple, is_minted, is_outside}
 use Rattle.values.specs.Span.{leaf_of}
 use Rattle.values.specs.declared.Leaf.{Leaf}
 use Rattle.values.specs.declared.Leaf.TheVariants.{Public, Pattern, Name}
@@ -27,14 +27,6 @@ module _ (w : ℕ) where
   pub outside_high : 196608 ≤ w → leb w 196863 ≡ is_outside w
   unfolding ◌&◌
   outside_high h = rw (le-leb 196608 w h)
-
-  pub exact_low : w < 5000000 → false ≡ is_exact w
-  unfolding ◌&◌
-  exact_low h = rw (lt-leb 5000000 w h)
-
-  pub exact_high : 5000000 ≤ w → leb w 5000063 ≡ is_exact w
-  unfolding ◌&◌
-  exact_high h = rw (le-leb 5000000 w h)
 
   pub minted_none : w < 65536 → false ≡ is_minted w
   unfolding ◌&◌ ◌or◌
@@ -68,13 +60,9 @@ module _ (w : ℕ) where
   unfolding leaf_of
   leaf_public l e h = rw (e, lt-leb w 63 h)
 
-  pub leaf_wildcard : (l : Leaf) → l ≡ Pattern → 63 < w → w ≡ 4999999 → true ≡ leaf_of l w
+  pub leaf_pattern : (l : Leaf) → l ≡ Pattern → 63 < w → eqb w 4999999 ≡ leaf_of l w
   unfolding leaf_of ◌or◌
-  leaf_wildcard l e h q = rw (e, lt-leb w 63 h, eq-eqb w 4999999 q)
-
-  pub leaf_exact : (l : Leaf) → l ≡ Pattern → 63 < w → (w ≡ 4999999 → ⊥) → is_exact w ≡ leaf_of l w
-  unfolding leaf_of ◌or◌
-  leaf_exact l e h q = rw (e, lt-leb w 63 h, ne_eqb w 4999999 q)
+  leaf_pattern l e h = rw (e, lt-leb w 63 h)
 
   pub leaf_minted : (l : Leaf) → l ≡ Name → 63 < w → true ≡ is_minted w → true ≡ leaf_of l w
   unfolding leaf_of ◌or◌

@@ -7,8 +7,8 @@ use Rattle.values.specs.declared.Span.TheVariants.{At, Bad}
 use Rattle.values.specs.declared.Leaf.{Leaf}
 use Rattle.values.specs.declared.Leaf.TheVariants.{Public, Pattern, Name}
 
--- the words that are items by themselves: a table's names in a value of a table; those, the wildcard and words that ask for one name in a
--- pattern; public and minted names, and those from outside, in a value that a step handles
+-- the words that are items by themselves: a table's names in a value of a table; those and the wildcard in a pattern; public
+-- and minted names in a value that a step handles
 unfoldable pub leaf_of : Leaf → ℕ → Bool
 leaf_of Public w = is_public w
 leaf_of Pattern w = is_pattern_leaf w

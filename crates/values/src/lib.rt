@@ -1,7 +1,7 @@
 // Values and patterns as words: where one ends, and what a pattern takes of a value.
 ghost use Rattle.std.specs.Prelude.{◌≡◌, true, false, List, [], ◌∷◌, ◌++◌, ℕ, ◌≤◌, leb, length, take, drop};
 ghost use Rattle.model.specs.Basics.{has};
-ghost use Rattle.model.specs.Values.{is_tuple, is_minted, is_outside, is_exact, leaf_takes, matches, binders, distinct, at, is_value};
+ghost use Rattle.model.specs.Values.{is_tuple, is_minted, is_outside, matches, binders, distinct, at, is_value};
 ghost use Rattle.values.specs.Span.{leaf_of, span_of, end_of, size_of};
 ghost use Rattle.values.specs.Match.{view_bound, part_of, fit_of, stored_after};
 ghost use Rattle.values.specs.Env.{view_value, Stores};
@@ -50,13 +50,6 @@ pub fn is_outside(w: u32) -> bool
     if w < 196608 { false } else { w <= 196863 }
 }
 
-// Whether w is a pattern's word that asks for one name: 5,000,000 + n takes public name n alone, n up to 63.
-fn is_exact(w: u32) -> bool
-    ensures { result ≡ is_exact w }
-{
-    if w < 5000000 { false } else { w <= 5000063 }
-}
-
 // Whether w is an item by itself.
 fn is_leaf(l: Leaf, w: u32) -> bool
     ensures { result ≡ leaf_of l w }
@@ -66,12 +59,7 @@ fn is_leaf(l: Leaf, w: u32) -> bool
     }
     match l {
         Leaf::Public => false,
-        Leaf::Pattern => {
-            if w == 4999999 {
-                return true;
-            }
-            is_exact(w)
-        },
+        Leaf::Pattern => w == 4999999,
         Leaf::Name => {
             if is_minted(w) {
                 return true;
@@ -282,19 +270,6 @@ impl Matched {
     }
 }
 
-// Whether a pattern's leaf w that binds nothing takes the value at place j: the wildcard any, a word that asks for one name only that name.
-fn leaf_takes(w: u32, v: &[u32], j: usize) -> bool
-    ensures { result ≡ leaf_takes w (drop j v.now) }
-{
-    if is_exact(w) {
-        if v.len() <= j {
-            return false;
-        }
-        return v[j] == w - 5000000;
-    }
-    true
-}
-
 // One item of the pattern p, at place i, against one value of the words v, at place j, after the parts b.
 #[cycle(match_item_match_parts)]
 fn match_item(p: &[u32], v: &[u32], i: usize, j: usize, b: Bound) -> Matched
@@ -317,10 +292,7 @@ fn match_item(p: &[u32], v: &[u32], i: usize, j: usize, b: Bound) -> Matched
     if w <= 63 {
         return Matched::up_to(i + 1, e, b.push(j, e - j));
     }
-    if leaf_takes(w, v, j) {
-        return Matched::up_to(i + 1, e, b);
-    }
-    Matched::refused()
+    Matched::up_to(i + 1, e, b)
 }
 
 // The remaining k parts of a tuple, one after the other.

@@ -196,65 +196,6 @@ fn names() {
     );
 }
 
-fn exact_words() {
-    size_line(
-        b"size of 5000000 in a pattern:",
-        Leaf::Pattern,
-        &[5000000],
-        0,
-    );
-    size_line(
-        b"size of 5000063 in a pattern:",
-        Leaf::Pattern,
-        &[5000063],
-        0,
-    );
-    size_line(
-        b"size of 5000064 in a pattern:",
-        Leaf::Pattern,
-        &[5000064],
-        0,
-    );
-    size_line(
-        b"size of 4999998 in a pattern:",
-        Leaf::Pattern,
-        &[4999998],
-        0,
-    );
-    size_line(b"size of 5000020 in a value:", Leaf::Public, &[5000020], 0);
-    size_line(b"size of 5000020 in a step:", Leaf::Name, &[5000020], 0);
-    names_line(b"pattern (=20 =20):", &[4000002, 5000020, 5000020]);
-    names_line(b"pattern (20 =20):", &[4000002, 20, 5000020]);
-    names_line(b"pattern (20 =20 20):", &[4000003, 20, 5000020, 20]);
-}
-
-fn matches_exactly() {
-    match_line(b"=20 with 20:", &[5000020], &[20]);
-    match_line(b"=20 with 21:", &[5000020], &[21]);
-    match_line(b"=0 with 0:", &[5000000], &[0]);
-    match_line(b"=63 with 63:", &[5000063], &[63]);
-    match_line(b"=63 with a minted name:", &[5000063], &[65599]);
-    match_line(b"=0 with a name from outside:", &[5000000], &[196608]);
-    match_line(b"=0 with ():", &[5000000], &[4000000]);
-    match_line(b"=20 with (20):", &[5000020], &[4000001, 20]);
-    match_line(b"=20 with no words:", &[5000020], &[]);
-    match_line(
-        b"(=20 11) with (20 (21)):",
-        &[4000002, 5000020, 11],
-        &[4000002, 20, 4000001, 21],
-    );
-    match_line(
-        b"(20 =20) with (21 20):",
-        &[4000002, 20, 5000020],
-        &[4000002, 21, 20],
-    );
-    match_line(
-        b"(20 =20) with (20 21):",
-        &[4000002, 20, 5000020],
-        &[4000002, 20, 21],
-    );
-}
-
 fn matches_tuples() {
     match_line(
         b"(10 11) with a pair:",
@@ -304,8 +245,6 @@ fn main() {
     sizes_at_the_end();
     size_of_17_words();
     names();
-    exact_words();
     matches_tuples();
     matches_leaves();
-    matches_exactly();
 }

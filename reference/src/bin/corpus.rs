@@ -104,7 +104,7 @@ fn choose(generate: fn(u64) -> Vec<u8>, count: usize, before: &[Run]) -> Vec<Run
     let mut shown = BTreeSet::new();
     let mut inputs = BTreeSet::new();
     for run in before {
-        tally.add(&run.input, &run.outcome);
+        tally.add(&run.outcome);
         shown.extend(run.shows());
         inputs.insert(run.input.clone());
     }
@@ -114,7 +114,7 @@ fn choose(generate: fn(u64) -> Vec<u8>, count: usize, before: &[Run]) -> Vec<Run
         if !inputs.insert(run.input.clone()) {
             continue;
         }
-        let new_number = tally.add(&run.input, &run.outcome);
+        let new_number = tally.add(&run.outcome);
         let shown_before = shown.len();
         shown.extend(run.shows());
         if new_number {
@@ -149,7 +149,7 @@ fn write_corpus(count: usize, mut path: PathBuf) -> io::Result<String> {
     let mut bytes = Vec::new();
     let mut tally = Tally::default();
     for (index, run) in runs.iter().enumerate() {
-        tally.add(&run.input, &run.outcome);
+        tally.add(&run.outcome);
         let (input, output) = (run.input.len(), run.output.len());
         writeln!(bytes, "run {index} {input} {output}")?;
         bytes.extend_from_slice(&run.input);
@@ -197,7 +197,6 @@ fn fixed_inputs() -> Vec<Fixed> {
         listings(STEPS),
         too_many_and_too_long(),
         listings(FROM_OUTSIDE),
-        listings(ASKED_NAMES),
     ]
     .concat()
 }
@@ -368,12 +367,6 @@ const LOGGED: &[(&str, &str)] = &[
         "W 3 | N 1 6 0 1 0 1 | N 1 4 1 1 1 0 | V 1 10 | V 1 4000002 | V 1 10 | V 1 10 | \
          S 1 1 0 0 196863 | S 7 1 0 0 | S 2 1 0 0 | S 5 1 1 0 | S 3 1 1 0 | S 6 1 0 0 | S 7 1 1 0 | \
          S 7 1 0 0 | S 1 1 0 0 196863 | S 1 1 0 0 196864",
-    ),
-    (
-        "logged, a command is copied whether or not the handler takes it",
-        "W 3 | N 1 6 0 1 0 1 | N 1 4 1 1 2 0 | V 1 4000002 | V 1 5000020 | V 1 10 | \
-         S 1 1 0 0 4000002 21 30 | S 7 1 0 0 | S 2 1 0 0 | S 5 1 1 0 | S 1 1 0 0 4000002 20 30 | \
-         S 7 1 0 0 | S 2 1 0 0 | S 5 1 2 0 | S 3 1 2 0 | S 6 1 0 0 | S 7 1 0 0 | S 7 1 0 0",
     ),
 ];
 
@@ -761,130 +754,6 @@ const FROM_OUTSIDE: &[(&str, &str)] = &[
     ("an outside name in the pool where nothing is read", "W 1 | N 1 4 1 1 1 0 | V 1 196608 | V 1 20"),
 ];
 
-/// Patterns that ask for one name.
-const ASKED_NAMES: &[(&str, &str)] = &[
-    (
-        "two inputs on one channel, one asks for name 20 and one for 21",
-        "W 1 | N 1 1 1 2 0 0 | N 1 6 0 1 0 3 | N 1 6 0 1 3 4 | N 1 4 1 1 6 0 | N 1 4 1 1 9 0 | \
-         V 1 4000002 | V 1 5000020 | V 1 10 | V 1 4000002 | V 1 5000021 | V 1 10 | V 1 4000002 | \
-         V 1 20 | V 1 10 | V 1 4000002 | V 1 21 | V 1 10 | S 1 1 0 0 4000002 20 30 | S 2 1 0 0 | \
-         S 5 1 2 1 | S 5 1 2 0 | S 3 1 2 0 | S 6 1 0 0 | S 7 1 0 0 | S 1 1 0 0 4000002 21 31 | \
-         S 2 1 0 0 | S 5 1 2 0 | S 5 1 2 1 | S 3 1 2 0 | S 6 1 0 0 | S 7 1 0 0 | \
-         S 1 1 0 0 4000002 22 30 | S 1 1 0 0 4000002 30 20 | S 1 1 0 0 20 | S 2 1 0 0 | S 2 1 0 0 | \
-         S 2 1 0 0 | S 5 1 2 0 | S 5 1 2 1 | S 5 1 3 0 | S 5 1 4 0",
-    ),
-    (
-        "the pipeline's side 2 tells names apart that came over mid",
-        "W 2 | N 1 6 0 1 0 1 | N 1 4 2 1 0 0 | N 2 1 1 2 0 0 | N 2 5 2 1 0 3 | N 2 5 2 1 3 4 | \
-         N 2 4 1 1 2 0 | N 2 4 5 1 5 0 | V 1 10 | V 2 4000002 | V 2 5000020 | V 2 10 | V 2 4000002 | \
-         V 2 5000021 | V 2 10 | S 1 1 0 0 4000002 21 6 | S 1 1 0 0 4000002 20 7 | S 2 1 1 0 | \
-         S 2 1 0 0 | S 5 1 2 0 | S 5 1 1 0 | S 3 1 2 0 | S 3 1 1 0 | S 8 2 1 0 | S 8 2 0 0 | \
-         S 2 2 1 0 | S 2 2 0 0 | S 5 2 2 1 | S 5 2 3 0 | S 5 2 2 0 | S 5 2 1 0 | S 3 2 0 0 | \
-         S 6 2 0 0 | S 7 2 0 0 | S 3 2 0 0 | S 6 2 0 0",
-    ),
-    (
-        "a new of the asked number",
-        "W 1 | N 1 3 20 1 0 0 | N 1 6 0 1 0 2 | N 1 4 1 1 3 0 | V 1 4000002 | V 1 5000020 | V 1 10 | \
-         V 1 4000002 | V 1 20 | V 1 10 | S 1 1 0 0 4000002 20 30 | S 2 1 0 0 | S 5 1 1 0 | \
-         S 3 1 1 0 | S 6 1 0 0 | S 7 1 0 0 | S 1 1 0 0 4000002 65536 30 | S 2 1 0 0 | S 5 1 1 0",
-    ),
-    (
-        "a name of the asked number in an outer pattern",
-        "W 1 | N 1 6 0 1 0 1 | N 1 5 0 1 1 2 | N 1 4 1 1 4 0 | V 1 20 | V 1 4000002 | V 1 5000020 | \
-         V 1 10 | V 1 4000002 | V 1 20 | V 1 10 | S 1 1 0 0 21 | S 2 1 0 0 | S 5 1 1 0 | \
-         S 1 1 0 0 4000002 21 30 | S 2 1 0 0 | S 5 1 2 1 | S 1 1 0 0 4000002 20 30 | S 2 1 0 0 | \
-         S 5 1 3 1 | S 3 1 2 0 | S 6 1 0 0 | S 7 1 0 0",
-    ),
-    (
-        "a tuple bound to a name of the asked number in an outer pattern",
-        "W 1 | N 1 6 0 1 0 1 | N 1 5 0 1 1 2 | N 1 4 1 1 3 0 | V 1 20 | V 1 4000002 | V 1 5000020 | \
-         V 1 10 | S 1 1 0 0 4000000 | S 2 1 0 0 | S 5 1 1 0 | S 1 1 0 0 4000002 4000000 30 | \
-         S 2 1 0 0 | S 5 1 2 1 | S 1 1 0 0 4000002 20 30 | S 2 1 0 0 | S 5 1 3 1 | S 3 1 2 0 | \
-         S 6 1 0 0 | S 7 1 0 0",
-    ),
-    (
-        "a name of the asked number in the same pattern, behind it and before it",
-        "W 1 | N 1 1 1 2 0 0 | N 1 6 0 1 0 3 | N 1 6 0 1 3 4 | N 1 4 1 1 2 0 | N 1 4 1 1 2 0 | \
-         V 1 4000002 | V 1 5000020 | V 1 20 | V 1 4000002 | V 1 20 | V 1 5000020 | \
-         S 1 1 0 0 4000002 20 5 | S 2 1 0 0 | S 5 1 2 1 | S 5 1 2 0 | S 3 1 2 0 | S 6 1 0 0 | \
-         S 7 1 0 0 | S 1 1 0 0 4000002 5 20 | S 2 1 0 0 | S 5 1 2 0 | S 5 1 2 1 | S 3 1 2 0 | \
-         S 6 1 0 0 | S 7 1 0 0 | S 1 1 0 0 4000002 5 5 | S 2 1 0 0 | S 5 1 2 0 | S 5 1 2 1",
-    ),
-    (
-        "a name asked for twice in a pattern",
-        "W 1 | N 1 6 0 1 0 1 | N 1 4 1 1 2 0 | V 1 4000003 | V 1 5000020 | V 1 10 | V 1 5000020 | \
-         S 1 1 0 0 4000003 20 30 21 | S 2 1 0 0 | S 5 1 1 0 | S 1 1 0 0 4000003 21 30 20 | \
-         S 2 1 0 0 | S 5 1 2 0 | S 1 1 0 0 4000003 20 30 20 | S 2 1 0 0 | S 5 1 3 0 | S 3 1 3 0 | \
-         S 6 1 0 0 | S 7 1 0 0",
-    ),
-    (
-        "an asked name as a whole pattern",
-        "W 1 | N 1 6 0 1 0 1 | N 1 4 1 1 1 0 | V 1 5000020 | V 1 20 | S 1 1 0 0 21 | \
-         S 1 1 0 0 4000000 | S 1 1 0 0 4000001 20 | S 1 1 0 0 196628 | S 1 1 0 0 20 | S 2 1 0 0 | \
-         S 2 1 0 0 | S 2 1 0 0 | S 2 1 0 0 | S 2 1 0 0 | S 5 1 1 0 | S 5 1 2 0 | S 5 1 3 0 | \
-         S 5 1 4 0 | S 5 1 5 0 | S 3 1 5 0 | S 6 1 0 0 | S 7 1 0 0",
-    ),
-    (
-        "an asked name and a bound name whose value is that name, another one or a tuple",
-        "W 1 | N 1 6 0 1 0 1 | N 1 1 2 3 0 0 | N 1 4 5 0 0 0 | N 1 5 5 0 1 4 | N 1 4 1 1 0 0 | \
-         V 1 10 | V 1 5000020 | S 1 1 0 0 20 | S 2 1 0 0 | S 5 1 1 0 | S 5 1 1 2 | S 3 1 1 0 | \
-         S 6 1 0 0 | S 7 1 0 0 | S 1 1 0 0 10 | S 2 1 0 0 | S 5 1 1 0 | S 5 1 1 2 | \
-         S 1 1 0 0 4000001 20 | S 2 1 0 0 | S 5 1 3 0 | S 5 1 3 4 | S 1 1 0 0 196608 | S 2 1 0 0 | \
-         S 5 1 5 0 | S 5 1 5 6",
-    ),
-    (
-        "an asked name and a minted one of the same number in the table",
-        "W 1 | N 1 3 20 1 0 0 | N 1 1 2 3 0 0 | N 1 4 5 0 0 0 | N 1 5 5 0 1 4 | N 1 4 1 1 0 0 | \
-         V 1 20 | V 1 5000020 | S 5 1 0 1 | S 1 1 0 0 20",
-    ),
-    (
-        "the names 0 and 63 asked for",
-        "W 1 | N 1 6 0 1 0 1 | N 1 4 1 1 3 0 | V 1 4000003 | V 1 5000000 | V 1 5000063 | V 1 10 | \
-         S 1 1 0 0 4000003 63 0 7 | S 1 1 0 0 4000003 0 63 7 | S 2 1 0 0 | S 2 1 0 0 | S 5 1 1 0 | \
-         S 5 1 2 0 | S 3 1 2 0 | S 6 1 0 0 | S 7 1 0 0",
-    ),
-    (
-        "13 before 14 for an asked name, 14 before 15",
-        "W 1 | N 1 1 1 2 0 0 | N 1 6 0 1 0 3 | N 1 1 4 5 0 0 | N 1 4 10 0 3 0 | N 1 5 6 1 0 6 | \
-         N 1 5 0 0 0 7 | N 1 0 0 0 0 0 | N 1 0 0 0 0 0 | V 1 4000002 | V 1 5000020 | V 1 10 | V 1 5 | \
-         S 1 1 0 0 4000002 21 4000000 | S 2 1 0 0 | S 5 1 3 0 | S 5 1 3 1 | S 5 1 3 2 | \
-         S 1 1 0 0 4000002 20 4000000 | S 2 1 0 0 | S 5 1 4 1 | S 5 1 4 2 | S 5 1 4 0",
-    ),
-    (
-        "words that ask for a name do not enter",
-        "W 1 | N 1 6 0 1 0 1 | N 1 0 0 0 0 0 | V 1 5000020 | S 1 1 0 0 4999998 | S 1 1 0 0 5000000 | \
-         S 1 1 0 0 5000020 | S 1 1 0 0 5000063 | S 1 1 0 0 5000064 | S 1 1 0 0 4000002 5000020 20 | \
-         S 1 1 0 0 4000002 65536 5000020 | S 1 1 0 1 5000020 | S 2 1 0 0 5000020",
-    ),
-    ("4999998 in a pattern", "W 1 | N 1 5 0 1 0 1 | N 1 0 0 0 0 0 | V 1 4999998"),
-    ("5000063 in a pattern", "W 1 | N 1 5 0 1 0 1 | N 1 0 0 0 0 0 | V 1 5000063"),
-    (
-        "5000064 in a pattern",
-        "W 1 | N 1 5 0 1 0 1 | N 1 0 0 0 0 0 | V 1 4000002 | V 1 10 | V 1 5000064",
-    ),
-    ("5000000 in a value", "W 1 | N 1 4 1 1 0 0 | V 1 5000000"),
-    ("5000063 in a value", "W 1 | N 1 4 1 1 0 0 | V 1 4000002 | V 1 20 | V 1 5000063"),
-    (
-        "the same words for a pattern and for a value",
-        "W 1 | N 1 5 0 1 0 1 | N 1 4 1 1 0 0 | V 1 5000020",
-    ),
-    ("5000020 as a channel", "W 1 | N 1 4 5000020 1 0 0 | V 1 20"),
-    (
-        "eight names with asked names between them",
-        "W 1 | N 1 5 0 1 0 1 | N 1 4 1 1 6 0 | V 1 4000015 | V 1 5000010 | V 1 10 | V 1 5000010 | \
-         V 1 11 | V 1 5000010 | V 1 12 | V 1 5000010 | V 1 13 | V 1 5000010 | V 1 14 | V 1 5000010 | \
-         V 1 15 | V 1 5000010 | V 1 16 | V 1 17 | \
-         S 1 1 0 0 4000015 10 30 10 31 10 32 10 33 10 34 10 35 10 36 37 | S 2 1 0 0 | S 5 1 1 0 | \
-         S 3 1 0 0 | S 6 1 0 0 | S 7 1 0 0",
-    ),
-    (
-        "nine names with asked names between them",
-        "W 1 | N 1 5 0 1 0 1 | N 1 0 0 0 0 0 | V 1 4000015 | V 1 5000010 | V 1 10 | V 1 5000010 | \
-         V 1 11 | V 1 5000010 | V 1 12 | V 1 5000010 | V 1 13 | V 1 5000010 | V 1 14 | V 1 5000010 | \
-         V 1 15 | V 1 16 | V 1 17 | V 1 18",
-    ),
-];
-
 /// A body with 33 outputs and one whose value can be too long.
 fn too_many_and_too_long() -> Vec<Fixed> {
     let mut text = String::from("W 1 | N 1 6 0 1 0 1");
@@ -908,7 +777,7 @@ mod tests {
     fn fixed_runs_have_every_label_and_number() {
         let mut tally = Tally::default();
         for (_, input) in [fixed_inputs(), listings(LOGGED)].concat() {
-            tally.add(&input, &reference::outcome(&input));
+            tally.add(&reference::outcome(&input));
         }
         assert!(tally.missing().is_empty(), "{:?}", tally.missing());
     }
@@ -922,7 +791,7 @@ mod tests {
         for (name, input) in [listings(TRIALS), long_trials(), listings(SOUND_LINES)].concat() {
             assert!(!is_line(&input), "{name}");
         }
-        let others = [REFUSED_TABLES, STEPS, FROM_OUTSIDE, ASKED_NAMES].concat();
+        let others = [REFUSED_TABLES, STEPS, FROM_OUTSIDE].concat();
         for (name, input) in listings(&others) {
             assert!(!is_line(&input), "{name}");
         }

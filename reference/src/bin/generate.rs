@@ -39,8 +39,7 @@ fn print_input(seed: u64) -> ExitCode {
 fn print_counts(count: u64, from: u64) -> ExitCode {
     let mut tally = Tally::default();
     for seed in from..from + count {
-        let input = generate(seed);
-        tally.add(&input, &reference::outcome(&input));
+        tally.add(&reference::outcome(&generate(seed)));
     }
     println!("seeds: {count} from {from}");
     print!("{}", tally.print());

@@ -1,26 +1,16 @@
 //! Damage: tables that load must refuse (or just may not), lines and bytes
 //! that break the rules of the text.
 
-use super::sketch::{boxed, input, new, output, parallel, Sketch, PARENT};
+use super::sketch::{boxed, input, new, output, parallel, tuple, Sketch, PARENT};
 use super::{handlers, lay_out, sides_of};
 use crate::lines::{Script, BYTE_LIMIT};
 use crate::random::Random;
-use crate::terms::{Tree, ASKED_WORD, LAST_PUBLIC, TUPLE_WORD, WILDCARD_WORD};
-
-/// The first and the last word that ask for a name, and words beside them.
-const ASKED_EDGES: [u32; 6] = [
-    ASKED_WORD - 2,
-    ASKED_WORD - 1,
-    ASKED_WORD,
-    ASKED_WORD + 20,
-    ASKED_WORD + LAST_PUBLIC,
-    ASKED_WORD + LAST_PUBLIC + 1,
-];
+use crate::terms::{TUPLE_WORD, WILDCARD_WORD};
 
 /// Damages the tables of a script, a little or at a limit.
 pub fn damage_tables(random: &mut Random, script: &mut Script) {
     let place = random.below(sides_of(script));
-    match random.below(27) {
+    match random.below(22) {
         0 => script.wrapper = random.pick(&[0, 5, 4, u32::MAX]),
         1 | 20 | 21 => change_sizes(random, script, place),
         2 => add_other_side(random, script),
@@ -30,9 +20,8 @@ pub fn damage_tables(random: &mut Random, script: &mut Script) {
         10 | 11 => set_name(random, script, place),
         12 | 13 => damage_pool(random, script, place),
         14 => set_field(random, script, place, |_| 3, &[1_023, 1_024, u32::MAX, 3]),
-        15 | 16 | 26 => deep_scopes(random, script, place),
+        15 | 16 => deep_scopes(random, script, place),
         17 | 18 => start_limits(random, script, place),
-        22..=25 => set_leaf(random, script, place),
         _ => set_field(
             random,
             script,
@@ -120,33 +109,11 @@ fn damage_pool(random: &mut Random, script: &mut Script, place: usize) {
     let at = random.below(pool.len());
     match random.below(6) {
         0 => pool.truncate(at),
-        1 => pool[at] = random.pick(&[64, WILDCARD_WORD, 4_000_016, 65_536, ASKED_WORD]),
+        1 => pool[at] = random.pick(&[64, WILDCARD_WORD, 4_000_016, 65_536, 5_000_000]),
         2 => pool[at] = TUPLE_WORD + random.between(0, 15) as u32,
         3 => pool[at] = random.pick(&[10, 11, 0]),
         4 => pool[at] = random.pick(&[196_608, 196_863]),
         _ => pool[at] = TUPLE_WORD + 15,
-    }
-}
-
-/// Puts a word that asks for a name, or one just beside them, into a value or a
-/// pattern.
-fn set_leaf(random: &mut Random, script: &mut Script, place: usize) {
-    let kinds: &[u32] = if random.percent(50) { &[4] } else { &[5, 6] };
-    let nodes = nodes_of_kind(script, place, kinds);
-    if nodes.is_empty() {
-        return;
-    }
-    let start = script.nodes[place][random.pick(&nodes) + 3] as usize;
-    let pool = &mut script.pools[place];
-    let any = |word: u32| Some(word);
-    let Some((_, length)) = Tree::read_front(&pool[start..], &any) else {
-        return;
-    };
-    let item = &mut pool[start..start + length];
-    let leaf = |at: &usize| !(TUPLE_WORD..WILDCARD_WORD).contains(&item[*at]);
-    let leaves: Vec<usize> = (0..length).filter(leaf).collect();
-    if !leaves.is_empty() {
-        item[random.pick(&leaves)] = random.pick(&ASKED_EDGES);
     }
 }
 
@@ -202,8 +169,7 @@ fn deep_scopes(random: &mut Random, script: &mut Script, place: usize) {
         1 => (0..names).fold(Sketch::Nil, |body, name| new(10 + name as u32 % 2, body)),
         _ => {
             let numbers: Vec<u32> = (10..10 + names as u32).collect();
-            let pattern = handlers::between(random, &numbers);
-            input(0, PARENT, &pattern, output(1, PARENT, &[11]))
+            input(0, PARENT, &tuple(&numbers), output(1, PARENT, &[11]))
         }
     };
     lay_out(random, script, place, &handler);

@@ -1,11 +1,11 @@
 //! Random handlers: idioms that talk with the wrapper, put side by side.
 
 use super::sketch::{
-    asked, boxed, child, input, new, output, parallel, pattern_names, repeat, tuple, Sketch,
-    PARENT, WITHIN,
+    boxed, child, input, new, output, parallel, pattern_names, repeat, tuple, Sketch, PARENT,
+    WITHIN,
 };
 use crate::random::Random;
-use crate::terms::{MOST_PARTS, TUPLE_WORD, WILDCARD_WORD};
+use crate::terms::{TUPLE_WORD, WILDCARD_WORD};
 
 /// The channel `in`.
 const IN: u32 = 0;
@@ -90,7 +90,7 @@ fn mouth(random: &mut Random, side: u32) -> u32 {
 fn idiom(random: &mut Random, side: u32) -> Sketch {
     let listen = ear(random, side);
     let send = mouth(random, side);
-    match random.below(28) {
+    match random.below(22) {
         0 => copier(random, listen, send),
         1 => starter(random, send),
         2 => child_relay(random, listen, send),
@@ -108,9 +108,6 @@ fn idiom(random: &mut Random, side: u32) -> Sketch {
         14 => swollen(random, listen, send),
         15 => crowd(random, listen),
         16 | 17 => replier(random, listen, send),
-        18 | 19 => commands(random, listen, send),
-        20 | 21 => same_number(random, listen, send),
-        22 | 23 => asker(random, listen, send),
         _ => free_form(random, listen),
     }
 }
@@ -244,23 +241,11 @@ pub fn deep(random: &mut Random, listen: u32, send: u32, names: usize) -> Sketch
         body = match (count, random.below(3)) {
             (1, 0) => new(block[0], body),
             (1, _) => input(listen, PARENT, block, body),
-            (_, 0) => repeat(listen, PARENT, &between(random, block), body),
-            _ => input(listen, PARENT, &between(random, block), body),
+            (_, 0) => repeat(listen, PARENT, &tuple(block), body),
+            _ => input(listen, PARENT, &tuple(block), body),
         };
     }
     body
-}
-
-/// The pattern of a tuple that binds these names; often it asks for some of
-/// their numbers between them, up to as many parts as a tuple can have.
-pub fn between(random: &mut Random, names: &[u32]) -> Vec<u32> {
-    let mut parts = names.to_vec();
-    let most = MOST_PARTS as usize - names.len();
-    for _ in 0..random.pick(&[0, 0, 2, most]) {
-        let place = random.below(parts.len() + 1);
-        parts.insert(place, asked(random.pick(names)));
-    }
-    tuple(&parts)
 }
 
 /// Each message adds many particles, boxes or minted names.
@@ -376,97 +361,6 @@ fn replier(random: &mut Random, listen: u32, send: u32) -> Sketch {
         }
     };
     repeat(listen, PARENT, &[10], parallel(ends))
-}
-
-/// Two inputs on one channel, each with the command that it asks for by name:
-/// alone, in a tuple beside what it binds, twice, or deeper down.
-pub fn commands(random: &mut Random, listen: u32, send: u32) -> Sketch {
-    let (one, other) = random.pick(&[(20, 21), (21, 20), (0, 63), (10, 11), (2, 2)]);
-    let shape = random.below(6);
-    let again = random.percent(70);
-    let mut takes = |name: u32| {
-        let pattern = asking(shape, name);
-        let mut report = pattern_names(&pattern);
-        report.push(name);
-        let send = random.pick(&[send, OUT, MID, report[0], report[0]]);
-        let reports = vec![output(send, PARENT, &tuple(&report)); random.pick(&[1, 1, 1, 9])];
-        Sketch::Input(again, listen, PARENT, pattern, Box::new(parallel(reports)))
-    };
-    let (one, other) = (takes(one), takes(other));
-    parallel(vec![one, other])
-}
-
-/// A pattern of some shape that asks for a name.
-fn asking(shape: usize, name: u32) -> Vec<u32> {
-    let word = asked(name);
-    match shape {
-        0 => vec![word],
-        1 | 2 => tuple(&[word, 12]),
-        3 => tuple(&[12, word]),
-        4 => tuple(&[word, 12, word]),
-        _ => vec![TUPLE_WORD + 2, 12, TUPLE_WORD + 2, word, WILDCARD_WORD],
-    }
-}
-
-/// Asks for a name where a binder has the same number: a `new`, an outer
-/// pattern, or the pattern itself.
-fn same_number(random: &mut Random, listen: u32, send: u32) -> Sketch {
-    let name = random.pick(&[20, 21, 10, 63]);
-    let word = asked(name);
-    let answer = output(send, PARENT, &tuple(&[name, 12]));
-    let pattern = asking(random.below(6), name);
-    match random.below(4) {
-        0 => new(name, new(12, repeat(listen, PARENT, &pattern, answer))),
-        1 => repeat(
-            listen,
-            PARENT,
-            &tuple(&[name, 12]),
-            input(listen, PARENT, &pattern, answer),
-        ),
-        2 => repeat(listen, PARENT, &tuple(&[name, word]), answer),
-        _ => repeat(listen, PARENT, &tuple(&[word, name, word]), answer),
-    }
-}
-
-/// Sends what came in, a new name, public ones and tuples, within its box or up
-/// from a child, to an input that asks for a public name.
-fn asker(random: &mut Random, listen: u32, send: u32) -> Sketch {
-    let name = random.pick(&[20, 21, 7]);
-    let fresh = random.pick(&[9, name]);
-    let shape = random.pick(&[0, 1, 3]);
-    let from_child = random.percent(40);
-    let (to, from) = if from_child {
-        (PARENT, child(6))
-    } else {
-        (WITHIN, WITHIN)
-    };
-    let outputs = (0..random.between(1, 3)).map(|_| output(5, to, &sent(random, shape, fresh)));
-    let mut outputs = parallel(outputs.collect());
-    if from_child {
-        outputs = boxed(6, outputs);
-    }
-    let answer = output(send, PARENT, &[10]);
-    let asks = input(5, from, &asking(shape, name), answer);
-    let mut parts = vec![outputs, asks];
-    random.shuffle(&mut parts);
-    repeat(listen, PARENT, &[10], new(fresh, parallel(parts)))
-}
-
-/// A value of a shape that [`asking`] has, with anything in the place of the
-/// asked name.
-fn sent(random: &mut Random, shape: usize, fresh: u32) -> Vec<u32> {
-    let item = match random.below(9) {
-        0..=2 => vec![10],
-        3..=5 => vec![fresh],
-        6 => vec![20],
-        7 => tuple(&[10]),
-        _ => tuple(&[]),
-    };
-    match shape {
-        0 => item,
-        1 => [vec![TUPLE_WORD + 2], item, vec![21]].concat(),
-        _ => [vec![TUPLE_WORD + 2, 21], item].concat(),
-    }
 }
 
 /// An output that grows too long only when a second input meets.
@@ -627,21 +521,8 @@ fn closed_value(random: &mut Random) -> Vec<u32> {
     }
 }
 
-/// A pattern that binds at most so many names; some ask for names too.
-fn random_pattern(random: &mut Random, most: usize) -> Vec<u32> {
-    let mut pattern = binding_pattern(random, most);
-    let share = random.pick(&[0, 0, 0, 50]);
-    for word in &mut pattern {
-        let is_leaf = pattern_names(&[*word]) == [*word] || *word == WILDCARD_WORD;
-        if is_leaf && random.percent(share) {
-            *word = asked(random.pick(&[0, 10, 20, 63]));
-        }
-    }
-    pattern
-}
-
 /// A pattern that binds at most so many names, with wildcards and tuples.
-fn binding_pattern(random: &mut Random, most: usize) -> Vec<u32> {
+fn random_pattern(random: &mut Random, most: usize) -> Vec<u32> {
     let names: Vec<u32> = vec![10, 11, 12, 13, 14, 15, 5, 0];
     let names = &names[..most];
     let part = |at: usize| names.get(at).copied().unwrap_or(WILDCARD_WORD);

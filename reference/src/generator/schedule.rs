@@ -1,14 +1,10 @@
 //! Schedules: lists of steps found by trying them on the state. A refused step
 //! changes nothing, so trying is free.
 
-use super::tally::{asked_meeting, refuses_for_name};
 use crate::random::Random;
 use crate::state::{Act, BoxEntry, Origin, OutputTag, Particle, State, Wrapper};
 use crate::steps::{tags_fit, Refusal, Step};
-use crate::terms::{
-    Direction, Name, Pattern, Slot, Tree, ASKED_WORD, LAST_PUBLIC, TUPLE_WORD, WILDCARD_WORD,
-    WORD_LIMIT,
-};
+use crate::terms::{Direction, Name, TUPLE_WORD, WILDCARD_WORD};
 
 /// A schedule ends after so many refusals in a row.
 const STUCK: usize = 12;
@@ -204,27 +200,8 @@ fn enter(random: &mut Random, state: &State, side: u32) -> Step {
     }
 }
 
-/// A meeting with a pattern that asks for a name, refused for that name or, now
-/// and then, behind it.
-fn refused_asking(random: &mut Random, tried: &mut State, side: u32) -> Option<Step> {
-    let number = random.pick(&[14, 14, 14, 14, 15, 15, 17]);
-    let mut steps = candidates(random, tried, 5, side);
-    steps.retain(|step| {
-        let meeting = asked_meeting(tried, step);
-        meeting.is_some_and(|(pattern, value)| number > 14 || refuses_for_name(pattern, value))
-    });
-    random.shuffle(&mut steps);
-    find_refused(tried, steps, number)
-}
-
 /// A step refused for a number chosen first, if one is found.
 fn refused_step(random: &mut Random, tried: &mut State, side: u32) -> Option<Step> {
-    if random.percent(40) {
-        let step = refused_asking(random, tried, side);
-        if step.is_some() {
-            return step;
-        }
-    }
     let number = random.pick(&[10, 11, 12, 13, 13, 14, 14, 15, 15, 16, 16, 17, 17, 17, 17]);
     match number {
         10 => Some(odd_step(random, tried, side)),
@@ -388,59 +365,9 @@ fn known_names(state: &State) -> Vec<u32> {
     names
 }
 
-/// A value that may enter, of 1 to 16 words; often one for an input that asks
-/// for a name.
+/// A value that may enter, of 1 to 16 words.
 fn sound_value(random: &mut Random, state: &State) -> Vec<u32> {
-    let names = known_names(state);
-    let patterns = asking_patterns(state);
-    if !patterns.is_empty() && random.percent(60) {
-        let pattern = random.pick(&patterns);
-        if random.percent(25) {
-            return vec![random.pick(&pattern.asked()).word()];
-        }
-        let right = if random.percent(60) { 100 } else { 40 };
-        let words = value_for(random, pattern, &names, right);
-        if words.len() <= WORD_LIMIT {
-            return words;
-        }
-    }
-    value_over(random, &names)
-}
-
-/// The patterns of waiting inputs that ask for a name.
-fn asking_patterns(state: &State) -> Vec<&Pattern> {
-    let mut patterns = Vec::new();
-    for particle in state.sides.iter().flat_map(|side| &side.particles) {
-        if let Act::Input(input) = &particle.act {
-            patterns.push(&input.pattern);
-        }
-    }
-    patterns.retain(|pattern| !pattern.asked().is_empty());
-    patterns
-}
-
-/// A value of a pattern's shape. An asked name stands in its place so many times
-/// in a hundred; else another name or a tuple does.
-fn value_for(random: &mut Random, pattern: &Pattern, names: &[u32], right: usize) -> Vec<u32> {
-    match pattern {
-        Tree::Tuple(parts) => {
-            let mut words = vec![TUPLE_WORD + parts.len() as u32];
-            for part in parts {
-                words.extend(value_for(random, part, names, right));
-            }
-            words
-        }
-        Tree::Leaf(Slot::Asked(name)) if random.percent(right) => vec![name.word()],
-        Tree::Leaf(Slot::Asked(name)) => match random.below(6) {
-            0 => vec![TUPLE_WORD],
-            1 => vec![TUPLE_WORD + 1, name.word()],
-            2 => vec![random.pick(&OUTSIDE)],
-            3 => vec![names[names.len() - 1]],
-            _ => vec![random.pick(names)],
-        },
-        Tree::Leaf(_) if random.percent(25) => vec![TUPLE_WORD],
-        Tree::Leaf(_) => vec![random.pick(names)],
-    }
+    value_over(random, &known_names(state))
 }
 
 /// A value of 1 to 16 words over these names.
@@ -480,10 +407,8 @@ fn malformed_words(random: &mut Random) -> Vec<u32> {
         64, 65_535, 65_792, 131_071, 131_328, 196_607, 196_864, 3_999_999,
     ];
     let name = random.pick(&[65_536, 196_608]);
-    let tuples = [4_000_016, WILDCARD_WORD, u32::MAX];
-    let last = ASKED_WORD + LAST_PUBLIC;
-    let asked = random.pick(&[ASKED_WORD - 2, ASKED_WORD, ASKED_WORD + 20, last, last + 1]);
-    match random.below(11) {
+    let tuples = [4_000_016, WILDCARD_WORD, 5_000_000, u32::MAX];
+    match random.below(8) {
         0 => vec![],
         1 => vec![20; random.between(2, 17)],
         2 => vec![TUPLE_WORD + 2, 20],
@@ -491,8 +416,6 @@ fn malformed_words(random: &mut Random) -> Vec<u32> {
         4 => [vec![TUPLE_WORD + 1; 16], vec![20]].concat(),
         5 => vec![TUPLE_WORD + 2, name, random.pick(&bad)],
         6 => vec![random.pick(&tuples)],
-        7 => vec![asked],
-        8 => vec![TUPLE_WORD + 2, asked, 20],
         _ => vec![random.pick(&bad)],
     }
 }

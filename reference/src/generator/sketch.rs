@@ -1,7 +1,7 @@
 //! Handlers as the generator writes them, and their layout as tables.
 
 use crate::random::Random;
-use crate::terms::{ASKED_WORD, LAST_PUBLIC, TUPLE_WORD, WILDCARD_WORD};
+use crate::terms::{LAST_PUBLIC, TUPLE_WORD, WILDCARD_WORD};
 use std::collections::VecDeque;
 
 /// A process in table numbers.
@@ -68,12 +68,7 @@ pub fn tuple(names: &[u32]) -> Vec<u32> {
     words
 }
 
-/// The pattern word that asks for a public name.
-pub fn asked(name: u32) -> u32 {
-    ASKED_WORD + name
-}
-
-/// The names that a pattern's words bind.
+/// The names among a pattern's words.
 pub fn pattern_names(pattern: &[u32]) -> Vec<u32> {
     let names = pattern.iter().filter(|&&word| word <= LAST_PUBLIC);
     names.copied().collect()
@@ -180,8 +175,8 @@ impl Layout {
             }
         }
         if random.percent(self.spare) {
-            let words = [0, 7, 64, WILDCARD_WORD, 4_000_003, asked(20), u32::MAX];
-            self.pool.push(random.pick(&words));
+            self.pool
+                .push(random.pick(&[0, 7, 64, WILDCARD_WORD, 4_000_003, u32::MAX]));
         }
         self.pool.extend_from_slice(words);
         (self.pool.len() - words.len()) as u32

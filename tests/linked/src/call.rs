@@ -1,8 +1,6 @@
 //! What a call is lent.
 
 use crate::bench::Tables;
-use reference::lines::read_script;
-use reference::tables::{read_table, Table};
 
 /// A list of words of which only the front is lent; the rest stands behind it in memory.
 #[derive(Clone, Debug, Default)]
@@ -111,24 +109,4 @@ impl Call {
             Call::Text(..) => "text",
         }
     }
-
-    /// True if its tables, or those of its text, have a pattern that asks for a name.
-    pub fn asks(&self) -> bool {
-        match self {
-            Call::Check(claim) | Call::Run(claim, _) | Call::Stranded(claim, ..) => {
-                claim.tables().parts().into_iter().any(asks)
-            }
-            Call::Text(input, _) => {
-                read_script(input).is_ok_and(|script| script.tables().into_iter().any(asks))
-            }
-        }
-    }
-}
-
-/// True if the table passes load's checks of it and one of its patterns asks for a name.
-fn asks(table: Table) -> bool {
-    read_table(table).is_ok_and(|process| {
-        let mut patterns = process.patterns().into_iter();
-        patterns.any(|pattern| !pattern.asked().is_empty())
-    })
 }

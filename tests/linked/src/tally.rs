@@ -11,8 +11,6 @@ type Counts = BTreeMap<String, u64>;
 pub struct Tally {
     pub compared: u64,
     pub different: u64,
-    /// Of each function, the calls whose tables have a pattern that asks for a name.
-    asking: BTreeMap<&'static str, u64>,
     sorts: BTreeMap<(&'static str, &'static str), Counts>,
 }
 
@@ -48,7 +46,6 @@ impl Tally {
     pub fn add(&mut self, case: &Case, told: String, different: bool) {
         let key = (case.call.function(), case.sort);
         *self.sorts.entry(key).or_default().entry(told).or_insert(0) += 1;
-        *self.asking.entry(case.call.function()).or_insert(0) += u64::from(case.call.asks());
         self.compared += 1;
         self.different += u64::from(different);
     }
@@ -57,11 +54,6 @@ impl Tally {
     pub fn count(&self, function: &str, told: &str) -> u64 {
         let of_function = self.sorts.iter().filter(|((name, _), _)| *name == function);
         of_function.filter_map(|(_, counts)| counts.get(told)).sum()
-    }
-
-    /// How many calls of a function have tables with a pattern that asks for a name.
-    pub fn asking(&self, function: &str) -> u64 {
-        self.asking.get(function).copied().unwrap_or(0)
     }
 
     /// The functions and what they never told.
@@ -96,9 +88,6 @@ impl Tally {
                 .collect();
             text.push_str(&format!("all of {function}: {}\n", told.join(", ")));
         }
-        let asking = ALL.map(|(function, _)| format!("{function}: {}", self.asking(function)));
-        let asking = asking.join(", ");
-        text.push_str(&format!("with a pattern that asks for a name: {asking}\n"));
         text
     }
 }

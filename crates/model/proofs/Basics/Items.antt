@@ -11,9 +11,9 @@ use lib.Dec.{eqb}
 use lib.ListN.{length, take, drop, length-append, length-take}
 use lib.Seq.{take_at}
 use Rattle.model.specs.Basics.{bind, Res, refuse, done, every}
-use Rattle.model.specs.Values.{items, is_tuple, is_name, is_public, is_value, shaped, arity, is_pattern_leaf, at, rest_of, first_of, binders, Fit, leaf_takes, matches}
+use Rattle.model.specs.Values.{items, is_tuple, is_name, is_public, is_value, shaped, arity, is_pattern_leaf, at, rest_of, first_of, binders, Fit, matches}
 use Rattle.model.specs.WellFormed.{Counts, held_word, wf_value}
-use Rattle.model.proofs.Basics.Tests.{fst, snd, both, alt, bind_done, need_done}
+use Rattle.model.proofs.Basics.Tests.{fst, snd, both, alt, bind_done}
 use Rattle.model.proofs.Basics.Names.{name_small}
 use Rattle.model.proofs.Formed.Keeping.{done_inj}
 
@@ -176,7 +176,7 @@ tuple_not_leaf w e = go (is_pattern_leaf w) refl
     go true p =
         let a = leb-true 4000000 w (fst _ _ e) in
         let a' = leb-true w 4000015 (snd _ _ e) in
-        absurd (⊎_elim (λ q. let b = leb-true w 63 q in omega arith) (λ q. ⊎_elim (λ r. let b = eqb_true w 4999999 r in omega arith) (λ r. let b = leb-true 5000000 w (fst _ _ r) in omega arith) (alt _ _ q)) (alt _ _ p))
+        absurd (⊎_elim (λ q. let b = leb-true w 63 q in omega arith) (λ q. let b = eqb_true w 4999999 q in omega arith) (alt _ _ p))
 
 pub tuple_not_public : (w : ℕ) → is_tuple w ≡ true → is_public w ≡ false
 tuple_not_public w e = let a = leb-true 4000000 w (fst _ _ e) in lt-leb w 63 (omega arith)
@@ -231,7 +231,7 @@ binds_other k p ps ih t n v fit e ip iv l h =
         let wf = value_wf k (first_of v) (omega arith) fr.1 (every_front (held_word k) (first_of v) (rest_of v) hv) in
         (ap (λ (y : Fit). length y.bound) (sym (done_inj b)) ∙ rw q (ap suc r.0), subst (λ (y : Fit). every (wf_value k) y.bound ≡ true) (done_inj b) (both _ _ wf r.1))
     go false q fr hv ln ip' =
-        let r = ih n (rest_of v) fit (need_done (leaf_takes p v) 14 (matches ps n (rest_of v)) fit (rw (t, q, matches) at e)).1 ip' fr.2 (omega arith) (every_back (held_word k) (first_of v) (rest_of v) hv) in
+        let r = ih n (rest_of v) fit (rw (t, q, matches) at e) ip' fr.2 (omega arith) (every_back (held_word k) (first_of v) (rest_of v) hv) in
         (rw q r.0, r.1)
 
 binds_cons : (k : Counts) (p : ℕ) (ps : List ℕ) → Binds k ps → Binds k (p ∷ ps)

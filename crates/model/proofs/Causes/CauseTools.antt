@@ -10,7 +10,7 @@ use borrow.Author.Tests.{leb-true, leb-false, eqb_true, eqb-false}
 use lib.Dec.{eqb}
 use lib.ListN.{length, get_elem?}
 use Rattle.model.specs.Basics.{◌&◌, ◌or◌, Res, refuse, done, bind, need, choose, pick, every, has}
-use Rattle.model.specs.Values.{is_tuple, is_public, arity, rest_of, first_of, binds, Fit, leaf_takes, matches, extend, word, substitute, Env}
+use Rattle.model.specs.Values.{is_tuple, is_public, arity, rest_of, first_of, binds, Fit, matches, extend, word, substitute, Env}
 use Rattle.model.specs.Table.{Term, nil, par, box, new, out, inp}
 use Rattle.model.specs.Wrapper.{filter, pipeline, logging, no_wrapper, described, has_side}
 use Rattle.model.specs.Side.{Core, Particle, Box, limits, output, input}
@@ -200,12 +200,12 @@ match_14 (p ∷ ps) (suc n) v = go (is_tuple p) v (is_public p) (match_14 ps)
 
     go : (t : Bool) (v : List ℕ) (c : Bool) → ((n : ℕ) (v : List ℕ) → Fourteen (matches ps n v)) → Fourteen {A = Fit} (elim t as (λ t. Res Fit) [
       | true ↦ elim v as (λ v. Res Fit) [ [] ↦ refuse 14 | w ∷ ws ↦ elim (eqb w p) as (λ c. Res Fit) [ true ↦ matches ps (arity p + n) ws | false ↦ refuse 14 ] ]
-      | false ↦ elim c as (λ c. Res Fit) [ true ↦ bind (matches ps n (rest_of v)) (λ m. done (binds (first_of v) m)) | false ↦ need (leaf_takes p v) 14 (matches ps n (rest_of v)) ]
+      | false ↦ elim c as (λ c. Res Fit) [ true ↦ bind (matches ps n (rest_of v)) (λ m. done (binds (first_of v) m)) | false ↦ matches ps n (rest_of v) ]
     ])
     go true [] c ih = refl
     go true (w ∷ ws) c ih = word-14 (eqb w p) ws ih
     go false v true ih = bind_c (λ n. n ≡ 14) (λ a. Unit {0}) (matches ps n (rest_of v)) _ (λ n q. subst Fourteen q (ih _ (rest_of v))) (λ d q. tt)
-    go false v false ih = need_c (λ n. n ≡ 14) (λ a. Unit {0}) (leaf_takes p v) 14 (matches ps n (rest_of v)) (λ q. refl) (λ q. ih n (rest_of v))
+    go false v false ih = ih n (rest_of v)
 
 pub match_refuses : (p : List ℕ) (n : ℕ) (v : List ℕ) (e : ℕ) → matches p n v ≡ refuse e → e ≡ 14
 match_refuses p n v e q = subst Fourteen q (match_14 p n v)

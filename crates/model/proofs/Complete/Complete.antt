@@ -8,7 +8,7 @@ use Prim.Native.Nat.{ℕ}
 use borrow.Author.Tests.{eqb_true, eqb-false}
 use lib.Dec.{eqb}
 use lib.ListN.{get_elem?, set}
-use Rattle.calculus.specs.Syntax.{Val, Pat, Vars, Exacts, ITag, plain, Mode, Proc, comp, match, ren}
+use Rattle.calculus.specs.Syntax.{Val, Pat, Vars, ITag, plain, Mode, Proc, comp, match, ren}
 use Rattle.calculus.specs.Syntax.{nil as pnil, out as pout, inp as pinp}
 use Rattle.calculus.specs.Congruence.{◌≋◌}
 use Rattle.calculus.specs.Transitions.{Label, tau, send, recv, Participants, joint, InstOk}
@@ -52,22 +52,22 @@ module _ (b : Composition) (s : State) (e : ready b s ≡ true) where
   to_next {P} h q = subst (λ (Z : Proc Mark []). P ≋ Z) (sym q) h
 
   -- an output meets an input: outside all boxes the input is a forwarder, within a box both are particles
-  meeting : (t u : Mark) (R : Proc Mark []) (v : Inv b s R tau (joint t u)) (k i j x : ℕ) (g : ITag ℕ) (y : Val ℕ) (m : Mode) (p : Pat) (ex : Exacts p ℕ) (P : Proc Mark (p ∷ [])) (σ : Vars p → Val ℕ) → i ≢ j
-      → get_elem? (sel k) i ≡ some (pout t x (comp (plain g)) y) → get_elem? (sel k) j ≡ some (pinp m u x g p ex P) → match p ex y ≡ some σ → InstOk P σ
-      → fill (conf_of b s).boxes (upd (λ k. parallel (sel k)) k (parallel (set (set (sel k) i pnil) j (after m u x g p ex P σ)))) ≋ v.next → Completed b s tau (joint t u) R
-  meeting t u R v k i j x g y m p ex P σ ne o h f ok to = go (eqb k 0) refl
+  meeting : (t u : Mark) (R : Proc Mark []) (v : Inv b s R tau (joint t u)) (k i j x : ℕ) (g : ITag ℕ) (y : Val ℕ) (m : Mode) (p : Pat) (P : Proc Mark (p ∷ [])) (σ : Vars p → Val ℕ) → i ≢ j
+      → get_elem? (sel k) i ≡ some (pout t x (comp (plain g)) y) → get_elem? (sel k) j ≡ some (pinp m u x g p P) → match p y ≡ some σ → InstOk P σ
+      → fill (conf_of b s).boxes (upd (λ k. parallel (sel k)) k (parallel (set (set (sel k) i pnil) j (after m u x g p P σ)))) ≋ v.next → Completed b s tau (joint t u) R
+  meeting t u R v k i j x g y m p P σ ne o h f ok to = go (eqb k 0) refl
     where
       At : ℕ → Type 0
-      At z = get_elem? (sel z) i ≡ some (pout t x (comp (plain g)) y) → get_elem? (sel z) j ≡ some (pinp m u x g p ex P)
-          → fill (conf_of b s).boxes (upd (λ k. parallel (sel k)) z (parallel (set (set (sel z) i pnil) j (after m u x g p ex P σ)))) ≋ v.next → Completed b s tau (joint t u) R
+      At z = get_elem? (sel z) i ≡ some (pout t x (comp (plain g)) y) → get_elem? (sel z) j ≡ some (pinp m u x g p P)
+          → fill (conf_of b s).boxes (upd (λ k. parallel (sel k)) z (parallel (set (set (sel z) i pnil) j (after m u x g p P σ)))) ≋ v.next → Completed b s tau (joint t u) R
 
       go : (c : Bool) → eqb k 0 ≡ c → Completed b s tau (joint t u) R
-      go true q = subst At (sym (eqb_true k 0 q)) (λ o h to. complete_forward b s e R v i j x g y m p ex P σ ne o h f ok to) o h to
-      go false q = complete_meeting b s e v k i j x g y m p ex P σ ne o h f ok to (eqb-false k 0 q)
+      go true q = subst At (sym (eqb_true k 0 q)) (λ o h to. complete_forward b s e R v i j x g y m p P σ ne o h f ok to) o h to
+      go false q = complete_meeting b s e v k i j x g y m p P σ ne o h f ok to (eqb-false k 0 q)
 
   by_move : {N R : Proc Mark []} {w : Participants Mark} → Move (All b s) (conf_of b s).boxes sel (wf_all b s e) (atoms_at (conf_of b s).items (items_atoms ids b s e)) (fn_sel b s e) N tau w →
       (v : Inv b s R tau w) → v.next ≡ N → Completed b s tau w R
-  by_move {R = R} (meets {t = t} {u = z} k i j x g y m p ex P σ ne o h f ok eq) v q = meeting t z R v k i j x g y m p ex P σ ne o h f ok (to_next eq q)
+  by_move {R = R} (meets {t = t} {u = z} k i j x g y m p P σ ne o h f ok eq) v q = meeting t z R v k i j x g y m p P σ ne o h f ok (to_next eq q)
   by_move (rising c i x u has get eq) v q = complete_rising b s e v c i x u has get (to_next eq q)
   by_move (descending c i x u has get eq) v q = complete_descending b s e c v i x u has get (to_next eq q)
 

@@ -11,7 +11,7 @@ use native.Mathlib.Omega.{arith}
 use borrow.Author.Tests.{eq-eqb, not-true}
 use lib.Dec.{eqb}
 use lib.ListN.{length, get_elem?, get_or, set, length-append, length-set}
-use Rattle.calculus.specs.Syntax.{Val, Pat, Vars, Exacts, ITag, plain, received_child, Mode, Proc, comp, match, ren}
+use Rattle.calculus.specs.Syntax.{Val, Pat, Vars, ITag, plain, received_child, Mode, Proc, comp, match, ren}
 use Rattle.calculus.specs.Syntax.{nil as pnil, out as pout, inp as pinp, within as iwithin, parent as iparent, child as ichild}
 use Rattle.calculus.specs.Congruence.{◌≋◌, symm, trans}
 use Rattle.calculus.specs.Transitions.{tau, Participants, joint, InstOk}
@@ -458,13 +458,13 @@ module _ (b : Composition) (s : State) (e : ready b s ≡ true) (R : Proc Mark [
     by_output (of_shelf m h X1 Y1 sp ex ey) inp = by_shelf m h X1 Y1 sp ex ey inp
 
   -- COMPLETE, for the silent transitions between an output and an input in the environment
-  pub complete_forward : {t u : Mark} (vv : Inv b s R tau (joint t u)) (i j : ℕ) (x : ℕ) (g : ITag ℕ) (v : Val ℕ) (m : Mode) (p : Pat) (ex : Exacts p ℕ) (P : Proc Mark (p ∷ [])) (σ : Vars p → Val ℕ) → i ≢ j
-      → get_elem? (select (conf_of b s).items 0) i ≡ some (pout t x (comp (plain g)) v) → get_elem? (select (conf_of b s).items 0) j ≡ some (pinp m u x g p ex P) → match p ex v ≡ some σ → InstOk P σ
-      → fill (conf_of b s).boxes (upd (λ k. parallel (select (conf_of b s).items k)) 0 (parallel (set (set (select (conf_of b s).items 0) i pnil) j (after m u x g p ex P σ)))) ≋ vv.next → Completed b s tau (joint t u) R
-  complete_forward {t} {u} vv i j x g v m p ex P σ ne out_at in-at fits ok eq =
+  pub complete_forward : {t u : Mark} (vv : Inv b s R tau (joint t u)) (i j : ℕ) (x : ℕ) (g : ITag ℕ) (v : Val ℕ) (m : Mode) (p : Pat) (P : Proc Mark (p ∷ [])) (σ : Vars p → Val ℕ) → i ≢ j
+      → get_elem? (select (conf_of b s).items 0) i ≡ some (pout t x (comp (plain g)) v) → get_elem? (select (conf_of b s).items 0) j ≡ some (pinp m u x g p P) → match p v ≡ some σ → InstOk P σ
+      → fill (conf_of b s).boxes (upd (λ k. parallel (select (conf_of b s).items k)) 0 (parallel (set (set (select (conf_of b s).items 0) i pnil) j (after m u x g p P σ)))) ≋ vv.next → Completed b s tau (joint t u) R
+  complete_forward {t} {u} vv i j x g v m p P σ ne out_at in-at fits ok eq =
       let a = item_at (conf_of b s).items 0 i (pout t x (comp (plain g)) v) out_at in
-      let d = item_at (conf_of b s).items 0 j (pinp m u x g p ex P) in-at in
-      let c = item_at (a.X ++ item 0 pnil ∷ a.Y) 0 j (pinp m u x g p ex P) (ap (λ (l : List (Proc Mark [])). get_elem? l j) (sym (a.put pnil)) ∙ get_other (select (conf_of b s).items 0) i j pnil ne ∙ in-at) in
-      by_output vv x g v (pinp m u x g p ex P) (after m u x g p ex P σ) refl refl refl (ap (on_some (λ (σ : Vars p → Val ℕ). after m u x g p ex P σ)) fits) a.X a.Y c.X c.Y c.is
-      (trans (symm (two_changed (conf_of b s).boxes (conf_of b s).items 0 i j (pout t x (comp (plain g)) v) pnil (pinp m u x g p ex P) (after m u x g p ex P σ) a c)) eq)
-      (output_is b s e a.X a.Y (pout t x (comp (plain g)) v) a.is refl) (input_is b s e d.X d.Y (pinp m u x g p ex P) d.is refl)
+      let d = item_at (conf_of b s).items 0 j (pinp m u x g p P) in-at in
+      let c = item_at (a.X ++ item 0 pnil ∷ a.Y) 0 j (pinp m u x g p P) (ap (λ (l : List (Proc Mark [])). get_elem? l j) (sym (a.put pnil)) ∙ get_other (select (conf_of b s).items 0) i j pnil ne ∙ in-at) in
+      by_output vv x g v (pinp m u x g p P) (after m u x g p P σ) refl refl refl (ap (on_some (λ (σ : Vars p → Val ℕ). after m u x g p P σ)) fits) a.X a.Y c.X c.Y c.is
+      (trans (symm (two_changed (conf_of b s).boxes (conf_of b s).items 0 i j (pout t x (comp (plain g)) v) pnil (pinp m u x g p P) (after m u x g p P σ) a c)) eq)
+      (output_is b s e a.X a.Y (pout t x (comp (plain g)) v) a.is refl) (input_is b s e d.X d.Y (pinp m u x g p P) d.is refl)

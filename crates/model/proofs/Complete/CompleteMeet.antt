@@ -9,7 +9,7 @@ use native.Mathlib.Omega.{arith}
 use borrow.Author.Tests.{ltb-true, ltb-false}
 use lib.Dec.{ltb}
 use lib.ListN.{length, get_elem?, set}
-use Rattle.calculus.specs.Syntax.{Val, Pat, Vars, Exacts, ITag, Tag, plain, Mode, Proc, comp, match, remark, the_name, iren}
+use Rattle.calculus.specs.Syntax.{Val, Pat, Vars, ITag, Tag, plain, Mode, Proc, comp, match, remark, the_name, iren}
 use Rattle.calculus.specs.Syntax.{par as ppar, box as pbox, new as pnew, nil as pnil, out as pout, inp as pinp}
 use Rattle.calculus.specs.Congruence.{◌≋◌, symm, trans}
 use Rattle.calculus.specs.Transitions.{tau, Participants, joint, InstOk, inst, In}
@@ -17,7 +17,7 @@ use Rattle.calculus.specs.Transitions.{Step as Trans}
 use Rattle.calculus.specs.Parallel.{parallel}
 use Rattle.calculus.specs.Tree.{Place, upd, fill}
 use Rattle.calculus.specs.Tree.{Item, select}
-use Rattle.calculus.specs.Named.{proc, shape, exacts_in, match_p, under_pat}
+use Rattle.calculus.specs.Named.{proc, shape, under_pat}
 use Rattle.model.specs.Basics.{has}
 use Rattle.model.specs.Values.{binders, extend}
 use Rattle.model.specs.Table.{Table, Term}
@@ -76,7 +76,7 @@ Receives u x o v K (ppar P Q) = ⊥
 Receives u x o v K (pbox t n P) = ⊥
 Receives u x o v K (pnew P) = ⊥
 Receives u x o v K (pout t y q w) = ⊥
-Receives u x o v K (pinp m t y g p ex P) = (t ≡ u) × (y ≡ x) × (comp (plain g) ≡ o) × (σ : Vars p → Val ℕ) × (match p ex v ≡ some σ) × InstOk P σ × K (after m t y g p ex P σ)
+Receives u x o v K (pinp m t y g p P) = (t ≡ u) × (y ≡ x) × (comp (plain g) ≡ o) × (σ : Vars p → Val ℕ) × (match p v ≡ some σ) × InstOk P σ × K (after m t y g p P σ)
 
 module _ (b : Composition) (s : State) (e : ready b s ≡ true) where
   abbrev bs : List (Place Mark)
@@ -100,15 +100,14 @@ module _ (b : Composition) (s : State) (e : ready b s ≡ true) where
     pub v : Val ℕ
     pub m : Mode
     pub p : Pat
-    pub ex : Exacts p ℕ
     pub P : Proc Mark (p ∷ [])
     pub σ : Vars p → Val ℕ
     pub ne : i ≢ j
     pub get_i : get_elem? (sel site) i ≡ some (pout t x (comp (plain g)) v)
-    pub get_j : get_elem? (sel site) j ≡ some (pinp m u x g p ex P)
-    pub fits : match p ex v ≡ some σ
+    pub get_j : get_elem? (sel site) j ≡ some (pinp m u x g p P)
+    pub fits : match p v ≡ some σ
     pub ok : InstOk P σ
-    pub to : fill bs (upd (λ k. parallel (sel k)) site (parallel (set (set (sel site) i pnil) j (after m u x g p ex P σ)))) ≋ N
+    pub to : fill bs (upd (λ k. parallel (sel k)) site (parallel (set (set (sel site) i pnil) j (after m u x g p P σ)))) ≋ N
 
   module _ (vw : View b s) (ori : Orient b s vw)
       (own : (has vw.c.side all_sides ≡ true) × (vw.core.contents.minted ≡ (side_in s vw.c.side).core.contents.minted))
@@ -202,7 +201,7 @@ module _ (b : Composition) (s : State) (e : ready b s ≡ true) where
       out_there = pout t h.x (comp (plain h.g)) h.v
 
       abbrev in_there : Proc Mark []
-      in_there = pinp h.m u h.x h.g h.p h.ex h.P
+      in_there = pinp h.m u h.x h.g h.p h.P
 
       abbrev Pair : Type 0
       Pair = Couple k h.i h.j out_there in_there
@@ -234,7 +233,7 @@ module _ (b : Composition) (s : State) (e : ready b s ≡ true) where
         body = proc (shape (pat_of node.pat) ∷ []) (part vw.c.side c.j') (code_of node.body) (under_pat (pat_of node.pat) (env_of (env_at vw.c.table n vs)))
 
         abbrev waits : Proc Mark []
-        waits = pinp (mode_of node.again) (part vw.c.side c.j') cn tg (shape (pat_of node.pat)) (exacts_in [] (pat_of node.pat)) body
+        waits = pinp (mode_of node.again) (part vw.c.side c.j') cn tg (shape (pat_of node.pat)) body
 
         waits_is : part_item ids Tb side c.j' (input β n vs) ≡ item (site_of side β) waits
         unfolding proc code_of
@@ -252,8 +251,8 @@ module _ (b : Composition) (s : State) (e : ready b s ≡ true) where
         vv' : Inv R (joint (part side c.i') (part side c.j'))
         vv' = record { perm = vv.perm; keeps = vv.keeps; next = vv.next; step = subst (λ (y : Participants Mark). Trans (all_of (new_of b s) (known_all s)) (fill bs (at I)) tau y vv.next) who vv.step; target = vv.target }
 
-        fits : match_p (pat_of node.pat) (val_of v) ≡ some taken.3
-        fits = subst (λ (z : Val ℕ). match_p (pat_of node.pat) z ≡ some taken.3) (ap val_in out_is) taken.4
+        fits : match (shape (pat_of node.pat)) (val_of v) ≡ some taken.3
+        fits = subst (λ (z : Val ℕ). match (shape (pat_of node.pat)) z ≡ some taken.3) (ap val_in out_is) taken.4
 
         mb' : MatchedBack node.pat v taken.3
         mb' = mb b s e vw ori own reach ac c.i' c.j' β ch g v n vs gp gq node (part_ok c.i' (output β ch g v) gp) (part_ok c.j' (input β n vs) gq) taken.3 fits taken.5
@@ -273,7 +272,7 @@ module _ (b : Composition) (s : State) (e : ready b s ≡ true) where
         J' = c.J (leaves node.again waits (inst body taken.3))
 
         leads : fill bs (at J') ≋ vv.next
-        leads = trans (symm (c.changed (leaves node.again waits (inst body taken.3)))) (subst K (after_is node.again (part side c.j') cn tg (shape (pat_of node.pat)) (exacts_in [] (pat_of node.pat)) body taken.3) taken.6)
+        leads = trans (symm (c.changed (leaves node.again waits (inst body taken.3)))) (subst K (after_is node.again (part side c.j') cn tg (shape (pat_of node.pat)) body taken.3) taken.6)
 
         bag_now : Bag (ritems forget J') (item (site_of side β) (proc [] tt (code_of node.body) (env_of (extend (env_at Tb n vs) (binders node.pat) mb'.fit.bound))) ∷ aim (without node.again parts c.i' c.j'))
         bag_now = bag_trans (c.bag node.again waits (inst body taken.3) waits°)
@@ -346,8 +345,8 @@ module _ (b : Composition) (s : State) (e : ready b s ≡ true) where
         in_side r.0 r.1 r.2 (subst (MeetsAt vv.next t u) r.3 h)
 
     -- COMPLETE, for the meetings in the boxes: what `meets` gives, at a site that is not the environment
-    pub complete_meeting : (site i j : ℕ) (x : ℕ) (g : ITag ℕ) (v : Val ℕ) (m : Mode) (p : Pat) (ex : Exacts p ℕ) (P : Proc Mark (p ∷ [])) (σ : Vars p → Val ℕ) → i ≢ j → get_elem? (select (conf_of b s).items site) i ≡ some (pout t x (comp (plain g)) v)
-        → get_elem? (select (conf_of b s).items site) j ≡ some (pinp m u x g p ex P) → match p ex v ≡ some σ → InstOk P σ
-        → fill (conf_of b s).boxes (upd (λ k. parallel (select (conf_of b s).items k)) site (parallel (set (set (select (conf_of b s).items site) i pnil) j (after m u x g p ex P σ)))) ≋ vv.next →
+    pub complete_meeting : (site i j : ℕ) (x : ℕ) (g : ITag ℕ) (v : Val ℕ) (m : Mode) (p : Pat) (P : Proc Mark (p ∷ [])) (σ : Vars p → Val ℕ) → i ≢ j → get_elem? (select (conf_of b s).items site) i ≡ some (pout t x (comp (plain g)) v)
+        → get_elem? (select (conf_of b s).items site) j ≡ some (pinp m u x g p P) → match p v ≡ some σ → InstOk P σ
+        → fill (conf_of b s).boxes (upd (λ k. parallel (select (conf_of b s).items k)) site (parallel (set (set (select (conf_of b s).items site) i pnil) j (after m u x g p P σ)))) ≋ vv.next →
         (site ≡ 0 → ⊥) → Completed b s tau (joint t u) R
-    complete_meeting site i j x g v m p ex P σ ne gi gj fi ok to nz = by_site site nz (record { i = i; j = j; x = x; g = g; v = v; m = m; p = p; ex = ex; P = P; σ = σ; ne = ne; get_i = gi; get_j = gj; fits = fi; ok = ok; to = to })
+    complete_meeting site i j x g v m p P σ ne gi gj fi ok to nz = by_site site nz (record { i = i; j = j; x = x; g = g; v = v; m = m; p = p; P = P; σ = σ; ne = ne; get_i = gi; get_j = gj; fits = fi; ok = ok; to = to })

@@ -70,7 +70,7 @@ tag_in (ppar P Q) = received_parent
 tag_in (pbox t n P) = received_parent
 tag_in (pnew P) = received_parent
 tag_in (pout t x o v) = o
-tag_in (pinp m t x i p c P) = plain i
+tag_in (pinp m t x i p P) = plain i
 
 abbrev pub chan_in : Proc Mark [] → ℕ
 chan_in pnil = 0
@@ -78,7 +78,7 @@ chan_in (ppar P Q) = 0
 chan_in (pbox t n P) = 0
 chan_in (pnew P) = 0
 chan_in (pout t x o v) = x
-chan_in (pinp m t x i p c P) = x
+chan_in (pinp m t x i p P) = x
 
 abbrev pub val_in : Proc Mark [] → Val ℕ
 val_in pnil = nm 0
@@ -86,7 +86,7 @@ val_in (ppar P Q) = nm 0
 val_in (pbox t n P) = nm 0
 val_in (pnew P) = nm 0
 val_in (pout t x o v) = v
-val_in (pinp m t x i p c P) = nm 0
+val_in (pinp m t x i p P) = nm 0
 
 abbrev pub mark_in : Proc Mark [] → Mark
 mark_in pnil = inert
@@ -94,7 +94,7 @@ mark_in (ppar P Q) = inert
 mark_in (pbox t n P) = inert
 mark_in (pnew P) = inert
 mark_in (pout t x o v) = t
-mark_in (pinp m t x i p c P) = t
+mark_in (pinp m t x i p P) = t
 
 abbrev pub is_out : Proc Mark [] → Bool
 is_out pnil = false
@@ -102,7 +102,7 @@ is_out (ppar P Q) = false
 is_out (pbox t n P) = false
 is_out (pnew P) = false
 is_out (pout t x o v) = true
-is_out (pinp m t x i p c P) = false
+is_out (pinp m t x i p P) = false
 
 -- what an input is after a value has come to it
 abbrev pub on_some : {A B : Type 0} → (A → B) → Option A → Option B
@@ -115,7 +115,7 @@ received (ppar P Q) u = none
 received (pbox t n P) u = none
 received (pnew P) u = none
 received (pout t x o v) u = none
-received (pinp m t x i p c P) u = on_some (λ (σ : Vars p → Val ℕ). after m t x i p c P σ) (match p c u)
+received (pinp m t x i p P) u = on_some (λ (σ : Vars p → Val ℕ). after m t x i p P σ) (match p u)
 
 -- what a forwarder is after a value has come to it: it stays, and sends copies and the value on
 pub forwarded : (cs : List ℕ) (P : Proc Mark []) (t : Mark) (x : ℕ) (i : ITag ℕ) (z : ℕ) (o : ITag ℕ) → P ≡ forward_with [] t inert cs x i z o → (v : Val ℕ) (Q : Proc Mark []) → received P v ≡ some Q →

@@ -55,17 +55,17 @@ module _ (b : Composition) (s : State) (e : ready b s ≡ true) where
   Mv N y w = Move (All b s) (conf_of b s).boxes (λ k. select (conf_of b s).items k) (wf_all b s e) (atoms_at (conf_of b s).items (items_atoms ids b s e)) (fn_sel b s e) N y w
 
   recv_inv : {N : Proc Mark []} {x' : ℕ} {o' : Tag ℕ} {v' : Val ℕ} {w : Participants Mark} → Mv N (recv x' o' v') w → AllT o' (In (known_all s)) → Taken N x' o' v' w
-  recv_inv (receives {x = x'} {g = g} {v = v'} {u = u} {t = t} i m p ex P σ get fits ok eq) h = record {
+  recv_inv (receives {x = x'} {g = g} {v = v'} {u = u} {t = t} i m p P σ get fits ok eq) h = record {
     u = u;
     i = i;
-    P = pinp m t x' g p ex P;
-    Q = after m t x' g p ex P σ;
+    P = pinp m t x' g p P;
+    Q = after m t x' g p P σ;
     who = refl;
     get = get;
     not_out = refl;
     chan = refl;
     tag = refl;
-    got = ap (on_some (λ (σ : Vars p → Val ℕ). after m t x' g p ex P σ)) fits;
+    got = ap (on_some (λ (σ : Vars p → Val ℕ). after m t x' g p P σ)) fits;
     to = eq;
   }
   recv_inv (entering c has z eq) h = absurd (no_box c has z h)

@@ -1,5 +1,5 @@
 -- What the bench answers to a meeting that the calculus allows: silent, or 16 or 17 with its cause.
-use mathlib.Core.Path.{◌≡◌, refl, sym, ap, ap₂, ◌∙◌, subst}
+use mathlib.Core.Path.{◌≡◌, refl, sym, ap, ap₂, ◌∙◌, subst, transport}
 use mathlib.Core.Bool.{Bool, true, false, cond, false≢true}
 use mathlib.Core.List.{List, [], ◌∷◌}
 use mathlib.Core.Logic.{◌⊎◌, inl, inr, ⊎_elim}
@@ -9,13 +9,13 @@ use native.Mathlib.Omega.{arith}
 use borrow.Author.Tests.{leb-true, leb-false, ltb-true, ltb-false, eq-eqb}
 use lib.Dec.{leb, ltb, eqb, T}
 use lib.ListN.{length, get_elem?}
-use Rattle.calculus.specs.Syntax.{Val, Vars, plain, comp, Proc, the_name, ren}
+use Rattle.calculus.specs.Syntax.{Val, Vars, plain, comp, Proc, the_name, match, ren}
 use Rattle.calculus.specs.Congruence.{◌≋◌}
 use Rattle.calculus.specs.Transitions.{tau, joint, InstOk}
 use Rattle.calculus.specs.Tree.{fill}
 use Rattle.calculus.specs.Tree.{Item}
 use Rattle.calculus.specs.Tree.{process}
-use Rattle.calculus.specs.Named.{proc, shape, match_p, with_pat}
+use Rattle.calculus.specs.Named.{proc, shape, with_pat}
 use Rattle.calculus.proofs.Definedness.{Sound as CSound}
 use Rattle.model.specs.Basics.{◌&◌, Res, refuse, done, bind, need, choose, every, remove, has}
 use Rattle.model.specs.Values.{Fit, matches, binders, extend, word, Env}
@@ -109,7 +109,7 @@ module _ (b : Composition) (s : State) (e : ready b s ≡ true) (vw : View b s) 
   module _ (i j β ch : ℕ) (g : STag) (v : List ℕ) (n : ℕ) (vs : List (List ℕ)) (gp : get_elem? vw.core.contents.particles i ≡ some (output β ch g v)) (gq : get_elem? vw.core.contents.particles j ≡ some (input β n vs))
       (node : InputAt vw.c.table n) (wp : wf_particle vw.c.table (counts s) (length vw.core.contents.boxes) (output β ch g v) ≡ true)
       (wq : wf_particle vw.c.table (counts s) (length vw.core.contents.boxes) (input β n vs) ≡ true)
-      (σ : Vars (shape (pat_of node.pat)) → Val ℕ) (fits : match_p (pat_of node.pat) (val_of v) ≡ some σ) (ok : InstOk (B0 b s e vw ori own reach i j β ch g v n vs gp gq node wp wq) σ)
+      (σ : Vars (shape (pat_of node.pat)) → Val ℕ) (fits : match (shape (pat_of node.pat)) (val_of v) ≡ some σ) (ok : InstOk (B0 b s e vw ori own reach i j β ch g v n vs gp gq node wp wq) σ)
       (ec : the_name [] (env_of (env_at vw.c.table n vs) node.chan) ≡ ch) (et : comp (plain (ι b s e vw ori own reach i j β ch g v n vs gp gq node wp wq)) ≡ tag_out g) where
     abbrev ρ : Env
     ρ = env_at vw.c.table n vs
@@ -137,7 +137,7 @@ module _ (b : Composition) (s : State) (e : ready b s ≡ true) (vw : View b s) 
     ft : defined node.body ρ' ≡ true
     ft = sound_fits node.sits_body [] ρ' (env_of ρ') sized_after (env_back (counts s) ρ' vals_after)
         (subst (λ (π : ℕ → Val ℕ). CSound [] (code_of node.body) π) (sym env_after)
-        ((inst_defined (part side j) (pat_of node.pat) (code_of node.body) (env_of ρ) σ (sound_in b s e vw ori own reach i j β ch g v n vs gp gq node wp wq)).0 ok))
+        (transport (inst_defined (part side j) (pat_of node.pat) (code_of node.body) (env_of ρ) σ (sound_in b s e vw ori own reach i j β ch g v n vs gp gq node wp wq)) ok))
 
     -- 13 cannot
     meets_there : eqb β β & (eqb ch (word ρ node.chan) & tags_fit g (tag_of ρ node.tag)) ≡ true

@@ -8,7 +8,7 @@ use native.Mathlib.Omega.{arith}
 use lib.Dec.{eqb}
 use lib.ListN.{length}
 use Rattle.model.specs.Basics.{◌&◌, ◌or◌, Res, refuse, done, bind, need, choose, pick, every}
-use Rattle.model.specs.Values.{is_tuple, is_public, is_minted, is_value, arity, rest_of, first_of, binds, Fit, leaf_takes, matches, binders, extend, word, Env}
+use Rattle.model.specs.Values.{is_tuple, is_public, is_minted, is_value, arity, rest_of, first_of, binds, Fit, matches, binders, extend, word, Env}
 use Rattle.model.specs.Table.{Table, Term, nil, par, box, new, out, inp, term, count}
 use Rattle.model.specs.Checks.{Fault, check1, check2, check3, check4, check5, over_all, first_bad, found, fault}
 use Rattle.model.specs.Wrapper.{Route, has_side, is_wrapper, all_sides, shelves}
@@ -123,12 +123,12 @@ match_within (p ∷ ps) (suc n) v = go (is_tuple p) v (is_public p) (match_withi
 
     go : (t : Bool) (v : List ℕ) (c : Bool) → ((n : ℕ) (v : List ℕ) → Within (matches ps n v)) → Within {A = Fit} (elim t as (λ t. Res Fit) [
       | true ↦ elim v as (λ v. Res Fit) [ [] ↦ refuse 14 | w ∷ ws ↦ elim (eqb w p) as (λ c. Res Fit) [ true ↦ matches ps (arity p + n) ws | false ↦ refuse 14 ] ]
-      | false ↦ elim c as (λ c. Res Fit) [ true ↦ bind (matches ps n (rest_of v)) (λ m. done (binds (first_of v) m)) | false ↦ need (leaf_takes p v) 14 (matches ps n (rest_of v)) ]
+      | false ↦ elim c as (λ c. Res Fit) [ true ↦ bind (matches ps n (rest_of v)) (λ m. done (binds (first_of v) m)) | false ↦ matches ps n (rest_of v) ]
     ])
     go true [] c ih = (omega arith, omega arith)
     go true (w ∷ ws) c ih = word-within (eqb w p) ws ih
     go false v true ih = bind_within (matches ps n (rest_of v)) _ (ih n (rest_of v)) (λ m. tt)
-    go false v false ih = need_within (leaf_takes p v) 14 (matches ps n (rest_of v)) (omega arith) (omega arith) (ih n (rest_of v))
+    go false v false ih = ih n (rest_of v)
 
 enter_within : (cs : List ℕ) (kn : ℕ → Bool) (s : Core) (ws : List ℕ) → Within (enter cs kn s ws)
 unfolding enter

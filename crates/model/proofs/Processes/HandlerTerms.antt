@@ -10,16 +10,16 @@ use borrow.Author.Tests.{leb-true, le-leb}
 use lib.Dec.{leb, ltb, eqb}
 use lib.ListN.{length, get_or}
 use Rattle.calculus.specs.Syntax.{Val, Scope, var, AllI, IsName}
-use Rattle.calculus.specs.Named.{NPats, any, named, exactly, parts, pno, pand, shape, find, finds, or_else, bound_or, under_pat}
+use Rattle.calculus.specs.Named.{NPats, any, named, parts, pno, pand, shape, find, finds, or_else, bound_or, under_pat}
 use Rattle.calculus.specs.Named.{Env as CEnv}
 use Rattle.calculus.proofs.Definedness.{Sound as CSound}
 use Rattle.calculus.proofs.Substitution.{IsName-ren}
 use Rattle.calculus.proofs.FreeNames.{eqb_sym}
 use Rattle.model.specs.Basics.{done, has}
-use Rattle.model.specs.Values.{items, is_tuple, is_public, is_exact, exact_name, is_pattern_leaf, arity, binders, Env, extend, value, lookup, is_name_in}
+use Rattle.model.specs.Values.{items, is_tuple, is_public, is_pattern_leaf, arity, binders, Env, extend, value, lookup, is_name_in}
 use Rattle.model.specs.Table.{Table, Term}
 use Rattle.model.specs.Unfolding.{defined, tag_defined, any_names}
-use Rattle.model.specs.Process.{first_p, behind_p, bare_leaf, reads_p, head_p, pat_of, itag_of, code_of}
+use Rattle.model.specs.Process.{first_p, behind_p, reads_p, head_p, pat_of, itag_of, code_of}
 use Rattle.model.proofs.Basics.Tests.{fst, snd, or_none}
 use Rattle.model.proofs.Formed.Keeping.{done_inj}
 use Rattle.model.proofs.Basics.Items.{clash, items_leaf, items_tuple, items_bad, tuple_not_leaf, tuple_not_public}
@@ -34,9 +34,9 @@ pub reads_p_name : (w : ℕ) (ws : List ℕ) (n : ℕ) → is_tuple w ≡ false 
 unfolding reads_p
 reads_p_name w ws n e q = rw (e, q, reads_p)
 
-pub reads_p_bare : (w : ℕ) (ws : List ℕ) (n : ℕ) → is_tuple w ≡ false → is_public w ≡ false → reads_p (w ∷ ws) (suc n) ≡ pand (bare_leaf w) (reads_p ws n)
+pub reads_p_any : (w : ℕ) (ws : List ℕ) (n : ℕ) → is_tuple w ≡ false → is_public w ≡ false → reads_p (w ∷ ws) (suc n) ≡ pand any (reads_p ws n)
 unfolding reads_p
-reads_p_bare w ws n e q = rw (e, q, reads_p)
+reads_p_any w ws n e q = rw (e, q, reads_p)
 
 abbrev pub pcount : NPats → ℕ
 pcount pno = 0
@@ -45,14 +45,6 @@ pcount (pand p ps) = suc (pcount ps)
 abbrev pub is_some : {A : Type 0} → Option A → Bool
 is_some none = false
 is_some (some a) = true
-
--- a leaf that binds nothing finds nothing
-pub find_bare : (w x : ℕ) → is_some (find (bare_leaf w) x) ≡ false
-find_bare w x = go (is_exact w)
-  where
-    go : (b : Bool) → is_some (find (cond b (exactly (exact_name w)) any) x) ≡ false
-    go true = refl
-    go false = refl
 
 some_or : {A B : Type 0} (a : Option A) (b : Option B) → is_some (or_else a b) ≡ is_some a || is_some b
 some_or (some a) b = refl
@@ -119,8 +111,8 @@ found x (w ∷ ws) (suc n) h = go (is_tuple w) refl (is_pattern_leaf w) refl (is
         is_found false = refl
     go false t true q false z f g =
         let r = g (sym (items_leaf is_pattern_leaf 5 w ws n q) ∙ h) in (
-          ap (λ (y : NPats). is_some (finds y x)) (reads_p_bare w ws n t z) ∙ some_or (find (bare_leaf w) x) (finds (reads_p ws n) x) ∙ ap₂ (λ (a b : Bool). a || b) (find_bare w x) r.0 ∙ ap (has x) (sym (binders_skip w ws z)),
-          ap pcount (reads_p_bare w ws n t z) ∙ ap suc r.1,
+          ap (λ (y : NPats). is_some (finds y x)) (reads_p_any w ws n t z) ∙ some_or (find any x) (finds (reads_p ws n) x) ∙ r.0 ∙ ap (has x) (sym (binders_skip w ws z)),
+          ap pcount (reads_p_any w ws n t z) ∙ ap suc r.1,
         )
 
 -- one pattern

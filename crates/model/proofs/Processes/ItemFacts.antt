@@ -11,10 +11,9 @@ use Rattle.calculus.specs.Syntax.{Val, nm, AllV, AllT, AllN, IsName}
 use Rattle.calculus.specs.Transitions.{In, Fn⊆, names, beyond}
 use Rattle.calculus.specs.Parallel.{parallel}
 use Rattle.calculus.specs.Tree.{Item, select}
-use Rattle.calculus.specs.Named.{proc, public_name}
-use Rattle.calculus.proofs.NamedProcesses.{public_low}
+use Rattle.calculus.specs.Named.{proc}
 use Rattle.calculus.proofs.Definedness.{Sound as CSound}
-use Rattle.model.specs.Basics.{◌or◌, done, every}
+use Rattle.model.specs.Basics.{done, every}
 use Rattle.model.specs.Values.{items, is_tuple, is_name, is_public, is_pattern_leaf, binders, distinct, is_name_in, Env, value}
 use Rattle.model.specs.Table.{Table, Term, inp, term, count, kind, scope, build}
 use Rattle.model.specs.Side.{Particle, output, input, Message, down, arrived, leaving, Status as SPlace, Tag as STag, within, to_parent, from_parent, to_child, from_child}
@@ -113,11 +112,6 @@ module _ {M : Type 0} (mk : Mark → M) (A : List ℕ) (k : Counts) (held_in : (
   tag_in (to_child n) e = held_in n e
   tag_in (from_child n) e = held_in n e
 
-  -- a public name
-  public_in : (n : ℕ) → In A (public_name n)
-  unfolding held ◌or◌
-  public_in n = held_in (public_name n) (rw (le-leb (public_name n) 63 (omega (arith, public_low n))))
-
   -- an environment of well-formed values
   pub env_in_lem : (ρ : Env) → every (wf_value k) ρ.vals ≡ true → (n : ℕ) → AllV (env_of ρ n) (In A)
   unfolding env_of
@@ -154,7 +148,7 @@ module _ {M : Type 0} (mk : Mark → M) (A : List ℕ) (k : Counts) (held_in : (
     pub part_in : (i : ℕ) (p : Particle) → wf_particle t k nb p ≡ true → Fn⊆ (part_item mk t side i p).what A
     unfolding AllN wf_particle
     part_in i (output b ch g v) e = (held_in ch (fst _ _ (snd _ _ e)), tag_in g (fst _ _ (snd _ _ (snd _ _ e))), val_in_lem v (snd _ _ (snd _ _ (snd _ _ e))))
-    part_in i (input b n vs) e = proc_all [] (mk (part side i)) (code_of (term t n)) (env_of (env_at t n vs)) (In A) public_in (input_sound b n vs e) (env_in_lem (env_at t n vs) (input_vals b n vs e))
+    part_in i (input b n vs) e = proc_all [] (mk (part side i)) (code_of (term t n)) (env_of (env_at t n vs)) (In A) (input_sound b n vs e) (env_in_lem (env_at t n vs) (input_vals b n vs e))
 
     pub part_atom : (i : ℕ) (p : Particle) → wf_particle t k nb p ≡ true → Atom (part_item mk t side i p).what
     unfolding proc code_of

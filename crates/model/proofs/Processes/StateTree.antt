@@ -14,7 +14,7 @@ use Rattle.calculus.specs.Transitions.{In, Fn⊆}
 use Rattle.calculus.specs.Wrappers.{in_name, out_name}
 use Rattle.calculus.specs.Tree.{Place}
 use Rattle.calculus.specs.Tree.{Item}
-use Rattle.calculus.specs.Named.{proc, Code, cnil, cpar, cbox, cnew, cout, cinp, named, shape, exacts_in, under_pat}
+use Rattle.calculus.specs.Named.{proc, Code, cnil, cpar, cbox, cnew, cout, cinp, named, shape, under_pat}
 use Rattle.calculus.specs.Named.{Env as CEnv}
 use Rattle.model.specs.Table.{Table, term}
 use Rattle.model.specs.Side.{Particle, output, input, Message, down, arrived, leaving, State, side, Status as SPlace}
@@ -168,7 +168,7 @@ module _ (b : Composition) (s : State) (e : ready b s ≡ true) where
     each_routes : (rs : List Route) → every (λ r. has_side (wrapper_of b) r.source & has_side (wrapper_of b) r.receiver) rs ≡ true → Each (All b s) (map (takes mk) rs)
     unfolding AllN
     each_routes [] h = tt
-    each_routes (r ∷ rs) h = ((low_in b s 2 (omega arith), own_in b s r.source (fst _ _ (fst _ _ h)), tt, (low_in b s 2 (omega arith), own_in b s r.receiver (snd _ _ (fst _ _ h)), tt)), each_routes rs (snd _ _ h))
+    each_routes (r ∷ rs) h = ((low_in b s 2 (omega arith), own_in b s r.source (fst _ _ (fst _ _ h)), (low_in b s 2 (omega arith), own_in b s r.receiver (snd _ _ (fst _ _ h)), tt)), each_routes rs (snd _ _ h))
 
     pub forwarders_each : Each (All b s) (forwarders mk (wrapper_of b))
     forwarders_each =
@@ -195,7 +195,7 @@ remark_proc h s t (cpar c d) ρ = ap₂ ppar (remark_proc h s t c ρ) (remark_pr
 remark_proc h s t (cbox n c) ρ = λ k. pbox (h t) (the_name s (ρ n)) (remark_proc h s t c ρ k)
 remark_proc h s t (cnew n c) ρ = ap pnew (remark_proc h (var ∷ s) t c (under_pat (named n) ρ))
 remark_proc h s t (cout x i v) ρ = refl
-remark_proc h s t (cinp m x i p c) ρ = λ k. pinp m (h t) (the_name s (ρ x)) (iren i (λ n. the_name s (ρ n))) (shape p) (exacts_in s p) (remark_proc h (shape p ∷ s) t c (under_pat p ρ) k)
+remark_proc h s t (cinp m x i p c) ρ = λ k. pinp m (h t) (the_name s (ρ x)) (iren i (λ n. the_name s (ρ n))) (shape p) (remark_proc h (shape p ∷ s) t c (under_pat p ρ) k)
 
 module _ {M U : Type 0} (mk : Mark → M) (h : M → U) where
   pub part_marks : (T : Table) (side i : ℕ) (p : Particle) → ritem h (part_item mk T side i p) ≡ part_item (λ m. h (mk m)) T side i p

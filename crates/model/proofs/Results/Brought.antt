@@ -5,13 +5,12 @@ use mathlib.Core.Bool.{Bool, true, false, false≢true}
 use mathlib.Core.Logic.{◌⊎◌, inl, inr, ⊎_elim}
 use Prim.Native.Nat.{ℕ, ◌<◌}
 use native.Mathlib.Omega.{arith}
-use borrow.Author.Tests.{eqb_true}
-use lib.Dec.{eqb, eqb_refl}
-use Rattle.calculus.specs.Syntax.{Proc, var, AllN, outer}
+use borrow.Author.Tests.{eqb_true, ltb-true}
+use lib.Dec.{eqb, ltb, eqb_refl}
+use Rattle.calculus.specs.Syntax.{Proc, var, AllN, AllV, outer}
 use Rattle.calculus.specs.Congruence.{◌≋◌, symm}
 use Rattle.calculus.specs.Transitions.{Label, In, Fn⊆, lnames}
-use Rattle.calculus.specs.Named.{public, public_name}
-use Rattle.calculus.proofs.NamedProcesses.{public_low}
+use Rattle.calculus.specs.Named.{public}
 use Rattle.calculus.specs.Wrappers.{W1, W2, L, two_scope, far}
 use Rattle.calculus.specs.Tree.{process}
 use Rattle.model.specs.Basics.{every}
@@ -67,29 +66,30 @@ wraps_start b s e (as_logging w) = symm ((load_agrees b s e).2 w)
 -- ITS NAMES are those of documents 01 and 004, all below 81: a table's are public
 module _ (A : ℕ → Type 0) (low : (z : ℕ) → z < 81 → A z) where
   handler_names : (t : Table) → AllN (handler t) A
-  handler_names t = proc_all [] tt (code_of (term t 0)) public A named (sound_names [] (code_of (term t 0)) public (λ n. tt)) named
+  handler_names t = proc_all [] tt (code_of (term t 0)) public A (sound_names [] (code_of (term t 0)) public (λ n. tt)) (λ n. go n (ltb n 64) refl)
     where
-      named : (n : ℕ) → A (public_name n)
-      named n = low (public_name n) (omega (arith, public_low n))
+      go : (n : ℕ) (c : Bool) → ltb n 64 ≡ c → AllV (public n) A
+      go n true q = rw q (low n (let l = ltb-true n 64 q in omega arith))
+      go n false q = rw q (low 0 (omega arith))
 
   -- a forwarder's channels are such names; its tags and its value are bound
   pub wrapper_names : {b : Composition} {P : Proc (Unit {0}) []} → Wraps b P → AllN P A
   unfolding AllN
   wrapper_names {b} (as_filter w) = (
     (tt, AllN-ren (var ∷ []) (handler (table b 1)) inr (outer A) (handler_names (table b 1))),
-    ((low 0 (omega arith), tt, tt, (low 0 (omega arith), tt, tt)), ((low 1 (omega arith), tt, tt, (low 1 (omega arith), tt, tt)), tt)),
+    ((low 0 (omega arith), tt, (low 0 (omega arith), tt, tt)), ((low 1 (omega arith), tt, (low 1 (omega arith), tt, tt)), tt)),
   )
   wrapper_names {b} (as_pipeline w) = (
     (tt, AllN-ren two_scope (handler (table b 1)) far (outer (outer A)) (handler_names (table b 1))),
     (
       (tt, AllN-ren two_scope (handler (table b 2)) far (outer (outer A)) (handler_names (table b 2))),
       (
-        (low 65 (omega arith), tt, tt, (low 0 (omega arith), tt, tt)),
+        (low 65 (omega arith), tt, (low 0 (omega arith), tt, tt)),
         (
-          (low 66 (omega arith), tt, tt, (low 0 (omega arith), tt, tt)),
+          (low 66 (omega arith), tt, (low 0 (omega arith), tt, tt)),
           (
-            (low 1 (omega arith), tt, tt, (low 73 (omega arith), tt, tt)),
-            ((low 1 (omega arith), tt, tt, (low 74 (omega arith), tt, tt)), ((low 2 (omega arith), tt, tt, (low 2 (omega arith), tt, tt)), tt)),
+            (low 1 (omega arith), tt, (low 73 (omega arith), tt, tt)),
+            ((low 1 (omega arith), tt, (low 74 (omega arith), tt, tt)), ((low 2 (omega arith), tt, (low 2 (omega arith), tt, tt)), tt)),
           ),
         ),
       ),
@@ -98,8 +98,8 @@ module _ (A : ℕ → Type 0) (low : (z : ℕ) → z < 81 → A z) where
   wrapper_names {b} (as_logging w) = (
     (tt, AllN-ren (var ∷ []) (handler (table b 1)) inr (outer A) (handler_names (table b 1))),
     (
-      (low 0 (omega arith), tt, tt, ((low 3 (omega arith), tt, tt), (low 0 (omega arith), tt, tt))),
-      ((low 1 (omega arith), tt, tt, ((low 3 (omega arith), tt, tt), (low 1 (omega arith), tt, tt))), tt),
+      (low 0 (omega arith), tt, ((low 3 (omega arith), tt, tt), (low 0 (omega arith), tt, tt))),
+      ((low 1 (omega arith), tt, ((low 3 (omega arith), tt, tt), (low 1 (omega arith), tt, tt))), tt),
     ),
   )
 

@@ -16,7 +16,6 @@ use Rattle.model.specs.MoreTrials.{MoreTrials}
 use Rattle.model.specs.LoggingTrials.{LoggingTrials}
 use Rattle.model.specs.OutsideTrials.{copying, to_mid, OutsideRuns, OutsideTrials}
 use Rattle.model.specs.StrandedTrials.{StrandedTrials}
-use Rattle.model.specs.ExactTrials.{ExactTrials}
 use Rattle.model.specs.Runs.{answers, after_all, premise}
 
 pub trials_pass : Trials
@@ -53,13 +52,6 @@ unfolding ◌&◌ ◌or◌ choose bind need pick items shaped is_value at rest_o
     wf_side_of wf_state ready enter go_down up_from up_particle up descend_particle descend meet_term meet_particles meet pass leave takes route_to inner local settled mark1 step lobby_asked stranded_from
     run_from outcome StrandedTrials
 stranded_trials_pass = refl
-
-pub exact_trials_pass : ExactTrials
-unfolding ◌&◌ ◌or◌ choose bind need pick items shaped is_value at rest_of first_of matches child_times build decode term scope_up check1 check2 times_child check3 check4 pattern_ok check5 over over_all
-    first_bad found fault limits unfolds defined start side_fault lack_fault load_sides load held held_word wf_value wf_tag wf_particle wf_boxes wf_contents wf_message wf_core wf_left wf_side wf_taken is_no_side
-    wf_side_of wf_state ready enter go_down up_from up_particle up descend_particle descend meet_term meet_particles meet pass leave takes route_to inner local settled mark1 step lobby_asked stranded_from
-    run_from outcome ExactTrials
-exact_trials_pass = (refl, refl, refl)
 
 -- by computation
 pub outside_runs : OutsideRuns

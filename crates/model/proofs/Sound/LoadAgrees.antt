@@ -14,8 +14,7 @@ use Rattle.calculus.specs.Transitions.{restrict, In}
 use Rattle.calculus.specs.Tree.{fill}
 use Rattle.calculus.specs.Tree.{Item}
 use Rattle.calculus.specs.Tree.{process}
-use Rattle.calculus.specs.Named.{Code, proc, public, public_name}
-use Rattle.calculus.proofs.NamedProcesses.{public_low}
+use Rattle.calculus.specs.Named.{Code, proc, public}
 use Rattle.calculus.specs.Wrappers.{W1, W2, L, two_scope, far}
 use Rattle.model.specs.Wrapper.{described, has_side}
 use Rattle.model.specs.Basics.{◌&◌, ◌or◌}
@@ -53,17 +52,22 @@ root_sits : (t : Table) → Checked t → Sits t [] (term t 0)
 root_sits t c = subst (λ (x : List ℕ). Sits t x (term t 0)) (scope_root t) (sits t c 0 c.some)
 
 -- a process with public names only
-low : (y : ℕ) → 63 < y → (n : ℕ) → eqb y (public_name n) ≡ false
-low y h n = ne_eqb y (public_name n) (λ q. omega (arith, public_low n))
+low : (y : ℕ) (n : ℕ) → 63 < y → eqb y (cond (ltb n 64) n 0) ≡ false
+low y n h = go (ltb n 64) refl
+  where
+    go : (b : Bool) → ltb n 64 ≡ b → eqb y (cond b n 0) ≡ false
+    go true e = let l = ltb-true n 64 e in ne_eqb y n (λ q. omega arith)
+    go false e = ne_eqb y 0 (λ q. omega arith)
 
 fresh_of : (y : ℕ) → 63 < y → (c : Code) → Fresh y (proc {T = Unit {0}} [] tt c public)
-fresh_of y h c = proc_all [] tt c public (λ x. eqb y x ≡ false) (low y h) (sound_names [] c public (λ n. tt)) (low y h)
+fresh_of y h c = proc_all [] tt c public (λ x. eqb y x ≡ false) (sound_names [] c public (λ n. tt)) (λ n. low y n h)
 
 low_names : (b : Composition) (s : State) (c : Code) → AllN (proc {T = Unit {0}} [] tt c public) (In (All b s))
-low_names b s c = proc_all [] tt c public (In (All b s)) known (sound_names [] c public (λ n. tt)) known
+low_names b s c = proc_all [] tt c public (In (All b s)) (sound_names [] c public (λ n. tt)) (λ n. low_in b s (cond (ltb n 64) n 0) (let z = go (ltb n 64) n refl in omega (arith, z)))
   where
-    known : (n : ℕ) → In (All b s) (public_name n)
-    known n = low_in b s (public_name n) (omega (arith, public_low n))
+    go : (t : Bool) (n : ℕ) → ltb n 64 ≡ t → cond t n 0 < 64
+    go true n e = ltb-true n 64 e
+    go false n e = omega arith
 
 -- an empty side is well formed
 empty_side : (c : Setting) (k : Counts) (sh : ℕ → List (List ℕ)) → wf_side c k sh (start_side empty_contents) ≡ true

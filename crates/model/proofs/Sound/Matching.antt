@@ -6,21 +6,21 @@ use mathlib.Core.Logic.{◌⊎◌, ⊎_elim}
 use mathlib.Core.Option.{Option, none, some}
 use Prim.Native.Nat.{ℕ, zero, suc, ◌+◌}
 use native.Mathlib.Omega.{arith}
-use borrow.Author.Tests.{leb-true, lt-ltb, ltb-false, eqb_true, ne_eqb, not-true}
+use borrow.Author.Tests.{leb-true, ltb-false, eqb_true, not-true}
 use lib.Dec.{ltb, eqb}
-use lib.ListN.{length, get_or}
+use lib.ListN.{length}
 use Rattle.calculus.specs.Syntax.{Val, Vals, nm, tup, vnil, vcons, Vars, Varss, both, match}
-use Rattle.calculus.specs.Named.{NPat, NPats, any, named, exactly, parts, pno, pand, shape, shapes, public_name, match_p, match_ps, find, finds, or_else, value_or, with_pat}
-use Rattle.calculus.proofs.FreeNames.{eqb_sym}
-use Rattle.model.specs.Basics.{done, has, implies}
-use Rattle.model.specs.Values.{items, is_tuple, is_name, is_public, is_pattern_leaf, arity, distinct, binders, Fit, is_exact, exact_name, leaf_takes, matches, first_of, rest_of, Env, extend, value, lookup}
-use Rattle.model.specs.Process.{vcount, first_v, behind_v, reads, head_v, val_of, first_p, behind_p, bare_leaf, reads_p, pat_of, env_of}
-use Rattle.model.proofs.Basics.Tests.{fst, snd, bind_done, need_done, and_left, and_right, some_inj, no_some}
+use Rattle.calculus.specs.Syntax.{matches as cmatches}
+use Rattle.calculus.specs.Named.{NPat, NPats, any, named, parts, pno, pand, shape, shapes, find, finds, or_else, value_or, with_pat}
+use Rattle.model.specs.Basics.{done, has}
+use Rattle.model.specs.Values.{items, is_tuple, is_name, is_public, is_pattern_leaf, arity, distinct, binders, Fit, matches, first_of, rest_of, Env, extend, value, lookup}
+use Rattle.model.specs.Process.{vcount, first_v, behind_v, reads, head_v, val_of, first_p, behind_p, reads_p, pat_of, env_of}
+use Rattle.model.proofs.Basics.Tests.{bind_done, and_left, and_right, some_inj, no_some}
 use Rattle.model.proofs.Formed.Keeping.{done_inj}
 use Rattle.model.proofs.Basics.Items.{clash, items_leaf, items_tuple, items_bad, first_rest, tuple_not_name, tuple_not_leaf, tuple_not_public}
 use Rattle.model.proofs.Basics.Environments.{Sized, look_append}
-use Rattle.model.proofs.Processes.ValueWords.{reads_tuple, reads_name, write_back}
-use Rattle.model.proofs.Processes.HandlerTerms.{reads_p_tuple, reads_p_name, reads_p_bare, find_bare, binders_name, one_pat, find_has, look_none, is_some}
+use Rattle.model.proofs.Processes.ValueWords.{reads_tuple, write_back}
+use Rattle.model.proofs.Processes.HandlerTerms.{reads_p_tuple, reads_p_name, reads_p_any, binders_name, one_pat, find_has, look_none, is_some}
 use Rattle.model.proofs.Sound.Substitutions.{value_front}
 
 or_value : {A B : Type 0} (σ : A → Val ℕ) (τ : B → Val ℕ) (a : Option A) (b : Option B) (d : Val ℕ) → value_or (⊎_elim σ τ) (or_else a b) d ≡ value_or σ a (value_or τ b d)
@@ -39,16 +39,16 @@ both_some a b α β p q = ap₂ both p q
 -- patterns that take values, and what a name then stands for
 pub record Takes (Q : NPats) (W : Vals ℕ) (F : ℕ → Val ℕ → Val ℕ) : Type 0 where
   pub σ : Varss (shapes Q) → Val ℕ
-  pub is : match_ps Q W ≡ some σ
+  pub is : cmatches (shapes Q) W ≡ some σ
   pub at : (x : ℕ) (d : Val ℕ) → value_or σ (finds Q x) d ≡ F x d
 
 takes_none : Takes pno vnil (λ x d. d)
 takes_none = record { σ = λ x. absurd x; is = refl; at = λ x d. refl }
 
-takes_and : (q : NPat) (Q : NPats) (v : Val ℕ) (W : Vals ℕ) (α : Vars (shape q) → Val ℕ) (F : ℕ → Val ℕ → Val ℕ) → match_p q v ≡ some α → Takes Q W F → Takes (pand q Q) (vcons v W) (λ x d. value_or α (find q x) (F x d))
+takes_and : (q : NPat) (Q : NPats) (v : Val ℕ) (W : Vals ℕ) (α : Vars (shape q) → Val ℕ) (F : ℕ → Val ℕ → Val ℕ) → match (shape q) v ≡ some α → Takes Q W F → Takes (pand q Q) (vcons v W) (λ x d. value_or α (find q x) (F x d))
 takes_and q Q v W α F e t = record {
   σ = ⊎_elim α t.σ;
-  is = both_some (match_p q v) (match_ps Q W) α t.σ e t.is;
+  is = both_some (match (shape q) v) (cmatches (shapes Q) W) α t.σ e t.is;
   at = λ x d. or_value α t.σ (find q x) (finds Q x) d ∙ ap (value_or α (find q x)) (t.at x d);
 }
 
@@ -59,13 +59,13 @@ pub record Halves (k : ℕ) (Q : NPats) (W : Vals ℕ) (F : ℕ → Val ℕ → 
   pub behind : Takes (behind_p k Q) (behind_v k W) F2
   pub joined : (x : ℕ) (d : Val ℕ) → F1 x (F2 x d) ≡ F x d
 
-halves : (k : ℕ) (Q : NPats) (W : Vals ℕ) (σ : Varss (shapes Q) → Val ℕ) → match_ps Q W ≡ some σ → Halves k Q W (λ x d. value_or σ (finds Q x) d)
+halves : (k : ℕ) (Q : NPats) (W : Vals ℕ) (σ : Varss (shapes Q) → Val ℕ) → cmatches (shapes Q) W ≡ some σ → Halves k Q W (λ x d. value_or σ (finds Q x) d)
 halves zero Q W σ e = record { F1 = λ x d. d; F2 = λ x d. value_or σ (finds Q x) d; first = takes_none; behind = record { σ = σ; is = e; at = λ x d. refl }; joined = λ x d. refl }
 halves (suc k) pno vnil σ e = record { F1 = λ x d. d; F2 = λ x d. d; first = takes_none; behind = takes_none; joined = λ x d. refl }
 halves (suc k) pno (vcons v W) σ e = absurd (no_some e)
 halves (suc k) (pand q Q) vnil σ e = absurd (no_some e)
 halves (suc k) (pand q Q) (vcons v W) σ e =
-    let i = both_inv (match_p q v) (match_ps Q W) σ e in
+    let i = both_inv (match (shape q) v) (cmatches (shapes Q) W) σ e in
     let r = halves k Q W i.1 i.3 in
     record {
       F1 = λ x d. value_or i.0 (find q x) (r.F1 x d);
@@ -74,37 +74,6 @@ halves (suc k) (pand q Q) (vcons v W) σ e =
       behind = r.behind;
       joined = λ x d. ap (value_or i.0 (find q x)) (r.joined x d) ∙ sym (or_value i.0 i.1 (find q x) (finds Q x) d) ∙ ap (λ (s : _). value_or s (or_else (find q x) (finds Q x)) d) i.4;
     }
-
--- A LEAF THAT BINDS NOTHING takes a value by words where the calculus has it take it
-
--- the value of some words is the name that comes first, or a tuple where a tuple word does
-head_val : (u r : List ℕ) → items is_name 11 u 1 ≡ done []
-    → (is_tuple (get_or (u ++ r) 0 64) ≡ false → val_of u ≡ nm (get_or (u ++ r) 0 64)) × (is_tuple (get_or (u ++ r) 0 64) ≡ true → (vs : Vals ℕ) × (val_of u ≡ tup vs))
-unfolding items val_of
-head_val [] r h = absurd (clash h)
-head_val (w ∷ u) r h = (λ q. ap head_v (reads_name w u 0 q), λ q. (first_v (arity w) (reads u (arity w + 0)), ap head_v (reads_tuple w u 0 q)))
-
-pub bare_takes : (p : ℕ) (u r : List ℕ) → items is_name 11 u 1 ≡ done [] → is_some (match_p (bare_leaf p) (val_of u)) ≡ leaf_takes p (u ++ r)
-bare_takes p u r h = go (is_exact p) refl (is_tuple (get_or (u ++ r) 0 64)) refl (head_val u r h)
-  where
-    w : ℕ
-    w = get_or (u ++ r) 0 64
-
-    one : (b : Bool) → is_some {A = ⊥ → Val ℕ} (cond b (some (λ y. absurd y)) none) ≡ b
-    one true = refl
-    one false = refl
-
-    named_so : is_exact p ≡ true → public_name (exact_name p) ≡ exact_name p
-    named_so e = ap (λ (b : Bool). cond b (exact_name p) 0) (lt-ltb (exact_name p) 64 (let z = leb-true p 5000063 (snd _ _ e) in omega arith))
-
-    go : (b : Bool) → is_exact p ≡ b → (t : Bool) → is_tuple w ≡ t → (is_tuple w ≡ false → val_of u ≡ nm w) × (is_tuple w ≡ true → (vs : Vals ℕ) × (val_of u ≡ tup vs))
-        → is_some (match_p (cond b (exactly (exact_name p)) any) (val_of u)) ≡ implies b (eqb w (exact_name p))
-    go false e t q f = refl
-    go true e true q f =
-        let tupled = f.1 q in
-        ap (λ (x : Val ℕ). is_some (match (shape (exactly (exact_name p))) (public_name (exact_name p)) x)) tupled.1
-        ∙ sym (ne_eqb w (exact_name p) (λ z. let a = leb-true 4000000 w (fst _ _ q) in let c = leb-true p 5000063 (snd _ _ e) in omega (arith, z)))
-    go true e false q f = ap₂ (λ (c : ℕ) (x : Val ℕ). is_some (match (shape (exactly (exact_name p))) c x)) (named_so e) (f.0 q) ∙ one (eqb (exact_name p) w) ∙ eqb_sym (exact_name p) w
 
 -- by words
 pub record Matched (p : List ℕ) (n : ℕ) (v : List ℕ) (bs : List (List ℕ)) : Type 0 where
@@ -178,23 +147,10 @@ does_other p ps ih t n v fit e ip iv di =
             ∙ sym (ap (λ (c : Bool). val_of (lookup (binders ps) us x (cond c (first_of v) d))) z ∙ ap val_of (look_none (binders ps) us x (first_of v) (subst (λ (y : ℕ). has y (binders ps) ≡ false) (eqb_true p x z) h)))
         by_name x G false z us h w d = ap (λ (c : Bool). value_or {B = Unit {0}} (λ z. val_of (first_of v)) (cond c (some tt) none) (G (val_of d))) z ∙ w d ∙ sym (ap (λ (c : Bool). val_of (lookup (binders ps) us x (cond c (first_of v) d))) z)
     go false q fr ip' rd =
-        let (ok, e') = need_done (leaf_takes p v) 14 (matches ps n (rest_of v)) fit (rw (t, q, matches) at e) in
-        let r = ih n (rest_of v) fit e' ip' fr.2 (subst (λ (l : List ℕ). distinct l ≡ true) (skip p ps q) di) in
-        let taken = bare_takes p (first_of v) (rest_of v) fr.1 ∙ subst (λ (x : List ℕ). leaf_takes p x ≡ true) fr.0 ok in
-        bare r rd (match_p (bare_leaf p) (val_of (first_of v))) refl taken
-      where
-        -- the leaf's own part binds no name
-        unbound : {B : Type 0} (α : B → Val ℕ) (o : Option B) (d : Val ℕ) → is_some o ≡ false → value_or α o d ≡ d
-        unbound α none d h = refl
-        unbound α (some b) d h = absurd (false≢true (sym h))
-
-        bare : Matched ps n (rest_of v) fit.bound → reads v (suc n) ≡ vcons (val_of (first_of v)) (reads (rest_of v) n) → (o : Option (Vars (shape (bare_leaf p)) → Val ℕ))
-            → match_p (bare_leaf p) (val_of (first_of v)) ≡ o → is_some o ≡ true → Matched (p ∷ ps) (suc n) v fit.bound
-        bare r rd none m h = absurd (false≢true h)
-        bare r rd (some α) m h =
-            matched_to (p ∷ ps) (suc n) v fit.bound (pand (bare_leaf p) (reads_p ps n)) (vcons (val_of (first_of v)) (reads (rest_of v) n)) (λ x d. value_or α (find (bare_leaf p) x) (r.F x d))
-            (reads_p_bare p ps n t q) rd (takes_and (bare_leaf p) (reads_p ps n) (val_of (first_of v)) (reads (rest_of v) n) α r.F m r.takes)
-            (λ x d. unbound α (find (bare_leaf p) x) (r.F x (val_of d)) (find_bare p x) ∙ r.words x d ∙ ap (λ (l : List ℕ). val_of (lookup l fit.bound x d)) (sym (skip p ps q)))
+        let r = ih n (rest_of v) fit (rw (t, q, matches) at e) ip' fr.2 (subst (λ (l : List ℕ). distinct l ≡ true) (skip p ps q) di) in
+        matched_to (p ∷ ps) (suc n) v fit.bound (pand any (reads_p ps n)) (vcons (val_of (first_of v)) (reads (rest_of v) n)) (λ x d. value_or (λ z. absurd z) (find any x) (r.F x d))
+        (reads_p_any p ps n t q) rd (takes_and any (reads_p ps n) (val_of (first_of v)) (reads (rest_of v) n) (λ z. absurd z) r.F refl r.takes)
+        (λ x d. r.words x d ∙ ap (λ (l : List ℕ). val_of (lookup l fit.bound x d)) (sym (skip p ps q)))
 
 does_cons : (p : ℕ) (ps : List ℕ) → Does ps → Does (p ∷ ps)
 unfolding items
@@ -224,14 +180,14 @@ one_val v h = go (reads v 1) (write_back is_name 11 tuple_not_name v 1 h).1
 -- one pattern and one value
 pub record Bound (p : List ℕ) (v : List ℕ) (bs : List (List ℕ)) : Type 0 where
   pub σ : Vars (shape (pat_of p)) → Val ℕ
-  pub is : match_p (pat_of p) (val_of v) ≡ some σ
+  pub is : match (shape (pat_of p)) (val_of v) ≡ some σ
   pub at : (x : ℕ) (d : List ℕ) → value_or σ (find (pat_of p) x) (val_of d) ≡ val_of (lookup (binders p) bs x d)
 
 pub bound : (p v : List ℕ) (fit : Fit) → matches p 1 v ≡ done fit → items is_pattern_leaf 5 p 1 ≡ done [] → items is_name 11 v 1 ≡ done [] → distinct (binders p) ≡ true → Bound p v fit.bound
 bound p v fit e ip iv di =
     let m = does p 1 v fit e ip iv di in
     let t : Takes (pand (pat_of p) pno) (vcons (val_of v) vnil) m.F = subst₂ (λ (x : NPats) (y : Vals ℕ). Takes x y m.F) (one_pat p ip) (one_val v iv) m.takes in
-    let i = both_inv (match_p (pat_of p) (val_of v)) (match_ps pno vnil) t.σ t.is in
+    let i = both_inv (match (shape (pat_of p)) (val_of v)) (cmatches (shapes pno) vnil) t.σ t.is in
     record { σ = i.0; is = i.2; at = λ x d. only i.0 i.1 (find (pat_of p) x) (val_of d) ∙ ap (λ (s : _). value_or s (or_else (find (pat_of p) x) none) (val_of d)) i.4 ∙ t.at x (val_of d) ∙ m.words x d }
   where
     only : {A B : Type 0} (α : A → Val ℕ) (β : B → Val ℕ) (o : Option A) (d : Val ℕ) → value_or α o d ≡ value_or (⊎_elim α β) (or_else o none) d

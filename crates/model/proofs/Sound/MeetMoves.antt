@@ -1,5 +1,5 @@
 -- The fifth kind of step: the meeting.
-use mathlib.Core.Path.{◌≡◌, refl, sym, ap, ◌∙◌, subst, subst₂}
+use mathlib.Core.Path.{◌≡◌, refl, sym, ap, ◌∙◌, subst, subst₂, transport}
 use mathlib.Core.Bool.{Bool, true, false}
 use mathlib.Core.List.{List, [], ◌∷◌}
 use mathlib.Core.Option.{some}
@@ -7,13 +7,13 @@ use Prim.Native.Nat.{ℕ, ◌<◌, ◌≤◌}
 use native.Mathlib.Omega.{arith}
 use borrow.Author.Tests.{leb-true, ltb-true, eqb_true}
 use lib.ListN.{length, length-append, get_elem?}
-use Rattle.calculus.specs.Syntax.{Pat, Exacts}
+use Rattle.calculus.specs.Syntax.{Pat}
 use Rattle.calculus.specs.Syntax.{Val, Proc, AllN, remark, Tag, plain, comp, ITag, iren, the_name, Vars}
 use Rattle.calculus.specs.Syntax.{out as pout, inp as pinp, nil as pnil}
 use Rattle.calculus.specs.Transitions.{In, Fn⊆, tau, send, recv, lone, joint, names, Out, inst, InstOk, beyond}
 use Rattle.calculus.specs.Transitions.{Step as Trans}
 use Rattle.calculus.specs.Tree.{Item}
-use Rattle.calculus.specs.Named.{proc, shape, exacts_in, under_pat, with_pat}
+use Rattle.calculus.specs.Named.{proc, shape, under_pat, with_pat}
 use Rattle.calculus.proofs.Definedness.{Sound as CSound}
 use Rattle.model.specs.Basics.{◌&◌, done, every, has}
 use Rattle.model.specs.Values.{items, is_name, Fit, matches, binders, extend, word, Env, is_name_in, is_value}
@@ -52,9 +52,9 @@ use Rattle.model.proofs.Sound.UnfoldingGrows.{mt}
 use Rattle.model.proofs.Sound.MeetTargets.{fit_comp, grown_goes}
 
 -- an input's two ends, by mode
-pub after_is : (again : Bool) (t : Mark) (x : ℕ) (ι : ITag ℕ) (p : Pat) (c : Exacts p ℕ) (B : Proc Mark (p ∷ [])) (σ : Vars p → Val ℕ) → after_m (mode_of again) t x ι p c B σ ≡ leaves again (pinp (mode_of again) t x ι p c B) (inst B σ)
-after_is true t x ι p c B σ = refl
-after_is false t x ι p c B σ = refl
+pub after_is : (again : Bool) (t : Mark) (x : ℕ) (ι : ITag ℕ) (p : Pat) (B : Proc Mark (p ∷ [])) (σ : Vars p → Val ℕ) → after_m (mode_of again) t x ι p B σ ≡ leaves again (pinp (mode_of again) t x ι p B) (inst B σ)
+after_is true t x ι p B σ = refl
+after_is false t x ι p B σ = refl
 
 module _ (b : Composition) (s : State) (e : ready b s ≡ true) (vw : View b s) (ori : Orient b s vw)
     (own : (has vw.c.side all_sides ≡ true) × (vw.core.contents.minted ≡ (side_in s vw.c.side).core.contents.minted))
@@ -156,7 +156,7 @@ module _ (b : Composition) (s : State) (e : ready b s ≡ true) (vw : View b s) 
       module _ (ft : defined node.body (extend (env_at vw.c.table n vs) (binders node.pat) fit.bound) ≡ true)
           (cw : ch ≡ word (env_at vw.c.table n vs) node.chan) (tf : tags_fit g (tag_of (env_at vw.c.table n vs) node.tag) ≡ true) where
         abbrev Q : Proc Mark []
-        Q = pinp (mode_of node.again) (part vw.c.side j) ch ι (shape (pat_of node.pat)) (exacts_in [] (pat_of node.pat)) B0
+        Q = pinp (mode_of node.again) (part vw.c.side j) ch ι (shape (pat_of node.pat)) B0
 
         chan_is : the_name [] (env_of (env_at Tb n vs) node.chan) ≡ ch
         chan_is = name_word (counts s) (env_at Tb n vs) vals node.chan node.chan_ok (fst _ _ fits_inp) ∙ sym cw
@@ -164,10 +164,10 @@ module _ (b : Composition) (s : State) (e : ready b s ≡ true) (vw : View b s) 
         Q-is : part_item ids Tb side j (input β n vs) ≡ item (site_of side β) Q
         unfolding proc code_of
         Q-is = ap (λ (a : Term). item (site_of side β) (proc [] (part side j) (code_of a) (env_of (env_at Tb n vs)))) node.is
-            ∙ ap (λ (x : ℕ). item (site_of side β) (pinp (mode_of node.again) (part side j) x ι (shape (pat_of node.pat)) (exacts_in [] (pat_of node.pat)) B0)) chan_is
+            ∙ ap (λ (x : ℕ). item (site_of side β) (pinp (mode_of node.again) (part side j) x ι (shape (pat_of node.pat)) B0)) chan_is
 
         inst_ok : InstOk B0 bd.σ
-        inst_ok = (inst_defined (part side j) (pat_of node.pat) (code_of node.body) (env_of (env_at Tb n vs)) bd.σ sound_in).1
+        inst_ok = transport (sym (inst_defined (part side j) (pat_of node.pat) (code_of node.body) (env_of (env_at Tb n vs)) bd.σ sound_in))
             (subst (λ (r : ℕ → Val ℕ). CSound [] (code_of node.body) r) env' (fits_sound node.sits_body [] ρ' (env_of ρ') sized' (env_names ids A (counts s) (held_in b s) zero_in ρ' vals') ft))
 
         f_p : Fn⊆ (pout (part side i) ch (tag_out g) (val_of v)) A
@@ -184,7 +184,7 @@ module _ (b : Composition) (s : State) (e : ready b s ≡ true) (vw : View b s) 
 
         d_q : Trans A Q (recv ch (plain ι) (val_of v)) (joint (part side i) (part side j)) (leaves node.again Q (inst B0 bd.σ))
         d_q = subst (λ (R : Proc Mark []). Trans A Q (recv ch (plain ι) (val_of v)) (joint (part side i) (part side j)) R)
-            (after_is node.again (part side j) ch ι (shape (pat_of node.pat)) (exacts_in [] (pat_of node.pat)) B0 bd.σ) (recv_of (mode_of node.again) f_q bd.is inst_ok)
+            (after_is node.again (part side j) ch ι (shape (pat_of node.pat)) B0 bd.σ) (recv_of (mode_of node.again) f_q bd.is inst_ok)
 
         beyond_none : beyond A (ch ∷ names (val_of v)) ≡ []
         unfolding AllN

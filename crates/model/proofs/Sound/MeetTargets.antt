@@ -152,9 +152,6 @@ module _ (b : Composition) (s : State) (e : ready b s ≡ true) (vw : View b s) 
   pos : 1 ≤ side
   pos = (positive vw.c.side own.0).0
 
-  small1 : 1 ≤ side
-  small1 = (positive vw.c.side own.0).0
-
   small2 : side ≤ 2
   small2 = (positive vw.c.side own.0).1
 
@@ -247,7 +244,7 @@ module _ (b : Composition) (s : State) (e : ready b s ≡ true) (vw : View b s) 
           ∙ sym (select_app R0 (map (plain_p Tb side) p0) (site_of side k)) ∙ none_all p0 wp k l
 
       s3 : restrict C0.names (fill C0.boxes (at (item (site_of side β) P ∷ C0.items))) ≋ process (unfold' (mt side) (site_of side) tt (code_of a) (env_of ρ) (site_of side β) C0)
-      s3 = body_unfolds side small1 small2 (All b s) vw.core.contents.minted (not_next b s (all-few b s e) side vw.core.contents.minted own.0 own.1) C0 refl β lb ori.wf_b (ori.reach_b β lb) none_x
+      s3 = body_unfolds side small2 (All b s) vw.core.contents.minted (not_next b s (all-few b s e) side vw.core.contents.minted own.0 own.1) C0 refl β lb ori.wf_b (ori.reach_b β lb) none_x
           (each_app (All b s) (X ++ R0) (map (plain_p Tb side) p0) (each_app (All b s) X R0 e_x each_rest) (each_parts p0 wp)) (code_of a) (env_of ρ)
           (fits_sound si [] ρ (env_of ρ) sz (env_names forget (All b s) (counts s) (held_in b s) (low_in b s 0 (omega arith)) ρ vs) ft) (env_in_lem forget (All b s) (counts s) (held_in b s) (low_in b s 0 (omega arith)) ρ vs)
 

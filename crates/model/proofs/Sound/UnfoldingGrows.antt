@@ -16,8 +16,7 @@ use Rattle.calculus.specs.Tree.{Place, upd, fill}
 use Rattle.calculus.specs.Tree.{select, Conf}
 use Rattle.calculus.proofs.Unfolding.{unfold'}
 use Rattle.calculus.specs.Tree.{process}
-use Rattle.calculus.specs.Named.{Code, proc, public_name}
-use Rattle.calculus.proofs.NamedProcesses.{public_low}
+use Rattle.calculus.specs.Named.{Code, proc}
 use Rattle.calculus.proofs.Definedness.{Sound as CSound}
 use Rattle.model.specs.Values.{is_minted}
 use Rattle.model.specs.Side.{State, side as side_in}
@@ -63,10 +62,6 @@ mt_fresh side s i j l = ne_eqb (mt side i) (mt side j) (λ q. ⊎_elim
     (λ a. ⊎_elim (λ b. omega (arith, mt_is side i a, mt_is side j b)) (λ b. omega (arith, a, b)) (which j))
     (λ a. ⊎_elim (λ b. omega (arith, mt_high side i a, mt_is side j b)) (λ b. omega (arith, mt_high side i a, mt_high side j b)) (which j)) (which i))
 
--- no minted name is public
-mt_public : (side : ℕ) → 1 ≤ side → (i n : ℕ) → eqb (mt side i) (public_name n) ≡ false
-mt_public side s i n = ne_eqb (mt side i) (public_name n) (λ q. ⊎_elim (λ a. omega (arith, mt_is side i a, public_low n)) (λ a. omega (arith, mt_high side i a, public_low n)) (which i))
-
 all_cases : (N A : List ℕ) (y : ℕ) → In (all_of N A) y → T (mem y N) ⊎ In A y
 all_cases [] A y h = inr h
 all_cases (x ∷ N) A y h = ⊎_elim (λ a. inl (or_right (eqb y x) (mem y N) a)) (λ a. ⊎_elim (λ c. inl (or_left (eqb y x) (mem y N) c)) (λ c. inr c) (or_cases (eqb y x) (mem y A) a)) (all_cases N (x ∷ A) y h)
@@ -102,7 +97,7 @@ module _ (b : Composition) (s : State) (few : (n : ℕ) → (side_in s n).core.c
       bad p q r t = omega (arith, p, q, r, t)
 
 -- a body at b, unfolded there
-module _ (side : ℕ) (s1 : 1 ≤ side) (s2 : side ≤ 2) (Al : List ℕ) (m : ℕ) (next : (y : ℕ) → In Al y → (i : ℕ) → m ≤ i → eqb (mt side i) y ≡ false) (C : Conf (Unit {0})) (cm : C.serial ≡ m) (b : ℕ)
+module _ (side : ℕ) (s2 : side ≤ 2) (Al : List ℕ) (m : ℕ) (next : (y : ℕ) → In Al y → (i : ℕ) → m ≤ i → eqb (mt side i) y ≡ false) (C : Conf (Unit {0})) (cm : C.serial ≡ m) (b : ℕ)
     (lt : b < C.sites) (wf : Wf Al C.boxes) (re : Reach C.boxes (site_of side b))
     (em : (k : ℕ) → C.sites ≤ k → select C.items (site_of side k) ≡ []) (ea : Each Al C.items) (c : Code) (ρ : ℕ → Val ℕ) (so : CSound [] c ρ) (en : (n : ℕ) → AllV (ρ n) (In Al)) where
   abbrev Other : ℕ → Type 0
@@ -112,26 +107,26 @@ module _ (side : ℕ) (s1 : 1 ≤ side) (s2 : side ≤ 2) (Al : List ℕ) (m : �
   far i j l = ne_eqb (site_of side i) (site_of side j) (λ q. omega arith)
 
   abbrev Old' : ℕ → ℕ → Type 0
-  Old' = Old {M = Unit {0}} (mt side) (mt_fresh side s2) (mt_public side s1) Other (λ i. tt) (λ n. tt) (site_of side) far tt
+  Old' = Old {M = Unit {0}} (mt side) (mt_fresh side s2) Other (λ i. tt) (site_of side) far tt
 
   old : (y : ℕ) → In Al y → Old' C.serial y
   old y h = (λ i l. next y h i (omega (arith, cm)), tt)
 
-  bok : (bs : List (Place (Unit {0}))) → Wf Al bs → BoxesOk (mt side) (mt_fresh side s2) (mt_public side s1) Other (λ i. tt) (λ n. tt) (site_of side) far tt C.serial C.sites bs
+  bok : (bs : List (Place (Unit {0}))) → Wf Al bs → BoxesOk (mt side) (mt_fresh side s2) Other (λ i. tt) (site_of side) far tt C.serial C.sites bs
   bok [] h = tt
   bok (x ∷ bs) h = (old x.name h.1, h.0, bok bs h.4)
 
-  is_ok : Ok (mt side) (mt_fresh side s2) (mt_public side s1) Other (λ i. tt) (λ n. tt) (site_of side) far tt C
+  is_ok : Ok (mt side) (mt_fresh side s2) Other (λ i. tt) (site_of side) far tt C
   is_ok = record { empty = em; old = λ k. AllN-map (at C.items k) old (each_at Al C.items ea k); bok = bok C.boxes wf }
 
-  nothing : Beside (mt side) (mt_fresh side s2) (mt_public side s1) Other (λ i. tt) (λ n. tt) (site_of side) far tt C (λ k. pnil)
+  nothing : Beside (mt side) (mt_fresh side s2) Other (λ i. tt) (site_of side) far tt C (λ k. pnil)
   unfolding AllN
   nothing = record { none_there = λ k l. rfl; old_there = λ k. tt }
 
   abbrev U : Conf (Unit {0})
   U = unfold' (mt side) (site_of side) tt c ρ (site_of side b) C
 
-  bare : (X : Conf (Unit {0})) → with' (mt side) (mt_fresh side s2) (mt_public side s1) Other (λ i. tt) (λ n. tt) (site_of side) far tt X (λ k. pnil) ≋ process X
+  bare : (X : Conf (Unit {0})) → with' (mt side) (mt_fresh side s2) Other (λ i. tt) (site_of side) far tt X (λ k. pnil) ≋ process X
   unfolding with' process
   bare X = in_news X.names (fill_cong X.boxes (λ k. ppar (parallel (select X.items k)) pnil) (λ k. parallel (select X.items k)) (λ k. par_nil))
 
@@ -145,7 +140,7 @@ module _ (side : ℕ) (s1 : 1 ≤ side) (s2 : side ≤ 2) (Al : List ℕ) (m : �
   pub body_unfolds : restrict C.names (fill C.boxes (at (item (site_of side b) (proc [] tt c ρ) ∷ C.items))) ≋ process U
   unfolding with'
   body_unfolds =
-      let r = unfold_ok (mt side) (mt_fresh side s2) (mt_public side s1) Other (λ i. tt) (λ n. tt) (site_of side) far tt c ρ (site_of side b) C so (λ n. AllV-map (ρ n) old (en n)) is_ok (λ j l. ne_eqb (site_of side j) (site_of side b) (λ q. omega arith)) re in
+      let r = unfold_ok (mt side) (mt_fresh side s2) Other (λ i. tt) (site_of side) far tt c ρ (site_of side b) C so (λ n. AllV-map (ρ n) old (en n)) is_ok (λ j l. ne_eqb (site_of side j) (site_of side b) (λ q. omega arith)) re in
       trans (in_news C.names
       (fill_cong C.boxes (at (item (site_of side b) (proc [] tt c ρ) ∷ C.items)) (λ k. ppar (parallel (select C.items k)) (upd (λ k. pnil) (site_of side b) (ppar (proc [] tt c ρ) pnil) k)) (body_there (proc [] tt c ρ))))
       (trans (r.1 (λ k. pnil) nothing) (bare U))

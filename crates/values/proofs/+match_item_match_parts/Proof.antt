@@ -8,7 +8,7 @@ use lib.ListN.{length}
 use Rattle.model.proofs.Basics.Tests.{fst}
 use Rattle.values.proofs.Lists.{unmap}
 use Rattle.values.proofs.Spans.{end_is}
-use Rattle.values.proofs.Matches.{fit_no, fit_yes, parts_none, parts_more, parts_stop, item_short, item_tuple, item_other, item_over, item_name, item_bare, item_unlike, item_falls}
+use Rattle.values.proofs.Matches.{fit_no, fit_yes, parts_none, parts_more, parts_stop, item_short, item_tuple, item_other, item_over, item_name, item_wild, item_falls}
 use borrow.Fn.Kinds.{In}
 use borrow.Fn.PlainCycle.{Measures, is, falls, and}
 use Rattle.values.proofs.match_item.Reads as match-item
@@ -22,7 +22,6 @@ use Rattle.values.proofs.Matched.refused.Reads as refused-reads
 use Rattle.values.proofs.Matched.up_to.Reads as up-to-reads
 use Rattle.values.proofs.is_tuple.Reads as is-tuple-reads
 use Rattle.values.proofs.value_end.Reads as value-end-reads
-use Rattle.values.proofs.leaf_takes.Reads as leaf-takes-reads
 use Rattle.values.proofs.+match_item_match_parts.{statement}
 use Rattle.values.proofs.+match_item_match_parts.Tie.{close}
 
@@ -62,8 +61,6 @@ item-calls t = (
   push-reads.Learnt,
   up-to-reads.Asked,
   up-to-reads.Learnt,
-  leaf-takes-reads.Asked,
-  leaf-takes-reads.Learnt,
 )
 
 match-item-returns : (t : ℕ) → match-item-lts.Need-returns (item-calls t) (match-item-at t) match-item.Post
@@ -122,38 +119,18 @@ match-item-returns-5 t c =
     let end = end_is _ _ _ at-value-end.value-end.ensures in
     item_name _ _ a.i a.j a.b _ at-if1.if1.false leaf _ end at-if5.if5.true _ (at_push.push.ensures _) c.up_to_lem.ensures
 
--- the parts have eight places, by what is known at the start
-rows-full : (t : ℕ) (s : match-item-lts.Start (item-calls t) (match-item-at t) match-item.Post) → length s.args.b.rows ≡ 8
-rows-full t s = search (rules, unmap)
-
 match-item-returns-6 : (t : ℕ) → match-item-lts.Need-returns-6 (item-calls t) (match-item-at t) match-item.Post
 match-item-returns-6 t c =
-    let at-if6 = c.before in
-    let at-leaf-takes = at-if6.before in
-    let at-if5 = at-leaf-takes.before in
+    let a = c.before.before.before.before.before.before.before.before.before.args in
+    let full : length a.b.rows ≡ 8 = search (rules, unmap) in
+    let at-if5 = c.before in
     let at-value-end = at-if5.before in
     let at-if2 = at-value-end.before in
     let at-is-tuple = at-if2.before in
     let at-if1 = at-is-tuple.before.before in
-    let start = at-if1.before.before.before in
-    let a = start.args in
     let leaf = sym at-is-tuple.is-tuple.ensures ∙ at-if2.if2.false in
     let end = end_is _ _ _ at-value-end.value-end.ensures in
-    let takes = sym at-leaf-takes.leaf-takes.ensures ∙ at-if6.if6.true in
-    item_bare _ _ a.i a.j a.b _ at-if1.if1.false leaf _ end at-if5.if5.false takes (rows-full t start) c.up-to2.ensures
-
-match-item-returns-7 : (t : ℕ) → match-item-lts.Need-returns-7 (item-calls t) (match-item-at t) match-item.Post
-match-item-returns-7 t c =
-    let at-if6 = c.before in
-    let at-leaf-takes = at-if6.before in
-    let at-if5 = at-leaf-takes.before in
-    let at-if2 = at-if5.before.before in
-    let at-is-tuple = at-if2.before in
-    let at-if1 = at-is-tuple.before.before in
-    let a = at-if1.before.before.before.args in
-    let leaf = sym at-is-tuple.is-tuple.ensures ∙ at-if2.if2.false in
-    let unlike = sym at-leaf-takes.leaf-takes.ensures ∙ at-if6.if6.false in
-    item_unlike _ _ a.i a.j a.b _ at-if1.if1.false leaf at-if5.if5.false unlike c.refused4.ensures
+    item_wild _ _ a.i a.j a.b _ at-if1.if1.false leaf _ end at-if5.if5.false full c.up-to2.ensures
 
 abbrev parts-calls : ℕ → match-parts-lts.Claims
 parts-calls t = (up-to-reads.Asked, up-to-reads.Learnt, match-item-below t, match-item.Post, match-parts-below t, match-parts.Post)
@@ -209,12 +186,9 @@ pub +match-item-match-parts-spec : {M : Type 1} → statement M
     (λ c κs. search rules)
     (λ c κs. search rules)
     (match-item-returns-5 t)
-    (λ c κs. search rules)
     (λ c. search rules)
     (λ c κs. search rules)
-    (match-item-returns-6 t)
-    (λ c κs. search rules)
-    (match-item-returns-7 t))
+    (match-item-returns-6 t))
     λ t. match-parts-lts.spec (parts-calls t)
     (match-parts-at t)
     match-parts.Post

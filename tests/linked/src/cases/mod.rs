@@ -1,6 +1,5 @@
 //! The calls of a seed: a run with the right claim, and what is wrong with it in one way after another.
 
-mod asked;
 mod base;
 mod labels;
 mod lists;
@@ -53,6 +52,5 @@ pub fn of_seed(seed: u64) -> Vec<Case> {
         _ => {}
     }
     cases.extend(stranded::cases(random, seed, &base, &cases));
-    cases.extend(asked::cases(random));
     cases
 }

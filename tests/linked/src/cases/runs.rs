@@ -50,7 +50,7 @@ impl<'c> Checked<'c> {
 }
 
 /// A run with exactly enough words, with one too few, with more and with some other number.
-pub fn with_rooms(random: &mut Random, claim: &Claim) -> Vec<Case> {
+fn with_rooms(random: &mut Random, claim: &Claim) -> Vec<Case> {
     let records = words::steps(claim.steps.lent());
     let exact = records.len() * ANSWER_WORDS;
     let more = exact + random.pick(&[1, 2, 19, 20, 21, 40, 100]);

@@ -114,7 +114,7 @@ fn entered_word(random: &mut Random, steps: &mut Vec<Step>) {
     if let Some(step) = any(random, steps, |step| step.kind == 1) {
         let place = random.below(step.value.len());
         let words = [
-            20, 63, 64, 65_536, 131_072, 196_608, 4_000_000, 4_000_016, 4_999_999, 5_000_020,
+            20, 63, 64, 65_536, 131_072, 196_608, 4_000_000, 4_000_016, 4_999_999,
         ];
         step.value[place] = another(random, step.value[place], &words);
     }

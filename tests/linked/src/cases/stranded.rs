@@ -113,7 +113,7 @@ fn any_side(random: &mut Random) -> u32 {
 }
 
 /// The question for both sides and for one that is not there.
-pub fn of_sides(random: &mut Random, sort: &'static str, claim: &Claim) -> Vec<Case> {
+fn of_sides(random: &mut Random, sort: &'static str, claim: &Claim) -> Vec<Case> {
     let none = random.pick(&NO_SIDES);
     let mut cases = with_rooms(random, sort, claim, 1);
     cases.extend(with_rooms(random, sort, claim, 2));

@@ -97,8 +97,7 @@ fn damaged(random: &mut Random, base: &Base) -> Vec<Case> {
 fn word_changed(random: &mut Random, right: &Claim) -> Case {
     let mut tables = right.tables.lent().to_vec();
     let place = random.below(tables.len());
-    let small = random.pick(&[0, 1, 2, 3, 5, 6, 7, 63, 64, 66]);
-    tables[place] = random.pick(&[small, small, small, 4_000_002, 5_000_020, u32::MAX]);
+    tables[place] = random.pick(&[0, 1, 2, 3, 5, 6, 7, 63, 64, 66, 4_000_002, u32::MAX]);
     let claim = right.with_tables(List::whole(tables));
     Case::check("a table word changed", claim)
 }

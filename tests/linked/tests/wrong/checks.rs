@@ -1,11 +1,10 @@
 //! Wrong checks of a maker's trace.
 
-use super::{reworded, Check};
+use super::Check;
 use linked::bench::{told_verdict, Tables};
 use reference::claims::{check, Verdict};
 use reference::steps::{Label, Step};
 use reference::tables::{load, LoadRefusal, Table};
-use reference::terms::WILDCARD_WORD;
 use reference::words::{self, BrokenOff, Record};
 
 type Steps = Vec<Result<Step, BrokenOff>>;
@@ -94,16 +93,8 @@ macro_rules! alike {
     };
 }
 
-pub const WRONG: [(&str, Check); 35] = [
+pub const WRONG: [(&str, Check); 33] = [
     wrong!("21 before 20", labels_first),
-    wrong!("an asked name takes anything", |t, s, l| {
-        let words = &reworded(t, |_| WILDCARD_WORD);
-        right(Tables { words, ..t }, s, l)
-    }),
-    wrong!("a pattern with an asked name refused", |t, s, l| {
-        let words = &reworded(t, |_| u32::MAX);
-        right(Tables { words, ..t }, s, l)
-    }),
     wrong!("20 one too far", |t, s, l| match right(t, s, l) {
         Verdict::Step(index) => Verdict::Step(index + 1),
         verdict => verdict,

@@ -11,7 +11,6 @@ use linked::call::Call;
 use linked::cases::of_seed;
 use linked::compare::compare;
 use linked::compare_seeds;
-use reference::terms::asked_name;
 
 /// So many seeds are compared with each wrong bench.
 const SEEDS: u64 = 24;
@@ -76,12 +75,6 @@ impl Bench for Stub {
     }
 }
 
-/// The words of tables with another word for each that asks for a name, by the name's number.
-fn reworded(tables: Tables, other: fn(u32) -> u32) -> Vec<u32> {
-    let word = |&word: &u32| asked_name(word).map_or(word, |name| other(name.word()));
-    tables.words.iter().map(word).collect()
-}
-
 /// The calls of one function.
 fn calls_of(function: &str) -> Vec<Call> {
     let calls = (0..SEEDS).flat_map(of_seed).map(|case| case.call);
@@ -117,9 +110,6 @@ fn nothing_is_found_in_a_right_bench() {
     assert!(tally.compared > 250 * SEEDS);
     assert_eq!(tally.different, 0);
     assert_eq!(tally.missing(), []);
-    for function in ["check_trace", "run", "stranded_after", "text"] {
-        assert!(tally.asking(function) > 2 * SEEDS, "{function}");
-    }
 }
 
 #[test]

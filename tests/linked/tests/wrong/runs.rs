@@ -1,20 +1,9 @@
 //! Wrong runs by words.
 
-use super::{reworded, Run};
+use super::Run;
 use linked::bench::{told_run, Bench, Separate, Tables};
 use reference::tables::load;
-use reference::terms::WILDCARD_WORD;
 use reference::words::{self, run_words, NoRun, ANSWER_WORDS};
-
-/// The run of tables with another word for each that asks for a name.
-macro_rules! reworded {
-    ($name:literal, $other:expr) => {
-        ($name, |tables, steps, out, numbers| {
-            let words = &reworded(tables, $other);
-            Separate.run(Tables { words, ..tables }, steps, out, numbers)
-        })
-    };
-}
 
 /// The right run, then something done to what it wrote.
 macro_rules! changed {
@@ -27,7 +16,7 @@ macro_rules! changed {
     };
 }
 
-pub const WRONG: [(&str, Run); 21] = [
+pub const WRONG: [(&str, Run); 18] = [
     changed!("the rest of out cleared", |result, out, numbers| {
         if result == 0 {
             out[numbers[0] * ANSWER_WORDS..].fill(0);
@@ -150,9 +139,6 @@ pub const WRONG: [(&str, Run); 21] = [
         |tables, steps, out, numbers| Separate.run(tables, &whole(steps), out, numbers),
     ),
     ("a run ends at a refusal", ends_at_refusal),
-    reworded!("an asked name takes anything", |_| WILDCARD_WORD),
-    reworded!("an asked name is bound", |name| name),
-    reworded!("a pattern with an asked name refused", |_| u32::MAX),
 ];
 
 /// The answers of a run that was done.

@@ -1,12 +1,12 @@
 //! Wrong questions for stranded positions.
 
 use super::runs::whole;
-use super::{reworded, Stranded};
+use super::Stranded;
 use linked::bench::{told_stranded, Bench, Separate, Tables};
 use reference::state::{Message, Stage, State, LOBBY_LIMIT};
 use reference::steps::Step;
 use reference::tables::load;
-use reference::terms::{Name, IN, MID, OUT, WILDCARD_WORD};
+use reference::terms::{Name, IN, MID, OUT};
 use reference::words::{self, NoList};
 
 /// The question as it is put together here, without an error.
@@ -76,16 +76,6 @@ macro_rules! made {
     };
 }
 
-/// The question about tables with another word for each that asks for a name.
-macro_rules! reworded {
-    ($name:literal, $other:expr) => {
-        ($name, |tables, steps, side, out, numbers| {
-            let words = &reworded(tables, $other);
-            Separate.stranded_after(Tables { words, ..tables }, steps, side, out, numbers)
-        })
-    };
-}
-
 /// The right question, then something done to what it wrote.
 macro_rules! changed {
     ($name:literal, $change:expr) => {
@@ -97,9 +87,7 @@ macro_rules! changed {
     };
 }
 
-pub const WRONG: [(&str, Stranded); 43] = [
-    reworded!("an asked name takes anything", |_| WILDCARD_WORD),
-    reworded!("a pattern with an asked name refused", |_| u32::MAX),
+pub const WRONG: [(&str, Stranded); 41] = [
     positions!("largest first", |state, side| {
         let positions = state.stranded(side);
         positions.into_iter().rev().collect()

@@ -24,7 +24,7 @@ returns c =
     let o = side_of a.words.now a.o a.left.now in
     let core = sym c.before.before.before.before.before.before.core_ok.ensures ∙ c.before.before.before.before.before.if1.true in
     let left = sym c.before.before.before.before.left-ok.ensures ∙ c.before.before.before.if2.true in
-    let marks = ap (λ (b : Bool). every_from (taken_at b a.shelved.now) 0 a.o.taken) c.before.before.takes_any_lem.ensures in
+    let marks = ap (λ (b : Bool). every_from (taken_at b a.shelved.now) 0 a.o.taken) c.before.before.takes-any.ensures in
     side_fits_lem s k a.shelved.now o core x.requires.3 _ left (places x) (c.taken-ok.ensures ∙ marks)
 
 returns-2 : tie.Need-returns-2
