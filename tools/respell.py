@@ -1,7 +1,7 @@
 #!/usr/bin/env python3
 """Brings the repository's own names in specs/ and proofs/ to today's spelling: words in snake case.
 
-usage: python3 tools/respell.py [--names] [ROOT]      once, behind /opt/rattle/port/port.py, in the repository (or in ROOT)
+usage: python3 tools/respell.py [--names] [ROOT]      once, behind the kit's port.py, in the repository (or in ROOT)
 
 Two kinds of names are turned, wherever they stand in crates/ (definitions, proofs, clauses, must-fail edits), in tests/edits, in README.md and in docs/:
   - a name in camel case that begins with a small letter: isMinted becomes is_minted;
@@ -10,7 +10,7 @@ Two kinds of names are turned, wherever they stand in crates/ (definitions, proo
     that gets it, the lemma's name ends in _lem: has-side becomes has_side_lem, since hasSide becomes has_side. So do the lemmas of LEMMAS, whose
     dash port.py has turned already.
 Types, modules and the functions of src/ keep their names, and so do the goals that the check names (in the folders of proofs/ that hold a function's proof).
-With --names nothing is written: the names are printed, old and new.
+A name that the library has too, and that some file here takes from there, stays. With --names nothing is written: the names are printed, old and new.
 """
 
 import os
@@ -54,9 +54,13 @@ def turned(name):
 
 def own_names(root):
     """The repository's own names that change, with their new spelling, and those that stay or that port.py has turned."""
-    found, taken = {}, set()
+    found, taken, others = {}, set(), set()
+    crates = "|".join(os.listdir(os.path.join(root, "crates")))
     for path in files(root, "crates", (".antt",)):
         text = COMMENT.sub("", read(path))
+        for module, names in IMPORT.findall(text):
+            if not re.match(rf"Rattle\.({crates})\.", module):
+                others |= set(TOKEN.findall(names))
         if not of_a_function(path):
             for name in DEFINED.findall(text):
                 if TOKEN.fullmatch(name) and turned(name) != name:
@@ -66,6 +70,7 @@ def own_names(root):
         for name in TOKEN.findall(text):
             if CAMEL.match(name) and "-" not in name:
                 found[name] = turned(name)
+    found = {name: new for name, new in found.items() if name not in others}
     taken |= {new for name, new in found.items() if "-" not in name}
     return {name: new + "_lem" if "-" in name and new in taken else new for name, new in found.items()}, taken
 
@@ -80,7 +85,7 @@ def spans(line, words):
 
 
 def replaced(text, names, within):
-    """The text with the names turned: everywhere but in paths and strings, or, with names that are taken already, only between backquotes."""
+    """The text with the names turned: everywhere but in strings, or, with names that are taken already, only between backquotes."""
     def words(part):
         return TOKEN.sub(lambda m: names.get(m.group(0), m.group(0)), part)
 
@@ -90,9 +95,9 @@ def replaced(text, names, within):
 
         return "".join(spans(line, known) for line in text.splitlines(keepends=True))
     done, at = "", 0
-    for path in KEPT.finditer(text):
-        done += words(text[at:path.start()]) + path.group(0)
-        at = path.end()
+    for kept in STRING.finditer(text):
+        done += words(text[at:kept.start()]) + kept.group(0)
+        at = kept.end()
     return done + words(text[at:])
 
 
@@ -102,7 +107,8 @@ def lemmas_turned(text):
 
 
 COMMENT = re.compile(r"(?<![\w:])(--|//).*")
-KEPT = re.compile(r"Rattle\.\w+\.(?:specs|proofs)\.[\w.+]*|\"[^\"\n]*\"")
+STRING = re.compile(r'"[^"\n]*"')
+IMPORT = re.compile(r"(?m)^use (\S+)\.\{([^}]*)\}")
 PATH = re.compile(r"Rattle\.\w+\.(specs|proofs)\.[\w.+]*")
 
 

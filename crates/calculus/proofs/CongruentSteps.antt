@@ -15,7 +15,7 @@ use Rattle.calculus.proofs.Renaming.{ren_ren, ren_id, ren_agree, AllN-map, AllV-
 use Rattle.calculus.proofs.Extrusion.{cong_ren, swap_under, Fresh, bound_fresh, extrude_par, extrude_box, in_news, news_par}
 use Rattle.calculus.proofs.Inversion.{InpInv, ParInv, left, right, comm_l, comm_r, BoxInv, rise, enter, inside, NewInv, keep, free, invert, after}
 use Rattle.calculus.proofs.Parallels.{beyond_out, fresh_all, apart, recv_of, T_true}
-use Rattle.calculus.proofs.FreeNames.{cong_fn, or_cases, or_left, or_right, or_false_r, no_T, eqb_sym, eqb_true, AllV-names, step_fn, step_source, movable_in}
+use Rattle.calculus.proofs.FreeNames.{cong_fn, or_cases, or_left, or_right, or_false_r, no_T, eqb_sym, eqb-true, AllV-names, step_fn, step_source, movable_in}
 use Rattle.calculus.proofs.Swaps.{new_swap, Off}
 use Rattle.calculus.proofs.KnownNames.{fn_more, or_false_l, or_both, bool_no, out_left, out_right, in_more, fresh, opened_fn, beyond_agree, beyond_skip, send_names, data_of, strengthen}
 use Rattle.calculus.proofs.KnownNames.{known_swap, or_flip, weaken, weaken_recv, recv_asked, Asked}
@@ -187,10 +187,10 @@ join_in {M} A (y ∷ L) x P e h = go (mem y A) refl (eqb y x) refl (or_cases (eq
         → (T (mem x L) → restrict (beyond A L) P ≋ new (closed x (restrict (beyond (x ∷ A) L) P)))
         → (Out∉ (y ∷ A) x → T (mem x L) → restrict (beyond (y ∷ A) L) P ≋ new (closed x (restrict (beyond (x ∷ y ∷ A) L) P)))
         → restrict (cond a (beyond A L) (y ∷ beyond (y ∷ A) L)) P ≋ new (closed x (restrict (cond (b || a) (beyond (x ∷ A) L) (y ∷ beyond (y ∷ x ∷ A) L)) P))
-    go true p true q c f g = absurd (no_T (mem x A) e (subst (λ z. In A z) (eqb_true q) (subst (λ t. T t) (sym p) tt)))
+    go true p true q c f g = absurd (no_T (mem x A) e (subst (λ z. In A z) (eqb-true q) (subst (λ t. T t) (sym p) tt)))
     go true p false q (inl h) f g = absurd (no_T (eqb y x) q (subst (λ t. T t) (eqb_sym x y) h))
     go true p false q (inr h) f g = f h
-    go false p true q c f g = subst (λ z. new (closed z (restrict (beyond (z ∷ A) L) P)) ≋ new (closed x (restrict (beyond (x ∷ A) L) P))) (sym (eqb_true q)) rfl
+    go false p true q c f g = subst (λ z. new (closed z (restrict (beyond (z ∷ A) L) P)) ≋ new (closed x (restrict (beyond (x ∷ A) L) P))) (sym (eqb-true q)) rfl
     go false p false q (inl h) f g = absurd (no_T (eqb y x) q (subst (λ t. T t) (eqb_sym x y) h))
     go false p false q (inr h) f g =
         trans (in_new (cong_ren {r = var ∷ []} (g (or_both (eqb x y) (mem x A) (eqb_sym x y ∙ q) e) h) (the_bound y)))

@@ -13,7 +13,7 @@ use Rattle.calculus.specs.Purity.{EachLabel}
 use Rattle.calculus.specs.NewNames.{heard_on, sent_on, all_names, NewNameDirectional, KnownNameDirectional}
 use Rattle.calculus.proofs.Renaming.{AllN-map}
 use Rattle.calculus.proofs.Parallels.{apart, T_true}
-use Rattle.calculus.proofs.FreeNames.{no_T, eqb_true, eqb_sym, or_cases, or_left, or_right, or_false_r, mem_cases, mem_left, mem_right, step_source}
+use Rattle.calculus.proofs.FreeNames.{no_T, eqb-true, eqb_sym, or_cases, or_left, or_right, or_false_r, mem_cases, mem_left, mem_right, step_source}
 use Rattle.calculus.proofs.Members.{SameMembers, step_members}
 use Rattle.calculus.proofs.KnownNames.{bool_no, bool_same, out_left, out_right, in_more, weaken_recv}
 use Rattle.calculus.proofs.Walls.{Level, low, high, Role, own, inlet, outlet, other, Guest, Guard, given, given_off, given_on, Walled, walled_agree, Speaks, Told, keeps_all, each_map}
@@ -146,7 +146,7 @@ module _ (x : ℕ) where
       low_only e = cases (λ ρ. ρ ≡ outlet h.0 → h.0 ≡ low) y (λ k. cc) (λ n k. let q : outlet low ≡ outlet h.0 = sym (ap sided e) ∙ k in cc) h.1.0
 
       go : (b : Bool) → eqb y (env_out 1) ≡ b → Out∉ (cond b (names v) []) x
-      go true e = bool_no (mem x (names v)) (λ k. subst (Guest low) (given_on x (other high) sided x (T_true (eqb x x) (eqb_refl x))) (subst (λ c. Guest c (followed x)) (low_only (eqb_true e)) (h.2 x k)))
+      go true e = bool_no (mem x (names v)) (λ k. subst (Guest low) (given_on x (other high) sided x (T_true (eqb x x) (eqb_refl x))) (subst (λ c. Guest c (followed x)) (low_only (eqb-true e)) (h.2 x k)))
       go false e = refl
   low_sent (send y (plain (child n)) v) h = refl
   low_sent (send y received_parent v) h = refl

@@ -18,7 +18,7 @@ use Rattle.calculus.specs.Purity.{EachLabel}
 use Rattle.calculus.proofs.Renaming.{AllN-map, AllV-map, AllT-map, AllV-ren, AllV-map2, AllN-map2}
 use Rattle.calculus.proofs.Extrusion.{bound_fresh}
 use Rattle.calculus.proofs.Parallels.{Each, each-names, beyond_out, apart, T_true}
-use Rattle.calculus.proofs.FreeNames.{AllV-unren, AllN-unren, cong_fn, AllV-sub, AllN-sub, the_name_in, Parts, match-in, eqb_true, eqb_sym, or_cases, or_left, or_right, mem_left, mem_right}
+use Rattle.calculus.proofs.FreeNames.{AllV-unren, AllN-unren, cong_fn, AllV-sub, AllN-sub, the_name_in, Parts, match-in, eqb-true, eqb_sym, or_cases, or_left, or_right, mem_left, mem_right}
 use Rattle.calculus.proofs.FreeNames.{no_T, or_false_r, AllV-names, step_fn, step_source}
 use Rattle.calculus.proofs.KnownNames.{or_false_l, out_right, each_mem, in_more, AllT-names, send_names, strengthen}
 
@@ -268,7 +268,7 @@ given_other : (x : ℕ) (r : ℕ → Role) → r x ≡ other low → given x (ot
 given_other x r h = fun_ext (λ y. go y (eqb x y) refl)
   where
     go : (y : ℕ) (b : Bool) → eqb x y ≡ b → given x (other low) r y ≡ r y
-    go y true e = given_on x (other low) r y e ∙ sym h ∙ ap r (eqb_true e)
+    go y true e = given_on x (other low) r y e ∙ sym h ∙ ap r (eqb-true e)
     go y false e = given_off x (other low) r y e
 
 pub given_guard : (A : List ℕ) (x : ℕ) (a : Role) (r : ℕ → Role) → Guard A r → Guard (x ∷ A) (given x a r)

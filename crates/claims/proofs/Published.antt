@@ -1,7 +1,7 @@
 -- An accepted claim in the published calculus: the labels of its steps, by what the checker shows of the answers.
 use mathlib.Core.Path.{◌≡◌, refl, sym, ap, subst, ◌∙◌}
 use mathlib.Core.Bool.{Bool, true, false, false≢true}
-use mathlib.Core.List.{List, [], ◌∷◌, ◌++◌, append_assoc, append_nil}
+use mathlib.Core.List.{List, [], ◌∷◌, ◌++◌, append_assoc, append-nil}
 use mathlib.Core.Logic.{inr}
 use Prim.Native.Nat.{ℕ}
 use native.Mathlib.Omega.{arith}
@@ -59,7 +59,7 @@ joined_append (r ∷ x) y = ap (λ (l : List ℕ). r ++ l) (joined_append x y) �
 
 -- the one record of a value that is known by its words
 one_record : (c n : ℕ) (ws : List ℕ) (v : Val ℕ) (cs : List ℕ) → ws ≡ vwords v → record_of c n v ++ cs ≡ joined ((c ∷ n ∷ length ws ∷ ws) ∷ []) ++ cs
-one_record c n ws v cs e = ap (λ (l : List ℕ). (c ∷ n ∷ length l ∷ l) ++ cs) (sym e) ∙ ap (λ (l : List ℕ). l ++ cs) (sym (append_nil (c ∷ n ∷ length ws ∷ ws)))
+one_record c n ws v cs e = ap (λ (l : List ℕ). (c ∷ n ∷ length l ∷ l) ++ cs) (sym e) ∙ ap (λ (l : List ℕ). l ++ cs) (sym (append-nil (c ∷ n ∷ length ws ∷ ws)))
 
 -- one more label
 shows_more : {w : Wrapper} {a : Answer} {l : Label} {ls : List Label} {cs : List ℕ} → Says w a l → has_side w (answer_side a) ≡ true → Shows w ls cs → Shows w (l ∷ ls) (joined (visible a) ++ cs)

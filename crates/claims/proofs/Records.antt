@@ -5,7 +5,7 @@ use mathlib.Core.List.{List, [], ◌∷◌, ◌++◌}
 use Prim.Native.Nat.{ℕ, zero, suc, ◌+◌, ◌-◌, ◌<◌, ◌≤◌}
 use native.Mathlib.Nat.{add-zero}
 use native.Mathlib.Omega.{arith}
-use borrow.Author.Tests.{leb-true, leb-false, le-leb, lt-leb, eqb_true, eq-eqb}
+use borrow.Author.Tests.{leb-true, leb-false, le-leb, lt-leb, eqb-true, eq-eqb}
 use lib.Dec.{eqb, leb}
 use lib.ListN.{length, get_or, take, drop, length-drop, length-append, take-append-drop, get_or-append, drop_of_length-le}
 use lib.Seq.{length-take-le, drop-nil, get_or-take, get_or-drop, drop-drop, take-take, take-add, drop_at, take-append_seam, drop-append_seam}
@@ -69,7 +69,7 @@ module _ (b : ℕ) where
   -- a record at the front of a list is its first
   pub record_front : (r rest : List ℕ) → is_record b r ≡ true → records_past b (r ++ rest) 0 ≡ next r (records_past b rest 0)
   record_front r rest h =
-      let whole = eqb_true (asks b r) (length r) h in
+      let whole = eqb-true (asks b r) (length r) h in
       let count : asks b (r ++ rest) ≡ length r = ap (λ (c : ℕ). b + 1 + c) (get_or-append r rest 0 b (omega arith)) ∙ whole in
       front_next b (r ++ rest) (omega (arith, count, length-append r rest))
       ∙ ap (λ (n : ℕ). next (take n (r ++ rest)) (records_past b (drop n (r ++ rest)) 0)) count
@@ -161,7 +161,7 @@ same_words_lem [] [] e = refl
 same_words_lem [] (w ∷ ws) e = absurd (false≢true e)
 same_words_lem (v ∷ vs) [] e = absurd (false≢true e)
 same_words_lem (v ∷ vs) (w ∷ ws) e =
-    let front = eqb_true v w (fst _ _ e) in
+    let front = eqb-true v w (fst _ _ e) in
     let rest = same_words_lem vs ws (snd _ _ e) in
     rw (front, rest)
 

@@ -7,7 +7,7 @@ use mathlib.Core.Option.{some}
 use Prim.Native.Nat.{ℕ, ◌+◌}
 use native.Mathlib.Nat.{add-zero}
 use native.Mathlib.Omega.{arith}
-use borrow.Author.Tests.{eqb_true, eq-eqb}
+use borrow.Author.Tests.{eqb-true, eq-eqb}
 use lib.ListN.{length}
 use lib.Seq.{take_all, take-length}
 use Rattle.model.specs.Basics.{choose, every}
@@ -31,15 +31,15 @@ step_of_words x = ap (λ (v : List ℕ). record { kind = x.kind; side = x.side; 
 
 record_step : (r : List ℕ) → is_record 4 r ≡ true → r ≡ step_words (step_at r 0)
 record_step (k ∷ n ∷ i ∷ j ∷ c ∷ ws) h =
-    let many = eqb_true (asks 4 (k ∷ n ∷ i ∷ j ∷ c ∷ ws)) (length (k ∷ n ∷ i ∷ j ∷ c ∷ ws)) h in
+    let many = eqb-true (asks 4 (k ∷ n ∷ i ∷ j ∷ c ∷ ws)) (length (k ∷ n ∷ i ∷ j ∷ c ∷ ws)) h in
     let count : c ≡ length ws = omega arith in
     let value = take_all c ws (omega arith) in
     rw (value, count) refl
-record_step [] h = absurd (omega (arith, eqb_true (asks 4 []) 0 h))
-record_step (k ∷ []) h = absurd (omega (arith, eqb_true (asks 4 (k ∷ [])) 1 h))
-record_step (k ∷ n ∷ []) h = absurd (omega (arith, eqb_true (asks 4 (k ∷ n ∷ [])) 2 h))
-record_step (k ∷ n ∷ i ∷ []) h = absurd (omega (arith, eqb_true (asks 4 (k ∷ n ∷ i ∷ [])) 3 h))
-record_step (k ∷ n ∷ i ∷ j ∷ []) h = absurd (omega (arith, eqb_true (asks 4 (k ∷ n ∷ i ∷ j ∷ [])) 4 h))
+record_step [] h = absurd (omega (arith, eqb-true (asks 4 []) 0 h))
+record_step (k ∷ []) h = absurd (omega (arith, eqb-true (asks 4 (k ∷ [])) 1 h))
+record_step (k ∷ n ∷ []) h = absurd (omega (arith, eqb-true (asks 4 (k ∷ n ∷ [])) 2 h))
+record_step (k ∷ n ∷ i ∷ []) h = absurd (omega (arith, eqb-true (asks 4 (k ∷ n ∷ i ∷ [])) 3 h))
+record_step (k ∷ n ∷ i ∷ j ∷ []) h = absurd (omega (arith, eqb-true (asks 4 (k ∷ n ∷ i ∷ j ∷ [])) 4 h))
 
 -- the first record of a list is a step's words
 first_step : (ws r : List ℕ) (rs : Records) → (m : First 4 ws r rs) → ws ≡ step_words (step_at r 0) ++ m.behind

@@ -1,7 +1,7 @@
 -- The checker's verdict is the one that holds: one always holds, and the one that holds is what the checker says.
 use mathlib.Core.Path.{◌≡◌, refl, sym, ap, subst, ◌∙◌}
 use mathlib.Core.Bool.{true}
-use mathlib.Core.List.{List, [], ◌++◌, append_nil}
+use mathlib.Core.List.{List, [], ◌++◌, append-nil}
 use mathlib.Core.Logic.{◌⊎◌, inl, inr}
 use mathlib.Core.Option.{Option, none, some}
 use Prim.Native.Nat.{ℕ, ◌≤◌}
@@ -36,7 +36,7 @@ module _ (b : Composition) (ws ls : List ℕ) where
   none_faulty : (xs : List Step) (h : Legal b xs) → ws ≡ all_step_words xs → step_fault b h.state 0 (step_records ws) ≡ none
   unfolding step_fault
   none_faulty xs h q =
-      ap (λ (l : List ℕ). step_fault b h.state 0 (step_records l)) (q ∙ sym (append_nil (all_step_words xs)))
+      ap (λ (l : List ℕ). step_fault b h.state 0 (step_records l)) (q ∙ sym (append-nil (all_step_words xs)))
       ∙ fault_over b h.state 0 xs [] h.legal
       ∙ ap (step_fault b (after_all b h.state xs) _) (front_end 4 [] refl)
 
@@ -58,7 +58,7 @@ module _ (b : Composition) (ws ls : List ℕ) where
   says_accepted h =
       let trace = labels_of h.runs in
       says h.runs.loads (none_faulty h.steps h.runs h.words)
-      (labels_past h.steps h.runs h.words trace [] [] (sym (append_nil trace)) (h.labels ∙ sym (append_nil (joined trace))) ∙ ap (label_fault (length trace) []) (front_end 2 [] refl))
+      (labels_past h.steps h.runs h.words trace [] [] (sym (append-nil trace)) (h.labels ∙ sym (append-nil (joined trace))) ∙ ap (label_fault (length trace) []) (front_end 2 [] refl))
 
   says_step : (k : ℕ) → StepFaulty b ws k → check_trace b ws ls ≡ step_at_fault k
   says_step k h =
@@ -97,10 +97,10 @@ module _ (b : Composition) (ws ls : List ℕ) where
       by (inl z) = record { verdict = accepted; means = record { steps = xs; runs = h; words = q; labels = whole } }
         where
           same : labels_of h ≡ m.same
-          same = m.comes ∙ ap (λ (l : List (List ℕ)). m.same ++ l) z.0 ∙ append_nil m.same
+          same = m.comes ∙ ap (λ (l : List (List ℕ)). m.same ++ l) z.0 ∙ append-nil m.same
 
           whole : ls ≡ joined (labels_of h)
-          whole = m.claimed ∙ ap (λ (l : List ℕ). joined m.same ++ l) z.1 ∙ append_nil (joined m.same) ∙ ap joined (sym same)
+          whole = m.claimed ∙ ap (λ (l : List ℕ). joined m.same ++ l) z.1 ∙ append-nil (joined m.same) ∙ ap joined (sym same)
       by (inr z) = record {
         verdict = label_at_fault (length m.same);
         means = record {
@@ -126,7 +126,7 @@ module _ (b : Composition) (ws ls : List ℕ) where
       runs = record { state = s; loads = q; legal = m.legal }
 
       by : (m.rest ≡ []) ⊎ NoLegal b (after_all b s m.steps) m.rest → Holds
-      by (inl z) = by_labels m.steps runs (m.words ∙ ap (λ (l : List ℕ). all_step_words m.steps ++ l) z ∙ append_nil (all_step_words m.steps)) (parting (labels_of runs) ls)
+      by (inl z) = by_labels m.steps runs (m.words ∙ ap (λ (l : List ℕ). all_step_words m.steps ++ l) z ∙ append-nil (all_step_words m.steps)) (parting (labels_of runs) ls)
       by (inr z) = record {
         verdict = step_at_fault (length m.steps);
         means = record { steps = m.steps; many = refl; runs = runs; rest = m.rest; words = m.words; more = z.more; illegal = z.illegal };

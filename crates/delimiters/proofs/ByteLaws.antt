@@ -3,7 +3,7 @@ use mathlib.Core.Path.{◌≡◌, refl}
 use mathlib.Core.Bool.{Bool, true}
 use Prim.Native.Nat.{ℕ, zero, suc, ◌+◌, ◌<◌, ◌≤◌}
 use native.Mathlib.Omega.{arith}
-use borrow.Author.Tests.{eqb_true}
+use borrow.Author.Tests.{eqb-true}
 use lib.Dec.{eqb}
 use lib.Bits.{bit_and, bit_xor, and_le_r}
 use Rattle.model.specs.Basics.{◌&◌, choose, ◌or◌}
@@ -32,4 +32,4 @@ below p (suc n) (suc k) e h = below (λ m. p (suc m)) n k (snd _ _ e) (omega ari
 -- all 256 bytes, one by one
 pub byte_test_lem : (b : ℕ) → b < 256 → byte_test b ≡ flag b
 unfolding all_below ◌&◌ flag is_delimiter choose ◌or◌
-byte_test_lem b h = eqb_true _ _ (below (λ (n : ℕ). eqb (byte_test n) (flag n)) 256 b refl h)
+byte_test_lem b h = eqb-true _ _ (below (λ (n : ℕ). eqb (byte_test n) (flag n)) 256 b refl h)

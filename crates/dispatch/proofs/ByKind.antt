@@ -4,7 +4,7 @@ use mathlib.Core.Bool.{Bool, true, false}
 use mathlib.Core.List.{List, [], ◌∷◌}
 use Prim.Native.Nat.{ℕ, ◌+◌, ◌≤◌}
 use native.Mathlib.Omega.{arith}
-use borrow.Author.Tests.{eq-eqb, ne_eqb, eqb_true, eqb-false}
+use borrow.Author.Tests.{eq-eqb, ne_eqb, eqb-true, eqb-false}
 use lib.Dec.{eqb}
 use lib.ListN.{length, take}
 use lib.Seq.{take_all}
@@ -121,7 +121,7 @@ module _ (c : Setting) (s : Core) (k i j : ℕ) where
     where
       go : (z : Bool) → eqb j 0 ≡ z → settled (two_places c s k i j) ≡ refuse 10
       go true e =
-          let zero-j = eqb_true j 0 e in
+          let zero-j = eqb-true j 0 e in
           let off : (x : ℕ) → 2 ≤ x → x ≤ 7 → k ≡ x → ⊥ = λ x p q z. h (subst (λ (y : ℕ). 2 ≤ y) (sym z) p, subst (λ (y : ℕ). y ≤ 7) (sym z) q, zero-j) in
           two_ones a b zero-j ∙
           one_none c c.wrapper.copies s k i (off 2 (omega arith) (omega arith)) (off 3 (omega arith) (omega arith)) (off 6 (omega arith) (omega arith)) (off 7 (omega arith) (omega arith))
@@ -156,11 +156,11 @@ module _ (c : Setting) (known : ℕ → Bool) (sh : ℕ → List (List ℕ)) (s 
   enter_off e = rw (unused (eqb i 0) refl)
     where
       second : i ≡ 0 → (y : Bool) → eqb j 0 ≡ y → eqb j 0 ≡ false
-      second z true q = absurd (e (z, eqb_true j 0 q))
+      second z true q = absurd (e (z, eqb-true j 0 q))
       second z false q = q
 
       unused : (x : Bool) → eqb i 0 ≡ x → eqb i 0 & eqb j 0 ≡ false
-      unused true q = no_right _ _ (second (eqb_true i 0 q) (eqb j 0) refl)
+      unused true q = no_right _ _ (second (eqb-true i 0 q) (eqb j 0) refl)
       unused false q = no_left _ _ q
 
   module _ (k : ℕ) (a : k ≡ 1 → ⊥) (b : k ≡ 8 → ⊥) where

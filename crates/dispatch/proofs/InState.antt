@@ -4,10 +4,10 @@ use mathlib.Core.Bool.{Bool, true, false, false≢true}
 use mathlib.Core.List.{List, []}
 use Prim.Native.Nat.{ℕ, ◌+◌, ◌-◌, ◌<◌, ◌≤◌}
 use native.Mathlib.Omega.{arith}
-use borrow.Author.Tests.{eqb_true, eqb-false}
+use borrow.Author.Tests.{eqb-true, eqb-false}
 use lib.Dec.{eqb}
 use lib.ListN.{length, get_or, set, length-set}
-use lib.Seq.{get_or-set_same, get_or_set_other}
+use lib.Seq.{get_or-set_same, get_or-set_other}
 use Rattle.model.specs.Basics.{◌&◌, Res, refuse, done}
 use Rattle.model.specs.Table.{Table}
 use Rattle.model.specs.Side.{Side, State, side, put_side}
@@ -165,18 +165,18 @@ module _ (w : ℕ) (ns ps : List (List ℕ)) (ls : List (List ℕ)) (os : List R
 
           long_at_lem : (k : ℕ) → k < length all_sides → (t : Bool) → eqb k (n - 1) ≡ t → length (get_or (set ls (n - 1) is.words) k []) ≡ 5184
           long_at_lem k a true z =
-              let q : k ≡ n - 1 = eqb_true k (n - 1) z in
+              let q : k ≡ n - 1 = eqb-true k (n - 1) z in
               ap (λ (j : ℕ). length (get_or (set ls (n - 1) is.words) j [])) q ∙ ap length (get_or-set_same ls (n - 1) is.words [] (in_words (n - 1) place)) ∙
               step_length move l o is.words r is.step ∙ lent.long (n - 1) place
-          long_at_lem k a false z = ap length (get_or_set_other ls (n - 1) k is.words [] (eqb-false k (n - 1) z)) ∙ lent.long k a
+          long_at_lem k a false z = ap length (get_or-set_other ls (n - 1) k is.words [] (eqb-false k (n - 1) z)) ∙ lent.long k a
 
           fits_at_lem : (k : ℕ) (q : Rest) → k < length all_sides → (t : Bool) → eqb k (n - 1) ≡ t → fits_side (get_or (set ls (n - 1) is.words) k []) (get_or (set os (n - 1) r.rest) k q) ≡ true
           fits_at_lem k q a true z =
-              let y : k ≡ n - 1 = eqb_true k (n - 1) z in
+              let y : k ≡ n - 1 = eqb-true k (n - 1) z in
               ap (λ (j : ℕ). fits_side (get_or (set ls (n - 1) is.words) j []) (get_or (set os (n - 1) r.rest) j q)) y ∙
               ap (λ (v : List ℕ). fits_side v (get_or (set os (n - 1) r.rest) (n - 1) q)) (get_or-set_same ls (n - 1) is.words [] (in_words (n - 1) place)) ∙
               ap (fits_side is.words) (get_or-set_same os (n - 1) r.rest q (omega (arith, lent.rests, place))) ∙
               step_fits move l o is.words r (lent.fits (n - 1) d place) is.step
           fits_at_lem k q a false z =
-              ap (λ (v : List ℕ). fits_side v (get_or (set os (n - 1) r.rest) k q)) (get_or_set_other ls (n - 1) k is.words [] (eqb-false k (n - 1) z)) ∙
-              ap (fits_side (get_or ls k [])) (get_or_set_other os (n - 1) k r.rest q (eqb-false k (n - 1) z)) ∙ lent.fits k q a
+              ap (λ (v : List ℕ). fits_side v (get_or (set os (n - 1) r.rest) k q)) (get_or-set_other ls (n - 1) k is.words [] (eqb-false k (n - 1) z)) ∙
+              ap (fits_side (get_or ls k [])) (get_or-set_other os (n - 1) k r.rest q (eqb-false k (n - 1) z)) ∙ lent.fits k q a

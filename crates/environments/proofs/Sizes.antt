@@ -6,10 +6,10 @@ use Prim.Native.Nat.{ℕ, ◌+◌, ◌<◌, ◌≤◌}
 use native.Mathlib.Nat.{add_assoc, zero-add, add-zero}
 use native.Mathlib.Numerals.{add-one}
 use native.Mathlib.Omega.{arith}
-use borrow.Author.Tests.{lt-ltb, le-ltb, le-leb, lt-leb, leb-true, eqb_true, eqb-false}
+use borrow.Author.Tests.{lt-ltb, le-ltb, le-leb, lt-leb, leb-true, eqb-true, eqb-false}
 use lib.Dec.{ltb, eqb}
 use lib.ListN.{length, get_or, set, take, drop, length-set, length-append, take-append-drop}
-use lib.Seq.{take-suc, take_all, get_or-set_same, get_or_set_other}
+use lib.Seq.{take-suc, take_all, get_or-set_same, get_or-set_other}
 use Rattle.model.specs.Basics.{◌or◌}
 use Rattle.model.specs.Values.{Env, is_public, value, extend, substitute}
 use Rattle.model.specs.Table.{Term, nil, par, box, new, out, inp}
@@ -69,8 +69,8 @@ agrees_new ρ ts x a = record {
 }
   where
     go : (n : ℕ) → n ≤ 63 → (b : Bool) → eqb x n ≡ b → get_or (set ts x 1) n 0 ≡ length (cond b (0 ∷ []) (value ρ n))
-    go n h true e = let q : x ≡ n = eqb_true x n e in rw q (get_or-set_same ts n 1 0 (omega (arith, a.full)))
-    go n h false e = get_or_set_other ts x n 1 0 (λ q. eqb-false x n e (sym q)) ∙ a.same n h
+    go n h true e = let q : x ≡ n = eqb-true x n e in rw q (get_or-set_same ts n 1 0 (omega (arith, a.full)))
+    go n h false e = get_or-set_other ts x n 1 0 (λ q. eqb-false x n e (sym q)) ∙ a.same n h
 
 size_is : (ρ : Env) (ts : List ℕ) → Agrees ρ ts → (v : List ℕ) → length (substitute ρ v) ≡ size_by ts v
 unfolding size_by

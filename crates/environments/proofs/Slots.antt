@@ -5,10 +5,10 @@ use mathlib.Core.List.{List, [], ◌∷◌}
 use Prim.Native.Nat.{ℕ, ◌+◌, ◌*◌, ◌<◌, ◌≤◌}
 use native.Mathlib.Numerals.{add-one}
 use native.Mathlib.Omega.{arith}
-use borrow.Author.Tests.{lt-ltb, le-ltb, ltb-true, ltb-false, le-leb, lt-leb, eqb_true, eqb-false}
+use borrow.Author.Tests.{lt-ltb, le-ltb, ltb-true, ltb-false, le-leb, lt-leb, eqb-true, eqb-false}
 use lib.Dec.{leb, ltb, eqb}
 use lib.ListN.{length, get_or, set, take, drop, length-map, length-take, length-drop}
-use lib.Seq.{length-take-le, get_or-take, get_or-drop, get_or-set_same, get_or_set_other}
+use lib.Seq.{length-take-le, get_or-take, get_or-drop, get_or-set_same, get_or-set_other}
 use Rattle.model.specs.Values.{value}
 use Rattle.model.proofs.Basics.Environments.{Sized}
 use Rattle.values.specs.Env.{tuple_of}
@@ -94,9 +94,9 @@ module _ {A : Type 0} (f : List ℕ → A) (d : A) (e : List ℕ) (n : ℕ) wher
     where
       go : (b : Bool) → eqb (get_or e k 0) m ≡ b → get_or (set ts (get_or e k 0) (f (placed e k))) m d ≡ f (slot_value e n m (cond (eqb (get_or e k 0) m) k (last_of e k m n)))
       go true z =
-          let s : get_or e k 0 ≡ m = eqb_true (get_or e k 0) m z in
+          let s : get_or e k 0 ≡ m = eqb-true (get_or e k 0) m z in
           rw (z, s, lt-ltb k n h) (get_or-set_same ts m (f (placed e k)) d (omega arith))
-      go false z = rw z (get_or_set_other ts (get_or e k 0) m (f (placed e k)) d (λ s. eqb-false (get_or e k 0) m z (sym s)) ∙ p m l)
+      go false z = rw z (get_or-set_other ts (get_or e k 0) m (f (placed e k)) d (λ s. eqb-false (get_or e k 0) m z (sym s)) ∙ p m l)
 
   -- behind the last slot each entry is f of what the name stands for
   pub names_all : Fits e n → (ts : List A) → ByNames n ts → (m : ℕ) → m < 64 → get_or ts m d ≡ f (value (env_of e n) m)

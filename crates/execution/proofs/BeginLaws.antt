@@ -4,10 +4,10 @@ use mathlib.Core.Bool.{Bool, true, false, cond}
 use mathlib.Core.List.{List, [], ◌∷◌, map}
 use Prim.Native.Nat.{ℕ, ◌+◌, ◌*◌, ◌<◌, ◌≤◌}
 use native.Mathlib.Omega.{arith}
-use borrow.Author.Tests.{eqb_true, eqb-false}
+use borrow.Author.Tests.{eqb-true, eqb-false}
 use lib.Dec.{eqb}
 use lib.ListN.{length, get_or, set, replicate, length-set, length-map, length-replicate, get_or-replicate}
-use lib.Seq.{get_or-set_same, get_or_set_other, ext_get_or}
+use lib.Seq.{get_or-set_same, get_or-set_other, ext_get_or}
 use Rattle.model.specs.Table.{Table}
 use Rattle.model.specs.Side.{Contents, Core, Side, no_side, start_side}
 use Rattle.model.specs.Wrapper.{Wrapper, all_sides, described, has_side}
@@ -103,8 +103,8 @@ begins_more b k ls os hs h lt l r is =
     here_rest d = get_or-set_same os k r d (omega (arith, h.rests))
 
     long_at_lem : (j : ℕ) → j < length all_sides → (t : Bool) → eqb j k ≡ t → length (get_or (set ls k l) j []) ≡ 5184
-    long_at_lem j a true z = ap (λ (i : ℕ). length (get_or (set ls k l) i [])) (eqb_true j k z) ∙ ap length here ∙ is.long
-    long_at_lem j a false z = ap length (get_or_set_other ls k j l [] (eqb-false j k z)) ∙ h.long j a
+    long_at_lem j a true z = ap (λ (i : ℕ). length (get_or (set ls k l) i [])) (eqb-true j k z) ∙ ap length here ∙ is.long
+    long_at_lem j a false z = ap length (get_or-set_other ls k j l [] (eqb-false j k z)) ∙ h.long j a
 
     earlier : (j : ℕ) → j < k + 1 → (j ≡ k → ⊥) → j < k
     earlier j a z = search (arith, a, z)
@@ -114,20 +114,20 @@ begins_more b k ls os hs h lt l r is =
         let at : List ℕ → Rest → Type 0 = BeginIs (wrapper_of b) (k + 1) (table_of b (k + 1)) in
         let words : at (get_or (set ls k l) k []) r = subst (λ (x : List ℕ). at x r) (sym here) is in
         let both : at (get_or (set ls k l) k []) (get_or (set os k r) k d) = subst (at (get_or (set ls k l) k [])) (sym (here_rest d)) words in
-        subst (λ (i : ℕ). BeginIs (wrapper_of b) (i + 1) (table_of b (i + 1)) (get_or (set ls k l) i []) (get_or (set os k r) i d)) (sym (eqb_true j k z)) both
+        subst (λ (i : ℕ). BeginIs (wrapper_of b) (i + 1) (table_of b (i + 1)) (get_or (set ls k l) i []) (get_or (set os k r) i d)) (sym (eqb-true j k z)) both
     begun_at j d a false z =
         let ne : j ≡ k → ⊥ = eqb-false j k z in
         let at : List ℕ → Rest → Type 0 = BeginIs (wrapper_of b) (j + 1) (table_of b (j + 1)) in
-        let words = subst (λ (x : List ℕ). at x (get_or os j d)) (sym (get_or_set_other ls k j l [] ne)) (h.begun j d (earlier j a ne)) in
-        subst (at (get_or (set ls k l) j [])) (sym (get_or_set_other os k j r d ne)) words
+        let words = subst (λ (x : List ℕ). at x (get_or os j d)) (sym (get_or-set_other ls k j l [] ne)) (h.begun j d (earlier j a ne)) in
+        subst (at (get_or (set ls k l) j [])) (sym (get_or-set_other os k j r d ne)) words
 
     shelved_at : (j : ℕ) (d : Rest) → j < k + 1 → (t : Bool) → eqb j k ≡ t → get_or (set hs k r.shelved) j 0 ≡ (get_or (set os k r) j d).shelved
     shelved_at j d a true z =
         let both = get_or-set_same hs k r.shelved 0 (omega (arith, h.counts)) ∙ sym (ap (λ (o : Rest). o.shelved) (here_rest d)) in
-        subst (λ (i : ℕ). get_or (set hs k r.shelved) i 0 ≡ (get_or (set os k r) i d).shelved) (sym (eqb_true j k z)) both
+        subst (λ (i : ℕ). get_or (set hs k r.shelved) i 0 ≡ (get_or (set os k r) i d).shelved) (sym (eqb-true j k z)) both
     shelved_at j d a false z =
         let ne : j ≡ k → ⊥ = eqb-false j k z in
-        get_or_set_other hs k j r.shelved 0 ne ∙ h.shelved j d (earlier j a ne) ∙ sym (ap (λ (o : Rest). o.shelved) (get_or_set_other os k j r d ne))
+        get_or-set_other hs k j r.shelved 0 ne ∙ h.shelved j d (earlier j a ne) ∙ sym (ap (λ (o : Rest). o.shelved) (get_or-set_other os k j r d ne))
 
 -- ALL SIDES: the state that load leads to
 sides_length : (ls : List (List ℕ)) (os : List Rest) (ms : List (List Bool)) → length os ≡ length ls → length ms ≡ length ls → length (sides_in ls os ms) ≡ length ls

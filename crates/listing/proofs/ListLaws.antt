@@ -1,7 +1,7 @@
 -- The stranded positions of the first messages of a lobby, one message after another.
 use mathlib.Core.Path.{◌≡◌, refl, sym, ap, ◌∙◌}
 use mathlib.Core.Bool.{Bool, true, false, not, cond}
-use mathlib.Core.List.{List, [], ◌∷◌, ◌++◌, map, map-append, append_assoc, append_nil}
+use mathlib.Core.List.{List, [], ◌∷◌, ◌++◌, map, map-append, append_assoc, append-nil}
 use Prim.Native.Nat.{ℕ, suc, ◌+◌, ◌<◌, ◌≤◌}
 use native.Mathlib.Omega.{arith}
 use native.Mathlib.Numerals.{add-one}
@@ -84,7 +84,7 @@ module _ (l : Lobby) (full : length l.msgs ≡ 16) where
       front_more z = by_test true z
 
       front_same : q ≡ false → front l (k + 1) ≡ front l k
-      front_same z = by_test false z ∙ append_nil (front l k)
+      front_same z = by_test false z ∙ append-nil (front l k)
 
       -- counted
       pub count_more : q ≡ true → (c : ℕ) → c ≡ length (front l k) → c + 1 ≡ length (front l (k + 1))

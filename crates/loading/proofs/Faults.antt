@@ -7,7 +7,7 @@ use mathlib.Core.Option.{none, some}
 use Prim.Native.Nat.{ℕ, zero, suc, ◌+◌, ◌<◌, ◌≤◌}
 use native.Mathlib.Numerals.{add-one}
 use native.Mathlib.Omega.{arith}
-use borrow.Author.Tests.{eq-eqb, ne_eqb, eqb_true}
+use borrow.Author.Tests.{eq-eqb, ne_eqb, eqb-true}
 use lib.Dec.{eqb, leb}
 use lib.ListN.{length, drop, get_or}
 use Rattle.model.specs.Basics.{◌&◌, choose, Res, refuse, done, is_done, has}
@@ -242,7 +242,7 @@ ok_sides b (m ∷ ns) k e =
     let a = walk_ok f m (load_sides b ns k) (ap is_ok (sym p) ∙ e) in
     let r = ok_sides b ns k (ap is_ok (sym (p ∙ a.1)) ∙ e) in (
       p ∙ a.1 ∙ r.0,
-      λ n h. ⊎_elim (λ q. subst (λ (j : ℕ). is_done (fault_at (wrapper_of b) j (table_of b j)) ≡ false) (sym (eqb_true n m q)) a.0) (r.1 n) (or_cases (eqb n m) (has n ns) h),
+      λ n h. ⊎_elim (λ q. subst (λ (j : ℕ). is_done (fault_at (wrapper_of b) j (table_of b j)) ≡ false) (sym (eqb-true n m q)) a.0) (r.1 n) (or_cases (eqb n m) (has n ns) h),
     )
 
 -- what load takes: a known wrapper, and every side that it has passes

@@ -5,7 +5,7 @@ use mathlib.Core.Bool.{Bool, true, false, ◌||◌, false≢true}
 use mathlib.Core.List.{List, [], ◌∷◌}
 use Prim.Native.Nat.{ℕ, zero, suc, ◌-◌, ◌<◌, ◌≤◌}
 use native.Mathlib.Omega.{arith}
-use borrow.Author.Tests.{eqb_true, leb-true, le-leb, not-true}
+use borrow.Author.Tests.{eqb-true, leb-true, le-leb, not-true}
 use lib.Dec.{eqb}
 use lib.ListN.{length}
 use Rattle.model.specs.Basics.{has}
@@ -38,8 +38,8 @@ use Rattle.loading.proofs.Faults.{root_in, start_added}
 -- a side's number
 pub number_in : (i : ℕ) → has i all_sides ≡ true → (0 < i) × (i ≤ 2)
 number_in i h =
-    ⊎_elim (λ e. let z = eqb_true i 1 e in (omega arith, omega arith))
-    (λ p. ⊎_elim (λ e. let z = eqb_true i 2 e in (omega arith, omega arith)) (λ e. absurd (false≢true e)) (or_cases (eqb i 2) false p)) (or_cases (eqb i 1) (eqb i 2 || false) h)
+    ⊎_elim (λ e. let z = eqb-true i 1 e in (omega arith, omega arith))
+    (λ p. ⊎_elim (λ e. let z = eqb-true i 2 e in (omega arith, omega arith)) (λ e. absurd (false≢true e)) (or_cases (eqb i 2) false p)) (or_cases (eqb i 1) (eqb i 2 || false) h)
 
 -- a side that the wrapper has: its number, and its place
 pub has_number : (w i : ℕ) → has_side (described w) i ≡ true → (0 < i) × (i ≤ length all_sides)

@@ -4,7 +4,7 @@ use mathlib.Core.Bool.{Bool, true, false}
 use mathlib.Core.List.{List, ◌++◌}
 use Prim.Native.Nat.{ℕ, zero, suc, ◌+◌, ◌<◌, ◌≤◌}
 use native.Mathlib.Omega.{arith}
-use borrow.Author.Tests.{le-leb, eqb_true, eqb-false, eq-eqb, ne_eqb}
+use borrow.Author.Tests.{le-leb, eqb-true, eqb-false, eq-eqb, ne_eqb}
 use lib.Dec.{eqb}
 use lib.ListN.{length, length-append}
 use Rattle.model.specs.Values.{binders}
@@ -21,7 +21,7 @@ same_kind : (e : ℕ) → eqb e 1 ≡ eqb (suc (suc (suc (suc (suc e))))) 6
 same_kind e = go (eqb e 1) refl
   where
     go : (b : Bool) → eqb e 1 ≡ b → b ≡ eqb (suc (suc (suc (suc (suc e))))) 6
-    go true q = let z = eqb_true e 1 q in sym (eq-eqb (suc (suc (suc (suc (suc e))))) 6 (omega arith))
+    go true q = let z = eqb-true e 1 q in sym (eq-eqb (suc (suc (suc (suc (suc e))))) 6 (omega arith))
     go false q = sym (ne_eqb (suc (suc (suc (suc (suc e))))) 6 (λ z. eqb-false e 1 q (omega arith)))
 
 module _ (t : Table) (ps : Passes t) (n : ℕ) (l : n < count t) (h : 5 ≤ kind t n) where

@@ -5,7 +5,7 @@ use mathlib.Core.List.{List, [], map}
 use mathlib.Core.Option.{some}
 use Prim.Native.Nat.{ℕ, ◌+◌, ◌-◌, ◌<◌, ◌≤◌}
 use native.Mathlib.Omega.{arith}
-use borrow.Author.Tests.{leb-true, le-leb, ltb-true, ltb-false, eqb_true}
+use borrow.Author.Tests.{leb-true, le-leb, ltb-true, ltb-false, eqb-true}
 use lib.Dec.{leb, ltb, eqb}
 use lib.ListN.{length, take, drop, get_or}
 use lib.Seq.{drop-drop}
@@ -86,7 +86,7 @@ module _ {t : Table} {side : ℕ} {l : List ℕ} {o : Rest} (M : Meetable t side
               input = A.inp;
               fits = fits_at_lem l o ok j A.held_j;
               inside = ltb-true (node_at l j) (count t) (fst _ _ w);
-              each = eqb_true (length (values_of (row_at l j))) (length (scope t (node_at l j))) (fst _ _ (snd _ _ (snd _ _ w)));
+              each = eqb-true (length (values_of (row_at l j))) (length (scope t (node_at l j))) (fst _ _ (snd _ _ (snd _ _ w)));
             };
             kind = leb-true 5 (kind t (node_at l j)) (fst _ _ (snd _ _ w));
           };

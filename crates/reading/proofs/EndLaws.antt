@@ -7,7 +7,7 @@ use mathlib.Core.Option.{Option, none}
 use Prim.Native.Nat.{ℕ, zero, suc, ◌+◌, ◌-◌, ◌<◌, ◌≤◌}
 use native.Mathlib.Nat.{le_of_suc-le-suc}
 use native.Mathlib.Omega.{arith}
-use borrow.Author.Tests.{lt-ltb, le-ltb, eqb_true, eqb-false}
+use borrow.Author.Tests.{lt-ltb, le-ltb, eqb-true, eqb-false}
 use lib.Dec.{ltb, eqb}
 use lib.ListN.{length, get_or, take, drop, length-drop}
 use lib.Seq.{take_all, drop-drop, get_or-drop, length-slice}
@@ -67,9 +67,9 @@ newline_or_before (b ∷ bs) h = go (eqb b tab) (eqb b newline) refl h (newline_
     go : (t n : Bool) → eqb b newline ≡ n → choose (t or n) 0 (suc (delimiter_from 0 bs)) < suc (length bs) →
         (delimiter_from 0 bs < length bs → AtOrBefore bs (delimiter_from 0 bs) (index_of newline bs)) →
         AtOrBefore (b ∷ bs) (choose (t or n) 0 (suc (delimiter_from 0 bs))) (index_after n (index_of newline bs))
-    go true true q h f = inl (eqb_true b newline q, refl)
+    go true true q h f = inl (eqb-true b newline q, refl)
     go true false q h f = inr (eqb-false b newline q, omega arith)
-    go false true q h f = inl (eqb_true b newline q, refl)
+    go false true q h f = inl (eqb-true b newline q, refl)
     go false false q h f = ⊎_elim (λ x. inl (x.0, ap suc x.1)) (λ x. inr (x.0, omega (arith, x.1))) (f (le_of_suc-le-suc h))
 
 -- the field and the line that begin at a place

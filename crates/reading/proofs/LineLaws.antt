@@ -2,7 +2,7 @@
 use mathlib.Core.Path.{◌≡◌, refl, sym, ap, ap₂, ◌∙◌}
 use mathlib.Core.Logic.{◌⊎◌, inl, inr}
 use mathlib.Core.Bool.{Bool, true, false}
-use mathlib.Core.List.{List, [], ◌∷◌, ◌++◌, append_assoc, append_nil}
+use mathlib.Core.List.{List, [], ◌∷◌, ◌++◌, append_assoc, append-nil}
 use mathlib.Core.Option.{Option, none, some}
 use Prim.Native.Nat.{ℕ, ◌+◌, ◌-◌, ◌<◌, ◌≤◌}
 use native.Mathlib.Omega.{arith}
@@ -130,7 +130,7 @@ pushed_whole n (some l) = go (leb (length (l.words ++ (n ∷ []))) 21) refl
     go : (b : Bool) → leb (length (l.words ++ (n ∷ []))) 21 ≡ b → after (pushed n (some l)) (some []) ≡ pushed n (some l)
     go true e =
         let p : pushed n (some l) ≡ some (line l.letter (l.words ++ (n ∷ []))) = is_short_lem l.letter _ (leb-true _ 21 e) in
-        ap (λ (x : Option Line). after x (some [])) p ∙ ap (λ (x : List ℕ). short_line (line l.letter x)) (append_nil (l.words ++ (n ∷ [])))
+        ap (λ (x : Option Line). after x (some [])) p ∙ ap (λ (x : List ℕ). short_line (line l.letter x)) (append-nil (l.words ++ (n ∷ [])))
     go false e =
         let p : pushed n (some l) ≡ none = is_long l.letter _ (leb-false _ 21 e) in
         ap (λ (x : Option Line). after x (some [])) p ∙ sym p

@@ -5,7 +5,7 @@ use mathlib.Core.List.{List}
 use mathlib.Core.Option.{none, some}
 use Prim.Native.Nat.{ℕ, suc, ◌-◌, ◌<◌, ◌≤◌}
 use native.Mathlib.Omega.{arith}
-use borrow.Author.Tests.{leb-true, eq-eqb, ne_eqb, eqb_true}
+use borrow.Author.Tests.{leb-true, eq-eqb, ne_eqb, eqb-true}
 use lib.ListN.{length, get_or, take}
 use Rattle.model.specs.Basics.{choose}
 use Rattle.model.specs.Wrapper.{all_sides}
@@ -82,7 +82,7 @@ module _ (high size rank : ℕ) (ns : List ℕ) (s : ℕ) where
       let b = snd _ _ a in
       let low = leb-true 1 (get_or ns 0 0) (fst _ _ b) in
       let top = leb-true (get_or ns 0 0) (length all_sides) (snd _ _ b) in
-      record { ranked = fst _ _ e; sized = eqb_true (length ns) size (fst _ _ a); number = omega arith; place = omega arith }
+      record { ranked = fst _ _ e; sized = eqb-true (length ns) size (fst _ _ a); number = omega arith; place = omega arith }
 
   pub a_side : (r : Named) → place_of r ≡ when (names_side high size rank ns) (get_or ns 0 0 - 1) → r ≡ At s → Names high size rank ns s
   unfolding choose

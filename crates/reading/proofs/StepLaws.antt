@@ -1,7 +1,7 @@
 -- S lines.
 use mathlib.Core.Path.{◌≡◌, refl, sym, ap, ◌∙◌}
 use mathlib.Core.Bool.{Bool, true, false}
-use mathlib.Core.List.{List, [], ◌∷◌, ◌++◌, append_assoc, append_nil}
+use mathlib.Core.List.{List, [], ◌∷◌, ◌++◌, append_assoc, append-nil}
 use mathlib.Core.Option.{none}
 use Prim.Native.Nat.{ℕ, ◌+◌, ◌-◌, ◌<◌, ◌≤◌}
 use native.Mathlib.Nat.{zero-add}
@@ -24,7 +24,7 @@ use Rattle.reading.proofs.AnswerLaws.{is_fault, is_next, not_taken, taken_to, pl
 
 -- the words of a step more
 all_words : (xs : List Step) (x : Step) → all_step_words (xs ++ (x ∷ [])) ≡ all_step_words xs ++ step_words x
-all_words [] x = append_nil (step_words x)
+all_words [] x = append-nil (step_words x)
 all_words (y ∷ ys) x = ap (λ (r : List ℕ). step_words y ++ r) (all_words ys x) ∙ sym (append_assoc (step_words y) (all_step_words ys) (step_words x))
 
 first_four : (ws : List ℕ) → 4 ≤ length ws → take 4 ws ≡ get_or ws 0 0 ∷ get_or ws 1 0 ∷ get_or ws 2 0 ∷ get_or ws 3 0 ∷ []

@@ -1,7 +1,7 @@
 -- A run by words.
 use mathlib.Core.Path.{◌≡◌, refl, sym, ap, ap₂, subst, ◌∙◌}
 use mathlib.Core.Bool.{Bool, true, false}
-use mathlib.Core.List.{List, [], ◌∷◌, ◌++◌, append_nil, append_assoc}
+use mathlib.Core.List.{List, [], ◌∷◌, ◌++◌, append-nil, append_assoc}
 use mathlib.Core.Option.{Option, none, some}
 use Prim.Native.Nat.{ℕ, ◌+◌, ◌-◌, ◌*◌, ◌/◌, ◌<◌, ◌≤◌}
 use native.Mathlib.Omega.{arith}
@@ -82,7 +82,7 @@ pub words_made : (y : Said) (a b s n m : ℕ) (ws l : List ℕ) → n ≡ m → 
     l ≡ paste (head_of a b s n) 4 ws 16 → l ≡ words_in y s m ws
 words_made y a b s n m ws l z p q e h =
     h
-    ∙ append_nil (a ∷ b ∷ s ∷ n ∷ take 16 ws)
+    ∙ append-nil (a ∷ b ∷ s ∷ n ∷ take 16 ws)
     ∙ ap (λ (x : List ℕ). a ∷ b ∷ s ∷ n ∷ x) (take_all 16 ws (omega arith))
     ∙ ap (λ (x : ℕ). x ∷ b ∷ s ∷ n ∷ ws) p
     ∙ ap (λ (x : ℕ). get_or (said_words (said_of y)) 0 0 ∷ x ∷ s ∷ n ∷ ws) q
@@ -179,7 +179,7 @@ module _ {b : Composition} {s : MState} {l lent : List ℕ} {n k p : ℕ} {t : M
       by (y ∷ ys) e = absurd (omega (arith, h.many, ap length e))
       by [] e =
           let w : all_answer_words (answers b s xs) ≡ take (20 * k) out =
-          h.total xs f ∙ ap (λ (r : List Step). take (20 * k) out ++ all_answer_words (answers b t r)) e ∙ append_nil (take (20 * k) out) in
+          h.total xs f ∙ ap (λ (r : List Step). take (20 * k) out ++ all_answer_words (answers b t r)) e ∙ append-nil (take (20 * k) out) in
           let c : length (all_answer_words (answers b s xs)) ≡ 20 * k = ap length w ∙ length-take-le (20 * k) out (omega (arith, h.size, h.many)) in
           record {
             size = omega (arith, c, h.many, ap length e);

@@ -5,10 +5,10 @@ use mathlib.Core.List.{List, [], ◌∷◌, ◌++◌}
 use Prim.Native.Nat.{ℕ, zero, suc, ◌+◌, ◌-◌, ◌<◌, ◌≤◌}
 use native.Mathlib.Omega.{arith}
 use native.Mathlib.Numerals.{add-one}
-use borrow.Author.Tests.{le-leb, lt-leb, leb-true, eqb_true, eqb-false}
+use borrow.Author.Tests.{le-leb, lt-leb, leb-true, eqb-true, eqb-false}
 use lib.Dec.{leb, ltb, eqb}
 use lib.ListN.{length, get_or, set, take, length-set}
-use lib.Seq.{take-suc, get_or-set_same, get_or_set_other}
+use lib.Seq.{take-suc, get_or-set_same, get_or-set_other}
 use Rattle.model.specs.Basics.{◌&◌}
 use Rattle.model.specs.Values.{Env, extend, value, is_name_in, binders}
 use Rattle.model.specs.Table.{Table, Term}
@@ -77,8 +77,8 @@ agrees_new ρ ts x a = record {
 }
   where
     go : (n : ℕ) → n ≤ 63 → (b : Bool) → eqb x n ≡ b → ltb (get_or (cond b (0 ∷ []) (value ρ n)) 0 0) 4000000 ≡ not (get_or (set ts x false) n false)
-    go n h true e = let q : x ≡ n = eqb_true x n e in let z : get_or (set ts x false) n false ≡ false = rw q (get_or-set_same ts n false false (omega (arith, a.full))) in sym (ap not z)
-    go n h false e = a.same n h ∙ sym (ap not (get_or_set_other ts x n false false (λ q. eqb-false x n e (sym q))))
+    go n h true e = let q : x ≡ n = eqb-true x n e in let z : get_or (set ts x false) n false ≡ false = rw q (get_or-set_same ts n false false (omega (arith, a.full))) in sym (ap not z)
+    go n h false e = a.same n h ∙ sym (ap not (get_or-set_other ts x n false false (λ q. eqb-false x n e (sym q))))
 
 agrees_hide : (ns : List ℕ) (ρ : Env) (ts : List Bool) → Agrees ρ ts → Agrees (extend ρ ns (any_names ns)) (hide ts ns)
 agrees_hide [] ρ ts a = subst (λ (π : Env). Agrees π ts) (sym (extend_none ρ)) a

@@ -4,7 +4,7 @@ use mathlib.Core.Bool.{Bool, true, false, cond}
 use mathlib.Core.Logic.{⊎_elim}
 use Prim.Native.Nat.{ℕ, zero, suc, ◌+◌, ◌<◌, ◌≤◌}
 use native.Mathlib.Omega.{arith}
-use borrow.Author.Tests.{leb-true, le-leb, ltb-false, eqb_true, eqb-false, ne_eqb}
+use borrow.Author.Tests.{leb-true, le-leb, ltb-false, eqb-true, eqb-false, ne_eqb}
 use lib.Dec.{leb, ltb, eqb}
 use lib.ListN.{length, length-append}
 use Rattle.model.specs.Basics.{Res, refuse, done, is_done, choose}
@@ -28,7 +28,7 @@ some_parent t m zero h = absurd (omega arith)
 some_parent t m (suc k) h = go (eqb (child_times t m k) 0) refl (some_parent t m k)
   where
     go : (b : Bool) → eqb (child_times t m k) 0 ≡ b → (1 ≤ times_child t m k → (j : ℕ) × (j < k) × (1 ≤ child_times t m j)) → (j : ℕ) × (j < suc k) × (1 ≤ child_times t m j)
-    go true e ih = let z = eqb_true (child_times t m k) 0 e in let a = ih (omega arith) in (a.0, omega (arith, a.1), a.2)
+    go true e ih = let z = eqb-true (child_times t m k) 0 e in let a = ih (omega arith) in (a.0, omega (arith, a.1), a.2)
     go false e ih = (k, omega arith, one (child_times t m k) (eqb-false (child_times t m k) 0 e))
       where
         one : (x : ℕ) → ((x ≡ 0) → ⊥) → 1 ≤ x
@@ -36,7 +36,7 @@ some_parent t m (suc k) h = go (eqb (child_times t m k) 0) refl (some_parent t m
 
 module _ (t : Table) (n m : ℕ) where
   child_is : (κ w : ℕ) → Child t n κ w → eqb w m ≡ true → Child t n κ m
-  child_is κ w c e = subst (λ (k : ℕ). Child t n κ k) (eqb_true w m e) c
+  child_is κ w c e = subst (λ (k : ℕ). Child t n κ k) (eqb-true w m e) c
 
   two_fields : (p q : ℕ) → Child t n 1 p → Child t n 1 q → 1 ≤ cond (eqb p m) 1 0 + cond (eqb q m) 1 0 → Child t n 1 m
   two_fields p q cp cq h = go (eqb p m) refl (eqb q m) refl h
@@ -67,7 +67,7 @@ module _ (t : Table) (n m : ℕ) where
 pub parent : (t : Table) → Checked t → (m : ℕ) → 0 < m → m < count t → (n : ℕ) × (n < count t) × Child t n (kind t n) m
 unfolding check2 check3
 parent t c m h l =
-    let once = ⊎_elim (λ z. let q = eqb_true m 0 z in absurd (omega arith)) (λ z. eqb_true (times_child t m (count t)) 1 z) (alt _ _ (snd _ _ (c.c3 m l))) in
+    let once = ⊎_elim (λ z. let q = eqb-true m 0 z in absurd (omega arith)) (λ z. eqb-true (times_child t m (count t)) 1 z) (alt _ _ (snd _ _ (c.c3 m l))) in
     let p = some_parent t m (count t) (omega (arith, once)) in
     (p.0, p.1, counted t p.0 m (kind t p.0) refl (leb-true (kind t p.0) 6 (fst _ _ (c.c2 p.0 p.1))) p.2)
 

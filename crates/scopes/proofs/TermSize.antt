@@ -5,7 +5,7 @@ use mathlib.Core.Bool.{Bool, true, false, cond}
 use mathlib.Core.Logic.{⊎_elim}
 use Prim.Native.Nat.{ℕ, zero, suc, ◌+◌, ◌-◌, ◌<◌, ◌≤◌}
 use native.Mathlib.Omega.{arith}
-use borrow.Author.Tests.{leb-true, leb-false, eqb_true, eqb-false, eq-eqb, ne_eqb}
+use borrow.Author.Tests.{leb-true, leb-false, eqb-true, eqb-false, eq-eqb, ne_eqb}
 use lib.Dec.{leb, eqb}
 use Rattle.model.specs.Table.{Table, count, kind, field, child_times, Term, nil, par, box, new, out, inp, build, term}
 use Rattle.model.specs.Checks.{check2, check3, times_child}
@@ -199,7 +199,7 @@ module _ (t : Table) (q : Checked t) where
 
     once : times_child t m (count t) ≡ 1
     unfolding check3
-    once = let a = above in ⊎_elim (λ z. let e = eqb_true m 0 z in absurd (omega arith)) (λ z. eqb_true (times_child t m (count t)) 1 z) (alt _ _ (snd _ _ (q.c3 m lm)))
+    once = let a = above in ⊎_elim (λ z. let e = eqb-true m 0 z in absurd (omega arith)) (λ z. eqb-true (times_child t m (count t)) 1 z) (alt _ _ (snd _ _ (q.c3 m lm)))
 
     child_of_lem : (n : ℕ) → n < count t → child_times t m n ≡ is p n
     unfolding is
@@ -210,7 +210,7 @@ module _ (t : Table) (q : Checked t) where
             let z = parent_counts t q p m lp ch in
             let y = one_le t m (count t) p lp in
             let x = once in
-            subst (λ (j : ℕ). child_times t m j ≡ 1) (eqb_true p n e) (omega arith)
+            subst (λ (j : ℕ). child_times t m j ≡ 1) (eqb-true p n e) (omega arith)
         go false e =
             let z = parent_counts t q p m lp ch in
             let y = two_le t m (count t) n p l lp (λ d. eqb-false p n e (sym d)) in
@@ -228,7 +228,7 @@ module _ (t : Table) (q : Checked t) where
       where
         go : (b : Bool) → eqb n m ≡ b → times m (term t n) ≡ times p (term t n) + cond b 1 0
         go true e =
-            let d : n ≡ m = eqb_true n m e in
+            let d : n ≡ m = eqb-true n m e in
             let x : times m (term t n) ≡ 1 = ap (λ (j : ℕ). times j (term t n)) (sym d) ∙ self n l in
             let a = above in
             let y = low_at n p l (omega arith) in
@@ -253,7 +253,7 @@ module _ (t : Table) (q : Checked t) where
   at_most_once n l (suc f) zero h k = go (eqb n 0) refl
     where
       go : (b : Bool) → eqb n 0 ≡ b → times 0 (term t n) ≤ 1
-      go true e = let d : n ≡ 0 = eqb_true n 0 e in let x : times 0 (term t n) ≡ 1 = ap (λ (j : ℕ). times j (term t n)) (sym d) ∙ self n l in omega arith
+      go true e = let d : n ≡ 0 = eqb-true n 0 e in let x : times 0 (term t n) ≡ 1 = ap (λ (j : ℕ). times j (term t n)) (sym d) ∙ self n l in omega arith
       go false e = let x = low_at n 0 l (pos n (eqb-false n 0 e)) in omega arith
         where
           pos : (n : ℕ) → ((n ≡ 0) → ⊥) → 0 < n
@@ -261,7 +261,7 @@ module _ (t : Table) (q : Checked t) where
   at_most_once n l (suc f) (suc m) h k = go (eqb n (suc m)) refl (at_most_once n l f)
     where
       go : (b : Bool) → eqb n (suc m) ≡ b → ((m : ℕ) → m < f → m < count t → times m (term t n) ≤ 1) → times (suc m) (term t n) ≤ 1
-      go true e ih = let d : n ≡ suc m = eqb_true n (suc m) e in let x : times (suc m) (term t n) ≡ 1 = ap (λ (j : ℕ). times j (term t n)) (sym d) ∙ self n l in omega arith
+      go true e ih = let d : n ≡ suc m = eqb-true n (suc m) e in let x : times (suc m) (term t n) ≡ 1 = ap (λ (j : ℕ). times j (term t n)) (sym d) ∙ self n l in omega arith
       go false e ih =
           let p = parent t q (suc m) (omega arith) k in
           let a = above (suc m) p.0 k p.1 p.2 in

@@ -2,7 +2,7 @@
 use Prim.Native.Nat.{ℕ, zero, suc, ◌+◌, ◌<◌, ◌≤◌}
 use mathlib.Core.Path.{◌≡◌, refl, sym, ◌∙◌, ap}
 use mathlib.Core.Bool.{Bool, true, false}
-use mathlib.Core.List.{List, [], ◌∷◌, ◌++◌, map, map-append, append_assoc, append_nil}
+use mathlib.Core.List.{List, [], ◌∷◌, ◌++◌, map, map-append, append_assoc, append-nil}
 use mathlib.Core.Option.{some}
 use native.Mathlib.Numerals.{add-one}
 use native.Mathlib.Omega.{arith}
@@ -95,7 +95,7 @@ pub record Gap {A : Type 0} (l : List A) (i k : ℕ) (s : List A) : Type 0 where
 
 module _ {A : Type 0} (l : List A) (i : ℕ) where
   pub gap_start : Gap l i i l
-  gap_start = record { low = rw (slice_empty, append_nil); high = refl }
+  gap_start = record { low = rw (slice_empty, append-nil); high = refl }
 
   pub gap_more : (k : ℕ) (s : List A) (d : A) → i ≤ k → k + 1 < length l → length s ≡ length l → Gap l i k s → Gap l i (k + 1) (set s k (get_or s (k + 1) d))
   gap_more k s d h m e g =

@@ -6,7 +6,7 @@ use native.Mathlib.Nat.{add-zero, mul-zero, mul-suc, mul-add, sub-zero, add_comm
 use native.Mathlib.Omega.{arith}
 use borrow.Rule.Slice.PartMut.{mid_of, put_mid, Post-is}
 use lib.ListN.{length, take, drop, get_or, set, length-take, length-drop, take-append-drop}
-use lib.Seq.{sets, sets_eq, length-sets, take_at, drop_at, take-add, take-take, drop-drop, length-take-le, get_or-take, get_or-drop, get_or-set_same, set-set}
+use lib.Seq.{sets, sets-eq, length-sets, take_at, drop_at, take-add, take-take, drop-drop, length-take-le, get_or-take, get_or-drop, get_or-set_same, set-set}
 use Rattle.model.specs.Basics.{remove}
 use Rattle.sides.specs.Layout.{parts}
 use Rattle.sides.proofs.Sets.{take_sets_le, take_sets_lt, drop_sets_lt, drop_sets_add}
@@ -186,7 +186,7 @@ parts_gone w n l zero h m =
     let xl : w * n ≤ length x = omega (arith, length-drop w l) in
     let vl : length vs ≡ w * n = length-take-le (w * n) x xl in
     let back : List ℕ = drop (0 + length vs) l in
-    let same : sets l 0 vs ≡ vs ++ back = sets_eq vs l 0 (omega arith) in
+    let same : sets l 0 vs ≡ vs ++ back = sets-eq vs l 0 (omega arith) in
     let cut : take (w * n) (sets l 0 vs) ≡ take (w * n) x = ap (take (w * n)) same ∙ take_at vs back (w * n) vl in
     rw (mul-zero w, zero-add w, sub-zero n) (parts_cut w n (sets l 0 vs) x (omega (arith, length-sets l 0 vs)) xl cut)
 parts_gone w zero l (suc i) h m = absurd (omega arith)

@@ -9,7 +9,7 @@ use native.Mathlib.Omega.{arith}
 use borrow.Author.Tests.{le-leb}
 use lib.Dec.{leb}
 use lib.ListN.{length, take, drop, get_or, set, length-set, length-take, length-drop}
-use lib.Seq.{sets, length-sets, length-take-le, get_or-set_same, get_or_set_other, drop-set-lt}
+use lib.Seq.{sets, length-sets, length-take-le, get_or-set_same, get_or-set_other, drop-set-lt}
 use Rattle.model.specs.Basics.{◌&◌, every, remove}
 use Rattle.model.specs.Side.{Tag, Particle, output, input}
 use Rattle.model.proofs.Basics.Tests.{snd, both, every_remove}
@@ -108,9 +108,9 @@ module _ (r : List ℕ) (box : ℕ) (t : d_tag) (hr : length r ≡ 144) where
       let m : List ℕ = sets s 3 vs in
       let kind : get_or m 3 0 ≡ kind_of t = get_d_sets_at vs s 3 0 0 (omega arith) (omega arith) in
       let name : get_or m 4 0 ≡ name_of t = get_d_sets_at vs s 3 1 0 (omega arith) (omega arith) in (
-        get_d_sets_below vs s 3 0 0 (omega arith) ∙ get_or_set_other r 1 0 box 0 (λ e. omega arith),
+        get_d_sets_below vs s 3 0 0 (omega arith) ∙ get_or-set_other r 1 0 box 0 (λ e. omega arith),
         get_d_sets_below vs s 3 1 0 (omega arith) ∙ get_or-set_same r 1 box 0 (omega arith),
-        get_d_sets_below vs s 3 2 0 (omega arith) ∙ get_or_set_other r 1 2 box 0 (λ e. omega arith),
+        get_d_sets_below vs s 3 2 0 (omega arith) ∙ get_or-set_other r 1 2 box 0 (λ e. omega arith),
         ap (λ (k : ℕ). tag_of k (get_or m 4 0)) kind ∙ ap (tag_of (kind_of t)) name ∙ tag_back t,
       )
 
@@ -212,7 +212,7 @@ module _ (l m : List ℕ) (i : ℕ) (p : Particle) (x : RowPut l i p m) where
   put_row h = ap (λ (y : List (List ℕ)). get_or y i []) x.rows ∙ get_or-set_same (rows_of l) i x.row [] (rw (rows_count l) h)
 
   pub put_other : (j : ℕ) → j ≢ i → row_at m j ≡ row_at l j
-  put_other j h = ap (λ (y : List (List ℕ)). get_or y j []) x.rows ∙ get_or_set_other (rows_of l) i j x.row [] h
+  put_other j h = ap (λ (y : List (List ℕ)). get_or y j []) x.rows ∙ get_or-set_other (rows_of l) i j x.row [] h
 
   pub put_view : (n : ℕ) → i < n → view_rows m n ≡ set (view_rows l n) i p
   put_view n h = ap (λ (y : List (List ℕ)). map view_row (take n y)) x.rows ∙ view_set view_row (rows_of l) n i x.row h ∙ ap (set (view_rows l n) i) x.view

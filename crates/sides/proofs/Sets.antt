@@ -7,7 +7,7 @@ use native.Mathlib.Numerals.{add-one}
 use native.Mathlib.Omega.{arith}
 use borrow.Rule.Slice.PartMut.{mid_of, post_of, put_mid, put_same}
 use lib.ListN.{length, take, drop, get_or, set, length-set}
-use lib.Seq.{sets, sets_eq, take_at, drop_at, take-suc, length-take-le, set-append_left, set_comm, take-set-le, take-set-lt, drop-set-lt, drop-set-add, get_or-set_same, get_or_set_other}
+use lib.Seq.{sets, sets-eq, take_at, drop_at, take-suc, length-take-le, set-append_left, set_comm, take-set-le, take-set-lt, drop-set-lt, drop-set-add, get_or-set_same, get_or-set_other}
 
 -- where a run's second store stands
 next : (i : ℕ) (n : ℕ) → i + suc n ≡ suc i + n
@@ -41,11 +41,11 @@ drop_sets_lt n (v ∷ vs) l i h = drop_sets_lt n vs (set l i v) (suc i) (omega a
 
 pub get_d_sets_below : (vs l : List ℕ) (i j d : ℕ) → j < i → get_or (sets l i vs) j d ≡ get_or l j d
 get_d_sets_below [] l i j d h = refl
-get_d_sets_below (v ∷ vs) l i j d h = get_d_sets_below vs (set l i v) (suc i) j d (omega arith) ∙ get_or_set_other l i j v d (λ e. omega arith)
+get_d_sets_below (v ∷ vs) l i j d h = get_d_sets_below vs (set l i v) (suc i) j d (omega arith) ∙ get_or-set_other l i j v d (λ e. omega arith)
 
 pub get_d_sets_above : (vs l : List ℕ) (i j d : ℕ) → i + length vs ≤ j → get_or (sets l i vs) j d ≡ get_or l j d
 get_d_sets_above [] l i j d h = refl
-get_d_sets_above (v ∷ vs) l i j d h = get_d_sets_above vs (set l i v) (suc i) j d (omega arith) ∙ get_or_set_other l i j v d (λ e. omega arith)
+get_d_sets_above (v ∷ vs) l i j d h = get_d_sets_above vs (set l i v) (suc i) j d (omega arith) ∙ get_or-set_other l i j v d (λ e. omega arith)
 
 -- what a run stored, word by word
 pub get_d_sets_at : (vs l : List ℕ) (i k d : ℕ) → k < length vs → i + length vs ≤ length l → get_or (sets l i vs) (i + k) d ≡ get_or vs k d
@@ -69,7 +69,7 @@ drop_sets_add n (v ∷ vs) l i =
 pub mid_sets : (vs l : List ℕ) (i : ℕ) → i + length vs ≤ length l → take (length vs) (drop i (sets l i vs)) ≡ vs
 mid_sets vs l i h =
     let back : List ℕ = drop (i + length vs) l in
-    ap (λ (x : List ℕ). take (length vs) (drop i x)) (sets_eq vs l i h ∙ append_assoc (take i l) vs back) ∙
+    ap (λ (x : List ℕ). take (length vs) (drop i x)) (sets-eq vs l i h ∙ append_assoc (take i l) vs back) ∙
     ap (take (length vs)) (drop_at (take i l) (vs ++ back) i (length-take-le i l (omega arith))) ∙ take_at vs back (length vs) refl
 
 -- A RUN IN A PART THAT IS LENT: when the part is back it is a run in the whole

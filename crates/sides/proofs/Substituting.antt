@@ -1,7 +1,7 @@
 -- Names looked up in lent words, and values substituted word by word.
 use mathlib.Core.Path.{◌≡◌, refl, sym, ap, ◌∙◌}
 use mathlib.Core.Bool.{Bool, true, false, cond}
-use mathlib.Core.List.{List, [], ◌∷◌, ◌++◌, map, append_assoc, append_nil}
+use mathlib.Core.List.{List, [], ◌∷◌, ◌++◌, map, append_assoc, append-nil}
 use Prim.Native.Nat.{ℕ, zero, suc, ◌+◌, ◌-◌, ◌*◌, ◌<◌, ◌≤◌}
 use native.Mathlib.Nat.{add-sub_cancel_left}
 use native.Mathlib.Numerals.{add-one}
@@ -111,7 +111,7 @@ subst_append ρ (x ∷ a) b = ap (λ (y : List ℕ). stands_for ρ x ++ y) (subs
 subst_next : (ρ : Env) (s : List ℕ) (i : ℕ) → i < length s → substitute ρ (take (i + 1) s) ≡ substitute ρ (take i s) ++ stands_for ρ (get_or s i 0)
 subst_next ρ s i h =
     ap (λ (n : ℕ). substitute ρ (take n s)) (add-one i) ∙ ap (substitute ρ) (take-suc s i 0 h) ∙ subst_append ρ (take i s) (get_or s i 0 ∷ []) ∙
-    ap (λ (y : List ℕ). substitute ρ (take i s) ++ y) (append_nil (stands_for ρ (get_or s i 0)))
+    ap (λ (y : List ℕ). substitute ρ (take i s) ++ y) (append-nil (stands_for ρ (get_or s i 0)))
 
 subst_room : (ρ : Env) (s : List ℕ) (i : ℕ) → length (substitute ρ (take i s)) ≤ length (substitute ρ s)
 subst_room ρ s i =

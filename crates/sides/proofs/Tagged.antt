@@ -3,7 +3,7 @@ use mathlib.Core.Path.{◌≡◌, refl, sym, ap, ◌∙◌}
 use mathlib.Core.Bool.{Bool, true, false}
 use Prim.Native.Nat.{ℕ, zero, suc, ◌-◌}
 use native.Mathlib.Omega.{arith}
-use borrow.Author.Tests.{eq-eqb, ne_eqb, eqb_true, eqb-false}
+use borrow.Author.Tests.{eq-eqb, ne_eqb, eqb-true, eqb-false}
 use lib.Dec.{eqb}
 use Rattle.model.specs.Values.{Env, word}
 use Rattle.model.specs.Side.{within, to_parent, to_child}
@@ -17,7 +17,7 @@ pub eqb_comm : (a b : ℕ) → eqb a b ≡ eqb b a
 eqb_comm a b = go (eqb b a) refl
   where
     go : (t : Bool) → eqb b a ≡ t → eqb a b ≡ eqb b a
-    go true e = eq-eqb a b (sym (eqb_true b a e)) ∙ sym e
+    go true e = eq-eqb a b (sym (eqb-true b a e)) ∙ sym e
     go false e = ne_eqb a b (λ x. eqb-false b a e (sym x)) ∙ sym e
 
 pub to_child_lem : (t : Tag) (m n : ℕ) → t ≡ ToChild m → eqb m n ≡ is_to_child (view_tag t) n

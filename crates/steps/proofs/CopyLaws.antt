@@ -1,7 +1,7 @@
 -- The copies of a message: a law for each way that the code goes.
 use mathlib.Core.Path.{◌≡◌, refl, sym, subst}
 use mathlib.Core.Bool.{Bool, true, false}
-use mathlib.Core.List.{[], ◌∷◌, ◌++◌, append_nil}
+use mathlib.Core.List.{[], ◌∷◌, ◌++◌, append-nil}
 use Prim.Native.Nat.{ℕ, ◌+◌, ◌≤◌}
 use native.Mathlib.Omega.{arith}
 use lib.ListN.{length}
@@ -37,4 +37,4 @@ pub copy_added : (l : Lobby) (b : Bool) (v : Value) (m : Message) (r : Lobby) �
 copy_added l b v m r e me w = rw e (subst (λ (x : Message). LobbyIs (view_lobby l ++ (view_message x ∷ [])) (l.len + 1) (fits_lobby l & fits_message x) r) me w)
 
 pub none_added : (l : Lobby) (b : Bool) (v : Value) → b ≡ false → WithCopies l b v l
-none_added l b v e = rw e (record { view = sym (append_nil (view_lobby l)); len = omega arith; fits = λ p. fst _ _ p })
+none_added l b v e = rw e (record { view = sym (append-nil (view_lobby l)); len = omega arith; fits = λ p. fst _ _ p })

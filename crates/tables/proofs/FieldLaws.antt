@@ -6,10 +6,10 @@ use mathlib.Core.Logic.{◌⊎◌, inl, inr}
 use Prim.Native.Nat.{ℕ, zero, suc, ◌+◌, ◌-◌, ◌<◌, ◌≤◌, min}
 use native.Mathlib.Omega.{arith}
 use native.Mathlib.Numerals.{add-one}
-use borrow.Author.Tests.{le-leb, lt-leb, lt-ltb, le-ltb, eq-eqb, ne_eqb, eqb_true, eqb-false}
+use borrow.Author.Tests.{le-leb, lt-leb, lt-ltb, le-ltb, eq-eqb, ne_eqb, eqb-true, eqb-false}
 use lib.Dec.{leb, ltb, eqb}
 use lib.ListN.{length, get_or, set, length-set, get_or-eq_default}
-use lib.Seq.{get_or-set_same, get_or_set_other}
+use lib.Seq.{get_or-set_same, get_or-set_other}
 use Rattle.model.specs.Basics.{◌&◌, ◌or◌, refuse, done, implies}
 use Rattle.model.specs.Values.{at}
 use Rattle.model.specs.Table.{count, kind, field, uses, field_uses, child_fields, child_times}
@@ -111,7 +111,7 @@ module _ (old : List ℕ) (u w : ℕ) where
   counted_full e g = record { len = refl; at = λ m h l. rw (eq-eqb u 1 e) (go m l (eqb w m) refl) }
     where
       go : (m : ℕ) → get_or old m 0 ≤ 2 → (t : Bool) → eqb w m ≡ t → get_or old m 0 ≡ min 2 (get_or old m 0 + cond t 1 0)
-      go m l true q = let z : get_or old w 0 ≡ get_or old m 0 = ap (λ (j : ℕ). get_or old j 0) (eqb_true w m q) in omega arith
+      go m l true q = let z : get_or old w 0 ≡ get_or old m 0 = ap (λ (j : ℕ). get_or old j 0) (eqb-true w m q) in omega arith
       go m l false q = omega arith
 
   pub counted_more : u ≡ 1 → w < length old → get_or old w 0 < 2 → Counted old (child_by u w) (set old w (get_or old w 0 + 1))
@@ -119,10 +119,10 @@ module _ (old : List ℕ) (u w : ℕ) where
     where
       go : (m : ℕ) → get_or old m 0 ≤ 2 → (t : Bool) → eqb w m ≡ t → get_or (set old w (get_or old w 0 + 1)) m 0 ≡ min 2 (get_or old m 0 + cond t 1 0)
       go m l true q =
-          let s : w ≡ m = eqb_true w m q in
+          let s : w ≡ m = eqb-true w m q in
           let z : get_or old w 0 ≡ get_or old m 0 = ap (λ (j : ℕ). get_or old j 0) s in
           ap (λ (j : ℕ). get_or (set old w (get_or old w 0 + 1)) j 0) (sym s) ∙ get_or-set_same old w (get_or old w 0 + 1) 0 b ∙ omega arith
-      go m l false q = get_or_set_other old w m (get_or old w 0 + 1) 0 (λ s. eqb-false w m q (sym s)) ∙ omega arith
+      go m l false q = get_or-set_other old w m (get_or old w 0 + 1) 0 (λ s. eqb-false w m q (sym s)) ∙ omega arith
 
 pub node_counted : (old c0 c1 c2 c3 : List ℕ) (x : Node) → Counted old (child_by (use_of x 0) x.a) c0 → Counted c0 (child_by (use_of x 1) x.b) c1 →
     Counted c1 (child_by (use_of x 2) x.c) c2 → Counted c2 (child_by (use_of x 3) x.d) c3 → Counted old (child_of x) c3

@@ -7,10 +7,10 @@ use mathlib.Core.Option.{some}
 use Prim.Native.Nat.{ℕ, ◌+◌, ◌-◌, ◌*◌, ◌<◌, ◌≤◌}
 use native.Mathlib.Nat.{zero-add, mul-suc, mul-le-mul_left}
 use native.Mathlib.Omega.{arith}
-use borrow.Author.Tests.{le-ltb, le-leb, lt-leb, eqb_true, eqb-false}
+use borrow.Author.Tests.{le-ltb, le-leb, lt-leb, eqb-true, eqb-false}
 use lib.Dec.{eqb}
 use lib.ListN.{length, get_or, set, take, drop, length-map}
-use lib.Seq.{sets, length-sets, length-take-le, take-length, take_at, ext_get_or, get_or-set_same, get_or_set_other}
+use lib.Seq.{sets, length-sets, length-take-le, take-length, take_at, ext_get_or, get_or-set_same, get_or-set_other}
 use Rattle.model.specs.Basics.{choose}
 use Rattle.model.specs.Side.{State}
 use Rattle.model.specs.Table.{Table}
@@ -164,8 +164,8 @@ pub part_more : (rs : List (List ℕ)) (k : ℕ) (x : List ℕ) (f : ℕ → Lis
 part_more rs k x f m e h j below = by (eqb j k) refl
   where
     by : (b : Bool) → eqb j k ≡ b → get_or (set rs k x) j [] ≡ f j
-    by true q = let s : j ≡ k = eqb_true j k q in rw s (get_or-set_same rs k x [] m ∙ e)
-    by false q = get_or_set_other rs k j x [] (eqb-false j k q) ∙ h j (omega (arith, eqb-false j k q))
+    by true q = let s : j ≡ k = eqb-true j k q in rw s (get_or-set_same rs k x [] m ∙ e)
+    by false q = get_or-set_other rs k j x [] (eqb-false j k q) ∙ h j (omega (arith, eqb-false j k q))
 
 -- all parts are the words that were laid there
 parts_are : (wide : ℕ) (wss rs : List (List ℕ)) (counts old after : List ℕ) → counts ≡ map length wss → after ≡ laid wide 0 wss old → length rs ≡ length counts → wide * length counts ≤ length old →

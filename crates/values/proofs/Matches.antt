@@ -1,7 +1,7 @@
 -- Laws of `matches` at places of a pattern and a value, with the values bound before: one for each way that the code goes.
 use mathlib.Core.Path.{◌≡◌, refl, sym, ap, ◌∙◌}
 use mathlib.Core.Bool.{Bool, true, false, cond}
-use mathlib.Core.List.{List, [], ◌∷◌, ◌++◌, append_assoc, append_nil}
+use mathlib.Core.List.{List, [], ◌∷◌, ◌++◌, append_assoc, append-nil}
 use Prim.Native.Nat.{ℕ, zero, suc, ◌+◌, ◌-◌, ◌<◌, ◌≤◌}
 use native.Mathlib.Nat.{zero-add, suc-add, add_assoc, add-zero}
 use native.Mathlib.Omega.{arith}
@@ -30,8 +30,8 @@ fit_yes p v m e = rw e
 -- no items
 after_none : (bs : List (List ℕ)) (p v : List ℕ) → stored_after bs (matches p 0 v) ≡ done (fit p v (take 8 bs))
 unfolding stored_after matches
-after_none bs [] v = rw append_nil
-after_none bs (p ∷ ps) v = rw append_nil
+after_none bs [] v = rw append-nil
+after_none bs (p ∷ ps) v = rw append-nil
 
 -- a name's value, before those of what follows
 after_binds : (bs : List (List ℕ)) (x : List ℕ) (q : Res Fit) → stored_after bs (bind q (λ m. done (binds x m))) ≡ stored_after (bs ++ (x ∷ [])) q
@@ -52,9 +52,9 @@ further n m = stored_after m.bound (matches m.pattern n m.value)
 -- a items and then b
 after_add : (p : List ℕ) (a b : ℕ) (v : List ℕ) (bs : List (List ℕ)) → stored_after bs (matches p (a + b) v) ≡ bind (stored_after bs (matches p a v)) (further b)
 unfolding stored_after matches bind
-after_add [] zero b v bs = rw zero-add (sym (ap (λ (l : List (List ℕ)). stored_after l (matches [] b v)) (ap (take 8) (append_nil bs)) ∙ after_cut bs (matches [] b v)))
+after_add [] zero b v bs = rw zero-add (sym (ap (λ (l : List (List ℕ)). stored_after l (matches [] b v)) (ap (take 8) (append-nil bs)) ∙ after_cut bs (matches [] b v)))
 after_add [] (suc a) b v bs = rw suc-add
-after_add (p ∷ ps) zero b v bs = rw zero-add (sym (ap (λ (l : List (List ℕ)). stored_after l (matches (p ∷ ps) b v)) (ap (take 8) (append_nil bs)) ∙ after_cut bs (matches (p ∷ ps) b v)))
+after_add (p ∷ ps) zero b v bs = rw zero-add (sym (ap (λ (l : List (List ℕ)). stored_after l (matches (p ∷ ps) b v)) (ap (take 8) (append-nil bs)) ∙ after_cut bs (matches (p ∷ ps) b v)))
 after_add (p ∷ ps) (suc a) b v bs =
     rw suc-add (go (is_tuple p) (is_public p) v (λ xs. after_add ps (arity p + a) b xs bs) (after_add ps a b (rest_of v) (bs ++ (first_of v ∷ []))) (after_add ps a b (rest_of v) bs))
   where

@@ -1,11 +1,11 @@
 -- Laws of a pattern's names: how many there are, and that none stands twice.
 use mathlib.Core.Path.{◌≡◌, refl, sym, ap, ◌∙◌}
 use mathlib.Core.Bool.{Bool, true, false, not, cond, ◌&&◌, ◌||◌, false≢true}
-use mathlib.Core.List.{List, [], ◌∷◌, ◌++◌, append_nil}
+use mathlib.Core.List.{List, [], ◌∷◌, ◌++◌, append-nil}
 use Prim.Native.Nat.{ℕ, zero, suc, ◌+◌, ◌<◌, ◌≤◌}
 use native.Mathlib.Omega.{arith}
 use native.Mathlib.Numerals.{add-one}
-use borrow.Author.Tests.{le-leb, lt-leb, eq-eqb, ne_eqb, eqb_true, eqb-false, leb-false}
+use borrow.Author.Tests.{le-leb, lt-leb, eq-eqb, ne_eqb, eqb-true, eqb-false, leb-false}
 use lib.Dec.{eqb}
 use lib.ListN.{length, get_or, take, drop, length-append, take-append-drop}
 use lib.Seq.{take-suc, take_all}
@@ -30,7 +30,7 @@ module _ (p : List ℕ) (i : ℕ) (h : i < length p) where
   next_name l = next ∙ rw (le-leb (get_or p i 0) 63 l)
 
   pub next_other : 63 < get_or p i 0 → binders (take (i + 1) p) ≡ binders (take i p)
-  next_other l = next ∙ rw (lt-leb (get_or p i 0) 63 l) (append_nil _)
+  next_other l = next ∙ rw (lt-leb (get_or p i 0) 63 l) (append-nil _)
 
   -- the number of names
   pub count_name : (r : ℕ) → r ≡ length (binders (take i p)) → get_or p i 0 ≤ 63 → r + 1 ≡ length (binders (take (i + 1) p))
@@ -89,7 +89,7 @@ eqb_sym : (a b : ℕ) → eqb a b ≡ eqb b a
 eqb_sym a b = go (eqb b a) refl
   where
     go : (t : Bool) → eqb b a ≡ t → eqb a b ≡ eqb b a
-    go true e = eq-eqb a b (sym (eqb_true b a e)) ∙ sym e
+    go true e = eq-eqb a b (sym (eqb-true b a e)) ∙ sym e
     go false e = ne_eqb a b (λ q. eqb-false b a e (sym q)) ∙ sym e
 
 distinct_snoc : (l : List ℕ) (n : ℕ) → distinct (l ++ (n ∷ [])) ≡ distinct l && not (has n l)

@@ -5,7 +5,7 @@ use mathlib.Core.List.{List, [], ◌∷◌}
 use mathlib.Core.Logic.{◌⊎◌, inl, inr, ⊎_elim}
 use Prim.Native.Nat.{ℕ, zero, suc, ◌+◌, ◌-◌, ◌<◌, ◌≤◌}
 use native.Mathlib.Omega.{arith}
-use borrow.Author.Tests.{le-leb, lt-leb, eq-eqb, ne_eqb, eqb_true, eqb-false, ltb-true, ltb-false}
+use borrow.Author.Tests.{le-leb, lt-leb, eq-eqb, ne_eqb, eqb-true, eqb-false, ltb-true, ltb-false}
 use lib.Dec.{ltb, eqb}
 use lib.ListN.{length, get_or, take, drop, length-drop, drop_of_length-le, length-take}
 use lib.Seq.{drop-drop, drop-length, take_all, take-take, length-take-le}
@@ -238,7 +238,7 @@ pub eqb_same : (a b c d : ℕ) → (a ≡ b → c ≡ d) → (c ≡ d → a ≡ 
 eqb_same a b c d f g = go (eqb c d) refl
   where
     go : (t : Bool) → eqb c d ≡ t → eqb a b ≡ eqb c d
-    go true e = eq-eqb a b (g (eqb_true c d e)) ∙ sym e
+    go true e = eq-eqb a b (g (eqb-true c d e)) ∙ sym e
     go false e = ne_eqb a b (λ x. eqb-false c d e (f x)) ∙ sym e
 
 -- a whole value

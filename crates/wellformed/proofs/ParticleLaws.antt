@@ -5,7 +5,7 @@ use mathlib.Core.Bool.{Bool, true, false}
 use mathlib.Core.List.{List, []}
 use Prim.Native.Nat.{ℕ, ◌-◌, ◌<◌, ◌≤◌}
 use native.Mathlib.Omega.{arith}
-use borrow.Author.Tests.{lt-ltb, le-ltb, le-leb, lt-leb, eq-eqb, ne_eqb, eqb_true, eqb-false}
+use borrow.Author.Tests.{lt-ltb, le-ltb, le-leb, lt-leb, eq-eqb, ne_eqb, eqb-true, eqb-false}
 use lib.Dec.{leb, ltb, eqb}
 use lib.ListN.{length, drop, get_or, length-drop}
 use Rattle.model.specs.Basics.{◌&◌, every}
@@ -108,7 +108,7 @@ module _ (t : Table) (k : Counts) (nb : ℕ) (r : List ℕ) where
         far = le-ltb (get_or r 1 0) nb (rw e at h)
 
         go : (x : Bool) → eqb (get_or r 0 0) 1 ≡ x → false ≡ wf_particle t k nb (view_row r)
-        go true q = stops _ _ far ∙ output_is (eqb_true _ _ q)
+        go true q = stops _ _ far ∙ output_is (eqb-true _ _ q)
         go false q = stops _ _ far ∙ input_is (eqb-false _ _ q)
 
     module _ (h : b < nb) (x : Bool) where

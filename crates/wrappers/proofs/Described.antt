@@ -4,7 +4,7 @@ use mathlib.Core.Bool.{Bool, true, false, cond, ◌||◌}
 use mathlib.Core.List.{List, [], ◌∷◌}
 use Prim.Native.Nat.{ℕ, ◌<◌, ◌≤◌}
 use native.Mathlib.Omega.{arith}
-use borrow.Author.Tests.{eq-eqb, ne_eqb, eqb_true, eqb-false}
+use borrow.Author.Tests.{eq-eqb, ne_eqb, eqb-true, eqb-false}
 use lib.Dec.{eqb}
 use lib.ListN.{length}
 use Rattle.model.specs.Basics.{◌&◌, ◌or◌, choose, refuse, done, one_of, has}
@@ -24,7 +24,7 @@ turned : (a b : ℕ) → eqb a b ≡ eqb b a
 turned a b = by (eqb a b) refl
   where
     by : (x : Bool) → eqb a b ≡ x → eqb a b ≡ eqb b a
-    by true p = p ∙ sym (eq-eqb b a (sym (eqb_true a b p)))
+    by true p = p ∙ sym (eq-eqb b a (sym (eqb-true a b p)))
     by false p = p ∙ sym (ne_eqb b a (λ q. eqb-false a b p (sym q)))
 
 module _ (w : ℕ) where
@@ -50,7 +50,7 @@ module _ (w : ℕ) where
       none false false = refl
 
       by : (x : Bool) → eqb w 3 ≡ x → eqb w 3 ≡ has 3 (described w).copies
-      by true e = e ∙ sym (ap (λ (v : ℕ). has 3 (described v).copies) (eqb_true w 3 e))
+      by true e = e ∙ sym (ap (λ (v : ℕ). has 3 (described v).copies) (eqb-true w 3 e))
       by false e = e ∙ sym (rw e (none (eqb w 1) (eqb w 2)))
 
   -- a number other than 2 describes no routes
@@ -120,7 +120,7 @@ pub source_in : (w n j m : ℕ) → Side m ≡ source_for (described w) n j → 
 source_in w n j m p = by (eqb w 2) refl
   where
     by : (x : Bool) → eqb w 2 ≡ x → (0 < m) × (m ≤ length all_sides)
-    by true e = let z : m ≡ 1 = first_only m (eqb 2 n & eqb 0 j) (p ∙ pipe_source w n j (eqb_true w 2 e)) in (omega arith, omega arith)
+    by true e = let z : m ≡ 1 = first_only m (eqb 2 n & eqb 0 j) (p ∙ pipe_source w n j (eqb-true w 2 e)) in (omega arith, omega arith)
     by false e = let y : Side m ≡ Nowhere = p ∙ sym (no_source w (eqb-false w 2 e) n j) in let z : ◌≡◌ {A = ℕ} 0 1 = cc in absurd (omega arith)
 
 -- the channels of copies, by whether there are any

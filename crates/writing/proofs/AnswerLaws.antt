@@ -1,6 +1,6 @@
 -- The lines that are read from words, and the lines of the answers that the words give.
 use mathlib.Core.Path.{◌≡◌, refl, sym, ◌∙◌, ap}
-use mathlib.Core.List.{List, [], ◌∷◌, ◌++◌, append_assoc, append_nil}
+use mathlib.Core.List.{List, [], ◌∷◌, ◌++◌, append_assoc, append-nil}
 use Prim.Native.Nat.{ℕ, zero, suc, ◌+◌, ◌-◌, ◌*◌, ◌≤◌, ◌<◌, min}
 use native.Mathlib.Nat.{add-zero, add-suc, suc-add}
 use native.Mathlib.Numerals.{add-one}
@@ -25,7 +25,7 @@ lines_none k ws = refl
 
 lines_behind : (k n : ℕ) (ws : List ℕ) → lines_in k n ws ++ line_in (k + n) (answer_at (k + n) ws) ≡ lines_in k (suc n) ws
 unfolding lines_in
-lines_behind k zero ws = rw (add-zero k) (sym (append_nil (line_in k (answer_at k ws))))
+lines_behind k zero ws = rw (add-zero k) (sym (append-nil (line_in k (answer_at k ws))))
 lines_behind k (suc n) ws =
     let first = line_in k (answer_at k ws) in
     let next : k + suc n ≡ suc k + n = add-suc k n ∙ sym (suc-add k n) in

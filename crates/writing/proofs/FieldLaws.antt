@@ -1,6 +1,6 @@
 -- Laws of numbers behind tabs.
 use mathlib.Core.Path.{◌≡◌, refl, sym, ◌∙◌, ap}
-use mathlib.Core.List.{List, [], ◌∷◌, ◌++◌, append_assoc, append_nil}
+use mathlib.Core.List.{List, [], ◌∷◌, ◌++◌, append_assoc, append-nil}
 use Prim.Native.Nat.{ℕ, ◌+◌, ◌≤◌, ◌<◌}
 use native.Mathlib.Numerals.{add-one}
 use lib.ListN.{length, take, get_or}
@@ -10,7 +10,7 @@ use Rattle.format.specs.Output.{decimal, fields}
 
 -- one number
 pub one_field : (n : ℕ) → (tab ∷ []) ++ decimal n ≡ fields (n ∷ [])
-one_field n = ap (λ (l : List ℕ). tab ∷ l) (sym (append_nil (decimal n)))
+one_field n = ap (λ (l : List ℕ). tab ∷ l) (sym (append-nil (decimal n)))
 
 -- some numbers behind others
 pub fields_joined : (xs ys : List ℕ) → fields xs ++ fields ys ≡ fields (xs ++ ys)

@@ -5,7 +5,7 @@ use Prim.Native.Nat.{ℕ, suc, ◌+◌, ◌≤◌}
 use native.Mathlib.Nat.{add-zero, add-suc, suc-add}
 use native.Mathlib.Omega.{arith}
 use lib.ListN.{length, take, drop, set, length-append, length-drop, take-append-drop}
-use lib.Seq.{sets, sets_eq, take_at, take-length, drop-append-le, drop-drop}
+use lib.Seq.{sets, sets-eq, take_at, take-length, drop-append-le, drop-drop}
 use borrow.Rule.Slice.PartMut.{mid_of, put_mid}
 use Rattle.format.specs.Words.{onto}
 use Rattle.writing.specs.Written.{Written, PageIs}
@@ -21,7 +21,7 @@ stored_twice (x ∷ xs) ys l a =
 stored_first : (ws l : List ℕ) → length ws ≤ length l → sets l 0 ws ≡ onto ws l
 stored_first ws l h =
     let i : 0 + length ws ≡ length ws = omega arith in
-    sets_eq ws l 0 (omega arith) ∙ ap (λ (k : ℕ). ws ++ drop k l) i
+    sets-eq ws l 0 (omega arith) ∙ ap (λ (k : ℕ). ws ++ drop k l) i
 
 -- a text copied to the start of a part that is lent
 pub copied : (old text part : List ℕ) (at k : ℕ) → at + length text ≤ length old → length text ≤ length (mid_of at k old) → part ≡ take (length text) text ++ drop (length text) (mid_of at k old) → put_mid at k old part ≡ sets old at text
@@ -35,7 +35,7 @@ copied old text part at k h m e =
     ∙ ap (λ (l : List ℕ). p ++ l) (append_assoc text (drop n (take k rest)) (drop k rest))
     ∙ ap (λ (l : List ℕ). p ++ (text ++ l)) behind
     ∙ sym (append_assoc p text (drop (at + n) old))
-    ∙ sym (sets_eq text old at h)
+    ∙ sym (sets-eq text old at h)
 
 -- a text and another behind it are one text
 pub joined : {old mid new xs ys : List ℕ} {a b c : ℕ} → Written old a xs b mid → Written mid b ys c new → Written old a (xs ++ ys) c new

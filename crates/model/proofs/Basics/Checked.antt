@@ -1,12 +1,12 @@
 -- What load's checks say of a table: its tree, its scopes, and the process at each node.
 use mathlib.Core.Path.{◌≡◌, refl, sym, ap, ◌∙◌, subst}
 use mathlib.Core.Bool.{Bool, true, false, false≢true}
-use mathlib.Core.List.{List, [], ◌∷◌, ◌++◌, append_assoc, append_nil}
+use mathlib.Core.List.{List, [], ◌∷◌, ◌++◌, append_assoc, append-nil}
 use mathlib.Core.Logic.{◌⊎◌, ⊎_elim}
 use Prim.Native.Nat.{ℕ, zero, suc, ◌+◌, ◌<◌, ◌≤◌}
 use native.Mathlib.Nat.{eq-or-lt_of_le}
 use native.Mathlib.Omega.{arith}
-use borrow.Author.Tests.{leb-true, ltb-true, eqb_true, eq-eqb, ne_eqb, le-leb}
+use borrow.Author.Tests.{leb-true, ltb-true, eqb-true, eq-eqb, ne_eqb, le-leb}
 use lib.Dec.{leb, ltb, eqb}
 use lib.ListN.{length}
 use Rattle.model.specs.Basics.{◌&◌, Res, refuse, done, or_else, is_done}
@@ -121,7 +121,7 @@ only_parent : (t : Table) → Checked t → (n m : ℕ) → n < count t → Chil
 unfolding check3
 only_parent t c n m l ch j h d =
     let a = is_tree t c n m l ch in
-    let once = ⊎_elim (λ z. let q = eqb_true m 0 z in absurd (omega arith)) (λ z. eqb_true (times_child t m (count t)) 1 z) (alt _ _ (snd _ _ (c.c3 m a.1))) in
+    let once = ⊎_elim (λ z. let q = eqb-true m 0 z in absurd (omega arith)) (λ z. eqb-true (times_child t m (count t)) 1 z) (alt _ _ (snd _ _ (c.c3 m a.1))) in
     omega (arith, two_le t m (count t) j n h l d, parent_counts t c n m l ch, once)
 
 -- THE SCOPE OF A CHILD
@@ -138,14 +138,14 @@ up_acc t (suc m) cur acc = go (eqb (child_times t cur m) 0) refl (up_acc t m cur
         scope_up t m m (bound t m ++ acc) ≡ scope_up t m m [] ++ (bound t m ++ acc) → scope_up t m m (bound t m ++ []) ≡ scope_up t m m [] ++ (bound t m ++ []) →
         scope_up t (suc m) cur acc ≡ scope_up t (suc m) cur [] ++ acc
     go true e p q r = rw (e, scope_up) p
-    go false e p q r = rw (e, scope_up, q, r, append_nil, append_assoc)
+    go false e p q r = rw (e, scope_up, q, r, append-nil, append_assoc)
 
 pub scope_child : (t : Table) → Checked t → (n m : ℕ) → n < count t → Child t n (kind t n) m → scope t m ≡ scope t n ++ bound t n
 scope_child t c n m l ch =
     let a = is_tree t c n m l ch in
     let p = parent_counts t c n m l ch in
     skip t n m [] m a.0 (λ j x y. only_parent t c n m l ch j (omega arith) (λ q. omega arith)) ∙
-    up_found t n m [] (λ q. omega arith) ∙ up_acc t n n (bound t n ++ []) ∙ ap (λ (x : List ℕ). scope t n ++ x) (append_nil (bound t n))
+    up_found t n m [] (λ q. omega arith) ∙ up_acc t n n (bound t n ++ []) ∙ ap (λ (x : List ℕ). scope t n ++ x) (append-nil (bound t n))
 
 -- a process that stands in the table, with these names in force at its head
 pub data Sits (t : Table) : List ℕ → Term → Type 0 where
@@ -185,8 +185,8 @@ module _ (t : Table) (c : Checked t) where
       ((m : ℕ) → Child t n κ m → Sits t (scope t n ++ bound t n) (term t m)) → Sits t (scope t n) (build κ t n (term t))
   unfolding build check4 check5
   sits_build n l zero e q h = s_nil
-  sits_build n l (suc zero) e q h = s_par (rw (e, append_nil) at (h _ left)) (rw (e, append_nil) at (h _ right))
-  sits_build n l (suc (suc zero)) e q h = s_box (fst _ _ (fst _ _ (rw e at (c.c4 n l)))) (rw (e, append_nil) at (h _ in_box))
+  sits_build n l (suc zero) e q h = s_par (rw (e, append-nil) at (h _ left)) (rw (e, append-nil) at (h _ right))
+  sits_build n l (suc (suc zero)) e q h = s_box (fst _ _ (fst _ _ (rw e at (c.c4 n l)))) (rw (e, append-nil) at (h _ in_box))
   sits_build n l (suc (suc (suc zero))) e q h = s_new (fst _ _ (fst _ _ (rw e at (c.c4 n l)))) (rw e at (h _ in_new))
   sits_build n l (suc (suc (suc (suc zero)))) e q h =
       let f4 = rw e at (c.c4 n l) in

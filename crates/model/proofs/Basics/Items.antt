@@ -6,7 +6,7 @@ use mathlib.Core.Logic.{⊎_elim}
 use Prim.Native.Nat.{ℕ, zero, suc, ◌+◌, ◌-◌, ◌≤◌}
 use native.Mathlib.Nat.{zero-add, suc-add, add_assoc}
 use native.Mathlib.Omega.{arith}
-use borrow.Author.Tests.{leb-true, eqb_true, le-leb, lt-leb}
+use borrow.Author.Tests.{leb-true, eqb-true, le-leb, lt-leb}
 use lib.Dec.{eqb}
 use lib.ListN.{length, take, drop, length-append, length-take}
 use lib.Seq.{take_at}
@@ -123,7 +123,7 @@ shaped_items v e = go (items is_name 11 v 1) refl
 
     go : (r : Res (List ℕ)) → items is_name 11 v 1 ≡ r → items is_name 11 v 1 ≡ done []
     go (refuse n) p = absurd (false≢true (rw (p, shaped) at e))
-    go (done r) p = p ∙ ap done (empty r (eqb_true (length r) 0 (rw (p, shaped) at e)))
+    go (done r) p = p ∙ ap done (empty r (eqb-true (length r) 0 (rw (p, shaped) at e)))
 
 pub items_shaped : (v : List ℕ) → items is_name 11 v 1 ≡ done [] → shaped v ≡ true
 unfolding shaped
@@ -176,7 +176,7 @@ tuple_not_leaf w e = go (is_pattern_leaf w) refl
     go true p =
         let a = leb-true 4000000 w (fst _ _ e) in
         let a' = leb-true w 4000015 (snd _ _ e) in
-        absurd (⊎_elim (λ q. let b = leb-true w 63 q in omega arith) (λ q. let b = eqb_true w 4999999 q in omega arith) (alt _ _ p))
+        absurd (⊎_elim (λ q. let b = leb-true w 63 q in omega arith) (λ q. let b = eqb-true w 4999999 q in omega arith) (alt _ _ p))
 
 pub tuple_not_public : (w : ℕ) → is_tuple w ≡ true → is_public w ≡ false
 tuple_not_public w e = let a = leb-true 4000000 w (fst _ _ e) in lt-leb w 63 (omega arith)
@@ -202,7 +202,7 @@ binds_tuple k p ps ih t n (w ∷ ws) fit e ip iv l h = go (eqb w p) refl
     go : (b : Bool) → eqb w p ≡ b → (length fit.bound ≡ length (binders (p ∷ ps))) × (every (wf_value k) fit.bound ≡ true)
     go false q = absurd (clash (rw (t, matches, q) at e))
     go true q =
-        let same : w ≡ p = eqb_true w p q in
+        let same : w ≡ p = eqb-true w p q in
         let tw : is_tuple w ≡ true = rw same t in
         let iv' : items is_name 11 ws (arity w + n) ≡ done [] = sym (items_tuple is_name 11 w ws n (tuple_not_name w tw) tw) ∙ iv in
         let r = ih (arity p + n) ws fit (rw (t, matches, q) at e) (sym (items_tuple is_pattern_leaf 5 p ps n (tuple_not_leaf p t) t) ∙ ip) (rw same at iv') (omega arith) (snd _ _ h) in

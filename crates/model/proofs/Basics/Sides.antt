@@ -4,10 +4,10 @@ use mathlib.Core.Bool.{Bool, true, false, cond, false≢true}
 use mathlib.Core.List.{List, [], ◌∷◌}
 use Prim.Native.Nat.{ℕ, zero, suc, ◌≤◌}
 use native.Mathlib.Omega.{arith}
-use borrow.Author.Tests.{eqb_true, eq-eqb}
+use borrow.Author.Tests.{eqb-true, eq-eqb}
 use lib.Dec.{eqb}
 use lib.ListN.{length, get_or, set, length-set}
-use lib.Seq.{get_or-set_same, get_or_set_other}
+use lib.Seq.{get_or-set_same, get_or-set_other}
 use Rattle.model.specs.Side.{State, Side, no_side, side, put_side}
 use Rattle.model.specs.Wrapper.{Wrapper, filter, pipeline, logging, no_wrapper, described}
 
@@ -28,7 +28,7 @@ put_same s (suc n) o a l = get_or-set_same s.sides n o no_side l
 pub put_other : (s : State) (n m : ℕ) (o : Side) → (m ≡ n → ⊥) → side (put_side s n o) m ≡ side s m
 put_other s zero m o h = refl
 put_other s (suc n) zero o h = refl
-put_other s (suc n) (suc m) o h = get_or_set_other s.sides n m o no_side (λ q. h (omega (arith, q)))
+put_other s (suc n) (suc m) o h = get_or-set_other s.sides n m o no_side (λ q. h (omega (arith, q)))
 
 set_agree : {A : Type 0} (l m : List A) (i j : ℕ) (a d : A) → length l ≡ length m → get_or l j d ≡ get_or m j d → get_or (set l i a) j d ≡ get_or (set m i a) j d
 set_agree [] [] i j a d n e = e
@@ -62,5 +62,5 @@ pub put_each : (s : State) (n : ℕ) (o : Side) → 1 ≤ n → n ≤ length s.s
 put_each s n o a l P p q m = go (eqb m n) refl
   where
     go : (t : Bool) → eqb m n ≡ t → P m (side (put_side s n o) m)
-    go true e = let z : n ≡ m = sym (eqb_true m n e) in subst (λ (k : ℕ). P k (side (put_side s n o) k)) z (subst (P n) (sym (put_same s n o a l)) p)
+    go true e = let z : n ≡ m = sym (eqb-true m n e) in subst (λ (k : ℕ). P k (side (put_side s n o) k)) z (subst (P n) (sym (put_same s n o a l)) p)
     go false e = subst (P m) (sym (put_other s n m o (λ z. false≢true (sym e ∙ eq-eqb m n z)))) (q m (λ z. false≢true (sym e ∙ eq-eqb m n z)))

@@ -6,7 +6,7 @@ use mathlib.Core.Logic.{◌⊎◌, inl, inr, ⊎_elim}
 use mathlib.Core.Option.{some}
 use Prim.Native.Nat.{ℕ, zero, suc, ◌+◌, ◌*◌, ◌≤◌, ◌<◌}
 use native.Mathlib.Omega.{arith}
-use borrow.Author.Tests.{leb-true, leb-false, eqb_true, eqb-false}
+use borrow.Author.Tests.{leb-true, leb-false, eqb-true, eqb-false}
 use lib.Dec.{eqb}
 use lib.ListN.{length, get_elem?}
 use Rattle.model.specs.Basics.{◌&◌, ◌or◌, Res, refuse, done, bind, need, choose, pick, every, has}
@@ -73,7 +73,7 @@ either false = inr refl
 
 pub no_words : (l : List ℕ) → eqb (length l) 0 ≡ true → l ≡ []
 no_words [] e = refl
-no_words (x ∷ l) e = let z = eqb_true (suc (length l)) 0 e in absurd (omega arith)
+no_words (x ∷ l) e = let z = eqb-true (suc (length l)) 0 e in absurd (omega arith)
 
 pub some_words : (l : List ℕ) → eqb (length l) 0 ≡ false → l ≡ [] → ⊥
 some_words l e q = eqb-false (length l) 0 e (ap length q)
@@ -132,13 +132,13 @@ pub places : (w n : ℕ) → has_side (described w) n ≡ true → Places w n
 places w n h = go (eqb w 1) (eqb w 2) (eqb w 3) refl refl refl h
   where
     first : has n (1 ∷ []) ≡ true → n ≡ 1
-    first h = ⊎_elim (λ q. eqb_true n 1 q) (λ q. absurd (false≢true q)) (or_cases (eqb n 1) false h)
+    first h = ⊎_elim (λ q. eqb-true n 1 q) (λ q. absurd (false≢true q)) (or_cases (eqb n 1) false h)
 
     go : (t u v : Bool) → eqb w 1 ≡ t → eqb w 2 ≡ u → eqb w 3 ≡ v → has n (cond t filter (cond u pipeline (cond v logging no_wrapper))).sides ≡ true → Places w n
-    go true u v p q r h = inl (inl (eqb_true w 1 p), first h)
-    go false true v p q r h = ⊎_elim (λ z. inr (inl (eqb_true w 2 q, eqb_true n 1 z)))
-        (λ z. ⊎_elim (λ t. inr (inr (eqb_true w 2 q, eqb_true n 2 t))) (λ t. absurd (false≢true t)) (or_cases (eqb n 2) false z)) (or_cases (eqb n 1) (has n (2 ∷ [])) h)
-    go false false true p q r h = inl (inr (eqb_true w 3 r), first h)
+    go true u v p q r h = inl (inl (eqb-true w 1 p), first h)
+    go false true v p q r h = ⊎_elim (λ z. inr (inl (eqb-true w 2 q, eqb-true n 1 z)))
+        (λ z. ⊎_elim (λ t. inr (inr (eqb-true w 2 q, eqb-true n 2 t))) (λ t. absurd (false≢true t)) (or_cases (eqb n 2) false z)) (or_cases (eqb n 1) (has n (2 ∷ [])) h)
+    go false false true p q r h = inl (inr (eqb-true w 3 r), first h)
     go false false false p q r h = absurd (false≢true h)
 
 -- under the filter and the logging wrapper nobody takes
@@ -150,9 +150,9 @@ pub copy_count_lem : (w : ℕ) → length (described w).copies ≡ cond (eqb w 3
 copy_count_lem w = go (eqb w 1) (eqb w 2) (eqb w 3) refl refl refl
   where
     go : (t u v : Bool) → eqb w 1 ≡ t → eqb w 2 ≡ u → eqb w 3 ≡ v → length (cond t filter (cond u pipeline (cond v logging no_wrapper))).copies ≡ cond v 1 0
-    go true u true p q r = let a = eqb_true w 1 p in let c = eqb_true w 3 r in absurd (omega arith)
+    go true u true p q r = let a = eqb-true w 1 p in let c = eqb-true w 3 r in absurd (omega arith)
     go true u false p q r = refl
-    go false true true p q r = let a = eqb_true w 2 q in let c = eqb_true w 3 r in absurd (omega arith)
+    go false true true p q r = let a = eqb-true w 2 q in let c = eqb-true w 3 r in absurd (omega arith)
     go false true false p q r = refl
     go false false true p q r = refl
     go false false false p q r = refl

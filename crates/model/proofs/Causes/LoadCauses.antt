@@ -7,7 +7,7 @@ use mathlib.Core.Option.{some}
 use Prim.Native.Nat.{ℕ, zero, suc, ◌+◌, ◌-◌, ◌%◌, ◌≤◌, ◌<◌}
 use native.Mathlib.Nat.{eq-or-lt_of_le}
 use native.Mathlib.Omega.{arith}
-use borrow.Author.Tests.{leb-true, leb-false, ltb-true, ltb-false, eqb_true, eqb-false, ne_eqb, lt-leb, le-ltb}
+use borrow.Author.Tests.{leb-true, leb-false, ltb-true, ltb-false, eqb-true, eqb-false, ne_eqb, lt-leb, le-ltb}
 use lib.Dec.{leb, ltb, eqb}
 use lib.ListN.{length, get_elem?, take, drop}
 use Rattle.model.specs.Basics.{◌&◌, ◌or◌, implies, choose, Res, refuse, done, is_done}
@@ -125,7 +125,7 @@ implies_fail true b e = (refl, e)
 implies_fail false b e = absurd (false≢true (sym e))
 
 used_as : (t : Table) (p k u v : ℕ) → p < count t → get_elem? (uses (kind t p)) k ≡ some u → eqb u v ≡ true → Used t p k v
-used_as t p k u v l g q = (l, g ∙ ap some (eqb_true u v q))
+used_as t p k u v l g q = (l, g ∙ ap some (eqb-true u v q))
 
 -- ROWS 1 TO 5: a check fails exactly where its row applies
 row_1 : (t : Table) → check1 t ≡ false → TableCause t 1 0

@@ -6,7 +6,7 @@ use mathlib.Core.Logic.{◌⊎◌, inl, inr, ⊎_elim}
 use Prim.Native.Nat.{ℕ, ◌≤◌, ◌<◌}
 use native.Mathlib.Nat.{eq-or-lt_of_le}
 use native.Mathlib.Omega.{arith}
-use borrow.Author.Tests.{eqb_true, eqb-false}
+use borrow.Author.Tests.{eqb-true, eqb-false}
 use lib.Dec.{eqb}
 use lib.ListN.{length}
 use Rattle.model.specs.Basics.{◌&◌, choose, Res, refuse, done}
@@ -60,8 +60,8 @@ module _ (b : Composition) where
       go false e s = f e
 
   which_one : is_wrapper b.wrapper ≡ true → Alone b ⊎ (b.wrapper ≡ 2)
-  which_one q = ⊎_elim (λ z. inl (inl (eqb_true b.wrapper 1 z)))
-      (λ z. ⊎_elim (λ y. inr (eqb_true b.wrapper 2 y)) (λ y. inl (inr (eqb_true b.wrapper 3 y))) (alt _ _ z)) (alt _ _ q)
+  which_one q = ⊎_elim (λ z. inl (inl (eqb-true b.wrapper 1 z)))
+      (λ z. ⊎_elim (λ y. inr (eqb-true b.wrapper 2 y)) (λ y. inl (inr (eqb-true b.wrapper 3 y))) (alt _ _ z)) (alt _ _ q)
 
   -- what holds of the numbers 1 and 3
   of_alone : (F : ℕ → Type 0) → F 1 → F 3 → Alone b → F b.wrapper

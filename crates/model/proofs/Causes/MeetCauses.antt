@@ -5,7 +5,7 @@ use mathlib.Core.List.{List, [], ◌++◌}
 use mathlib.Core.Option.{some}
 use Prim.Native.Nat.{ℕ, ◌+◌, ◌≤◌, ◌<◌}
 use native.Mathlib.Omega.{arith}
-use borrow.Author.Tests.{leb-false, eqb_true, eq-eqb, lt-leb, ltb-true, ltb-false}
+use borrow.Author.Tests.{leb-false, eqb-true, eq-eqb, lt-leb, ltb-true, ltb-false}
 use lib.Dec.{eqb, ltb}
 use lib.ListN.{length, get_elem?}
 use Rattle.model.specs.Basics.{◌&◌, Res, refuse, done, bind, need, choose, every, remove}
@@ -20,7 +20,7 @@ use Rattle.model.specs.Step.{Step, Moved, silent, short, with_contents, with_par
 use Rattle.model.specs.Causes.{Meeting, in_force, bindings, unfolded, gone, Fitting, both_within, parent, child, Can, can_enter, can_down, can_up, can_descend, can_meet, can_pass, can_leave}
 use Rattle.model.specs.Causes.{can_take, Row10, no_particle_i, no_particle_j, value_words, malformed, empty, over_16, bad_word, Row17, particles_down, particles_meet, boxes, minted, lobby_enter, lobby_pass, lobby_take}
 use Rattle.model.specs.Causes.{lobby_up, shelf, StepCause, by_10, by_11, by_12, by_13, by_14, by_15, by_16, by_17}
-use Rattle.model.proofs.Basics.Tests.{fst, snd, both, some_inj, append_nil, length_gone}
+use Rattle.model.proofs.Basics.Tests.{fst, snd, both, some_inj, append-nil, length_gone}
 use Rattle.model.proofs.Basics.Splits.{get_pick, get_length}
 use Rattle.model.proofs.Basics.Items.{clash}
 use Rattle.model.proofs.Formed.Keeping.{done_inj}
@@ -67,7 +67,7 @@ true_fit (to_child k) t q = absurd (false≢true q)
 true_fit (from_child k) within q = absurd (false≢true q)
 true_fit (from_child k) to_parent q = absurd (false≢true q)
 true_fit (from_child k) from_parent q = absurd (false≢true q)
-true_fit (from_child k) (to_child m) q = subst (λ (z : ℕ). Fitting (from_child k) (to_child z)) (eqb_true k m q) child
+true_fit (from_child k) (to_child m) q = subst (λ (z : ℕ). Fitting (from_child k) (to_child z)) (eqb-true k m q) child
 true_fit (from_child k) (from_child m) q = absurd (false≢true q)
 
 abbrev IsOut : Particle → Type 0
@@ -139,7 +139,7 @@ module _ (b : Composition) (s : State) (n i j : ℕ) (ws : List ℕ) (e : ready 
   can_test (can_take k a) = absurd (omega arith)
 
   test_can : (m : M) → test m.at m.chan m.tag m.box (in_force b s x5 m) m.in_chan m.in_tag ≡ true → Can b s x5
-  test_can m q = can_meet m (eqb_true m.at m.box (fst _ _ q)) (eqb_true m.chan _ (fst _ _ (snd _ _ q))) (true_fit _ _ (snd _ _ (snd _ _ q)))
+  test_can m q = can_meet m (eqb-true m.at m.box (fst _ _ q)) (eqb-true m.chan _ (fst _ _ (snd _ _ q))) (true_fit _ _ (snd _ _ (snd _ _ q)))
 
   -- two meetings of one step are one
   test_same : (m m' : M) → test m.at m.chan m.tag m.box (in_force b s x5 m) m.in_chan m.in_tag ≡ test m'.at m'.chan m'.tag m'.box (in_force b s x5 m') m'.in_chan m'.in_tag
@@ -235,7 +235,7 @@ module _ (b : Composition) (s : State) (n i j : ℕ) (ws : List ℕ) (e : ready 
 
   behind : (m : M) (f : Fit) → (then_at m f).particles ≡ left_parts m ++ unfolded b s x5 m f
   unfolding left_parts
-  behind m f = ap (λ (l : List Particle). (unfolds n m.body (bindings b s x5 m f) m.at (record { particles = l; boxes = core.contents.boxes; minted = core.contents.minted })).particles) (sym (append_nil (left_parts m)))
+  behind m f = ap (λ (l : List Particle). (unfolds n m.body (bindings b s x5 m f) m.at (record { particles = l; boxes = core.contents.boxes; minted = core.contents.minted })).particles) (sym (append-nil (left_parts m)))
       ∙ ap (λ (u : Contents). u.particles) (unfolds_behind n m.body (bindings b s x5 m f) m.at (left_parts m) [] core.contents.boxes core.contents.minted)
 
   left_short : (m : M) → every short (left_parts m) ≡ true

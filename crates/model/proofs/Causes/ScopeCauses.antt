@@ -5,7 +5,7 @@ use mathlib.Core.List.{[]}
 use mathlib.Core.Logic.{◌⊎◌, inl, inr, ⊎_elim}
 use Prim.Native.Nat.{ℕ, zero, suc, ◌+◌, ◌≤◌, ◌<◌, min}
 use native.Mathlib.Omega.{arith}
-use borrow.Author.Tests.{leb-true, leb-false, eqb_true, eqb-false, lt-leb, ne_eqb, le-leb}
+use borrow.Author.Tests.{leb-true, leb-false, eqb-true, eqb-false, lt-leb, ne_eqb, le-leb}
 use lib.Dec.{leb, eqb}
 use lib.ListN.{length, length-append}
 use Rattle.model.specs.Basics.{or_else}
@@ -47,29 +47,29 @@ child_of_lem t p q zero e l h = absurd (let z : 1 ≤ 0 = rw e at h in omega ari
 child_of_lem t p q (suc zero) e l h = go (eqb (field t p 1) q) (eqb (field t p 2) q) refl refl (rw e at h)
   where
     go : (a b : Bool) → eqb (field t p 1) q ≡ a → eqb (field t p 2) q ≡ b → 1 ≤ cond a 1 0 + (cond b 1 0 + 0) → Child t p 1 q
-    go true b x y z = subst (Child t p 1) (eqb_true (field t p 1) q x) left
-    go false true x y z = subst (Child t p 1) (eqb_true (field t p 2) q y) right
+    go true b x y z = subst (Child t p 1) (eqb-true (field t p 1) q x) left
+    go false true x y z = subst (Child t p 1) (eqb-true (field t p 2) q y) right
     go false false x y z = absurd (omega arith)
 child_of_lem t p q (suc (suc zero)) e l h = go (eqb (field t p 2) q) refl (rw e at h)
   where
     go : (b : Bool) → eqb (field t p 2) q ≡ b → 1 ≤ 0 + (cond b 1 0 + 0) → Child t p 2 q
-    go true y z = subst (Child t p 2) (eqb_true (field t p 2) q y) in_box
+    go true y z = subst (Child t p 2) (eqb-true (field t p 2) q y) in_box
     go false y z = absurd (omega arith)
 child_of_lem t p q (suc (suc (suc zero))) e l h = go (eqb (field t p 2) q) refl (rw e at h)
   where
     go : (b : Bool) → eqb (field t p 2) q ≡ b → 1 ≤ 0 + (cond b 1 0 + 0) → Child t p 3 q
-    go true y z = subst (Child t p 3) (eqb_true (field t p 2) q y) in_new
+    go true y z = subst (Child t p 3) (eqb-true (field t p 2) q y) in_new
     go false y z = absurd (omega arith)
 child_of_lem t p q (suc (suc (suc (suc zero)))) e l h = absurd (let z : 1 ≤ 0 = rw e at h in omega arith)
 child_of_lem t p q (suc (suc (suc (suc (suc zero))))) e l h = go (eqb (field t p 4) q) refl (rw e at h)
   where
     go : (b : Bool) → eqb (field t p 4) q ≡ b → 1 ≤ 0 + (0 + (0 + (cond b 1 0 + 0))) → Child t p 5 q
-    go true y z = subst (Child t p 5) (eqb_true (field t p 4) q y) in_body
+    go true y z = subst (Child t p 5) (eqb-true (field t p 4) q y) in_body
     go false y z = absurd (omega arith)
 child_of_lem t p q (suc (suc (suc (suc (suc (suc zero)))))) e l h = go (eqb (field t p 4) q) refl (rw e at h)
   where
     go : (b : Bool) → eqb (field t p 4) q ≡ b → 1 ≤ 0 + (0 + (0 + (cond b 1 0 + 0))) → Child t p 6 q
-    go true y z = subst (Child t p 6) (eqb_true (field t p 4) q y) in_body
+    go true y z = subst (Child t p 6) (eqb-true (field t p 4) q y) in_body
     go false y z = absurd (omega arith)
 child_of_lem t p q (suc (suc (suc (suc (suc (suc (suc κ))))))) e l h = absurd (omega arith)
 
@@ -163,7 +163,7 @@ module _ (t : Table) (c : Checked t) where
   parent_of : (q : ℕ) → q < count t → (q ≡ 0 → ⊥) → (p : ℕ) × (p < count t) × Child t p (kind t p) q
   unfolding check3 check2
   parent_of q l n0 =
-      let once = ⊎_elim (λ z. absurd (n0 (eqb_true q 0 z))) (λ z. eqb_true (times_child t q (count t)) 1 z) (alt _ _ (snd _ _ (c.c3 q l))) in
+      let once = ⊎_elim (λ z. absurd (n0 (eqb-true q 0 z))) (λ z. eqb-true (times_child t q (count t)) 1 z) (alt _ _ (snd _ _ (c.c3 q l))) in
       let r = times_pos t q (count t) (omega (arith, once)) in
       (r.0, r.1, child_of_lem t r.0 q (kind t r.0) refl (leb-true (kind t r.0) 6 (fst _ _ (c.c2 r.0 r.1))) r.2)
 
@@ -173,7 +173,7 @@ module _ (t : Table) (c : Checked t) where
   all_fuel (suc k) q h l = go (eqb q 0) refl (all_fuel k)
     where
       go : (b : Bool) → eqb q 0 ≡ b → ((q : ℕ) → q < k → q < count t → over 0 (term t 0) ≤ O q) → over 0 (term t 0) ≤ O q
-      go true e ih = subst (λ (z : ℕ). over 0 (term t 0) ≤ O z) (sym (eqb_true q 0 e)) (omega arith)
+      go true e ih = subst (λ (z : ℕ). over 0 (term t 0) ≤ O z) (sym (eqb-true q 0 e)) (omega arith)
       go false e ih =
           let r = parent_of q l (eqb-false q 0 e) in
           let a = is_tree t c r.0 q r.1 r.2 in

@@ -6,7 +6,7 @@ use mathlib.Core.Logic.{◌⊎◌, inl, inr, ⊎_elim}
 use mathlib.Core.Option.{some}
 use Prim.Native.Nat.{ℕ, zero, suc, ◌+◌, ◌≤◌, ◌<◌}
 use native.Mathlib.Omega.{arith}
-use borrow.Author.Tests.{leb-true, leb-false, eqb_true, eqb-false, eq-eqb, ltb-true, ne_eqb}
+use borrow.Author.Tests.{leb-true, leb-false, eqb-true, eqb-false, eq-eqb, ltb-true, ne_eqb}
 use lib.Dec.{leb, eqb}
 use lib.ListN.{length, set, get_elem?, length-append, length-set}
 use Rattle.model.specs.Basics.{◌&◌, ◌or◌, Res, refuse, done, choose, every, one_of, remove}
@@ -257,7 +257,7 @@ module _ (b : Composition) (s : State) (n i j : ℕ) (ws : List ℕ) where
         need_c (Low 2) (Good 2) _ 10 _ (λ q. low_10 2 (value_words refl (some_words ws q))) λ w.
         need_c (Low 2) (Good 2) _ 10 _ (λ q. low_10 2 (unused_j refl (eqb-false j 0 q))) λ z.
         pick_c (Low 2) (Good 2) K.lobby i _ (λ q. low_10 2 (no_message refl q)) λ m g.
-        let t = tens_2 (no_words ws w) (eqb_true j 0 z) m g 2 (inl refl) in
+        let t = tens_2 (no_words ws w) (eqb-true j 0 z) m g 2 (inl refl) in
         need_c (Low 2) (Good 2) _ 13 _ (λ q. low_13 2 t (λ y. omega arith) (can_2 m g q)) λ q.
         good 2 _ (λ y. omega arith) (above_13 2 t (λ y. omega arith)) (can_down refl g (is_down_lem m.status q))
         (every_append short K.contents.particles _ parts_short (every_one short (output 0 m.chan from_parent m.val) (message_short m g))) (full_2 m) (not_full_2 m)
@@ -325,9 +325,9 @@ module _ (b : Composition) (s : State) (n i j : ℕ) (ws : List ℕ) where
         need_c (Low 6) (Good 6) _ 10 _ (λ q. low_10 6 (value_words refl (some_words ws q))) λ w.
         need_c (Low 6) (Good 6) _ 10 _ (λ q. low_10 6 (unused_j refl (eqb-false j 0 q))) λ z.
         pick_c (Low 6) (Good 6) K.lobby i _ (λ q. low_10 6 (no_message refl q)) λ m g.
-        let t = tens_2 (no_words ws w) (eqb_true j 0 z) m g 6 (inr (inl refl)) in
+        let t = tens_2 (no_words ws w) (eqb-true j 0 z) m g 6 (inr (inl refl)) in
         need_c (Low 6) (Good 6) _ 13 _ (λ q. low_13 6 t (λ y. omega arith) (can_6 m g q)) λ q.
-        good 6 _ (λ y. omega arith) (above_13 6 t (λ y. omega arith)) (can_pass refl g (is_arrived_lem m.status (fst _ _ q)) (eqb_true m.chan 1 (snd _ _ q))) parts_short
+        good 6 _ (λ y. omega arith) (above_13 6 t (λ y. omega arith)) (can_pass refl g (is_arrived_lem m.status (fst _ _ q)) (eqb-true m.chan 1 (snd _ _ q))) parts_short
         (full_6 m) (not_full_6 m)
 
     -- KIND 7
@@ -347,7 +347,7 @@ module _ (b : Composition) (s : State) (n i j : ℕ) (ws : List ℕ) where
         need_c (Low 7) (Good 7) _ 10 _ (λ q. low_10 7 (value_words refl (some_words ws q))) λ w.
         need_c (Low 7) (Good 7) _ 10 _ (λ q. low_10 7 (unused_j refl (eqb-false j 0 q))) λ z.
         pick_c (Low 7) (Good 7) K.lobby i _ (λ q. low_10 7 (no_message refl q)) λ m g.
-        let t = tens_2 (no_words ws w) (eqb_true j 0 z) m g 7 (inr (inr refl)) in
+        let t = tens_2 (no_words ws w) (eqb-true j 0 z) m g 7 (inr (inr refl)) in
         need_c (Low 7) (Good 7) _ 13 _ (λ q. low_13 7 t (λ y. omega arith) (can_7 m g q)) λ q.
         good 7 _ (λ y. omega arith) (above_13 7 t (λ y. omega arith)) (can_leave refl g (is_leaving_lem m.status q)) parts_short
         (λ y. absurd (roomy _ few_parts few_boxes few_minted (let l = length_remove K.lobby i in let f = o.few_lobby in omega arith) o.few_shelf y))
@@ -450,7 +450,7 @@ module _ (b : Composition) (s : State) (n i j : ℕ) (ws : List ℕ) where
     unfolding local choose enter
     kind_1 =
         need_c (Low 1) (Good 1) _ 10 _ (λ q. ⊎_elim (λ z. low_10 1 (unused_i refl (eqb-false i 0 z))) (λ z. low_10 1 (unused_j refl (eqb-false j 0 z))) (one_fails _ _ q)) λ z.
-        let t = tens_1 (eqb_true i 0 (fst _ _ z)) (eqb_true j 0 (snd _ _ z)) in
+        let t = tens_1 (eqb-true i 0 (fst _ _ z)) (eqb-true j 0 (snd _ _ z)) in
         need_c (Low 1) (Good 1) _ 11 _ (λ q. (by_11 (no_value q), above_11 t)) λ v.
         need_c (Low 1) (Good 1) _ 12 _ (λ q. (by_twelve q, above_12 t v)) λ w.
         good 1 _ (λ y. omega arith) (above_1 t v w) (can_enter refl) parts_short full_1 not_full_1
@@ -465,7 +465,7 @@ module _ (b : Composition) (s : State) (n i j : ℕ) (ws : List ℕ) where
     where_shelves p q = subst (λ (w : ℕ). shelves (described w) n ≡ true) (sym p) (subst (λ (m : ℕ). shelves (described 2) m ≡ true) (sym q) refl)
 
     to_shelf : (ch : ℕ) → shelves (wrapper_of b) n & eqb ch 2 ≡ true → ToShelf b (X 3) ch
-    to_shelf ch q = let z = shelves_where (fst _ _ q) in (z.0, z.1, eqb_true ch 2 (snd _ _ q))
+    to_shelf ch q = let z = shelves_where (fst _ _ q) in (z.0, z.1, eqb-true ch 2 (snd _ _ q))
 
     shelf_to : (ch : ℕ) → ToShelf b (X 3) ch → shelves (wrapper_of b) n & eqb ch 2 ≡ true
     shelf_to ch t = both _ _ (where_shelves t.0 t.1) (eq-eqb ch 2 t.2)
@@ -617,7 +617,7 @@ module _ (b : Composition) (s : State) (n i j : ℕ) (ws : List ℕ) where
         need_c (Low 3) (Good 3) _ 10 _ (λ q. low_10 3 (value_words refl (some_words ws q))) λ w.
         need_c (Low 3) (Good 3) _ 10 _ (λ q. low_10 3 (unused_j refl (eqb-false j 0 q))) λ z.
         pick_c (Low 3) (Good 3) K.contents.particles i _ (λ q. low_10 3 (no_particle_i refl q)) λ p g.
-        up_part (tens_3 (no_words ws w) (eqb_true j 0 z) p g) p g
+        up_part (tens_3 (no_words ws w) (eqb-true j 0 z) p g) p g
 
     -- KIND 4
     tens_4 : ws ≡ [] → (p : Particle) → get_elem? K.contents.particles i ≡ some p → (c : Box) → get_elem? K.contents.boxes j ≡ some c → Tens 4
@@ -639,7 +639,7 @@ module _ (b : Composition) (s : State) (n i j : ℕ) (ws : List ℕ) where
     is_child_lem within m q = absurd (false≢true q)
     is_child_lem to_parent m q = absurd (false≢true q)
     is_child_lem from_parent m q = absurd (false≢true q)
-    is_child_lem (to_child k) m q = ap to_child (eqb_true k m q)
+    is_child_lem (to_child k) m q = ap to_child (eqb-true k m q)
     is_child_lem (from_child k) m q = absurd (false≢true q)
 
     fits_4 : Box → Particle → Bool
@@ -666,7 +666,7 @@ module _ (b : Composition) (s : State) (n i j : ℕ) (ws : List ℕ) where
     descend_part t (output a c g v) q x gx = need_c (Low 4) (Good 4) _ 13 _ (λ z. low_13 4 t (λ y. omega arith) (can_4 (output a c g v) q x gx z))
         (λ z. good 4 _ (λ y. omega arith) (above_13 4 t (λ y. omega arith))
         (can_descend refl (subst (λ (y : Tag). get_elem? K.contents.particles i ≡ some (output a c y v)) (is_child_lem g x.name (snd (eqb x.parent a) _ (snd (not (eqb j 0)) _ z))) q) gx
-        (eqb-false j 0 (not_true' (eqb j 0) (fst (not (eqb j 0)) _ z))) (eqb_true x.parent a (fst (eqb x.parent a) _ (snd (not (eqb j 0)) _ z))) refl)
+        (eqb-false j 0 (not_true' (eqb j 0) (fst (not (eqb j 0)) _ z))) (eqb-true x.parent a (fst (eqb x.parent a) _ (snd (not (eqb j 0)) _ z))) refl)
         (every_set short K.contents.particles i (output j c from_parent v) parts_short (part_fact a c g v q).1)
         (λ y. absurd (roomy _ (subst (λ (z : ℕ). z ≤ 32) (sym (length-set K.contents.particles i _)) few_parts) few_boxes few_minted o.few_lobby o.few_shelf y))
         (λ y. absurd (none_17 4 (inl refl) y)))
@@ -708,7 +708,7 @@ module _ (b : Composition) (s : State) (n i j : ℕ) (ws : List ℕ) where
         (places b.wrapper n h)
       where
         on_j : (t : Bool) → eqb 0 j ≡ t → (b.wrapper ≡ 2) × (n ≡ 2) → ◌≡◌ {A = Res Route} (choose t (done (record { source = 1; receiver = 2; j = 0 })) (refuse 10)) (done r) → (r.source ≡ 1) × (b.wrapper ≡ 2) × (n ≡ 2) × (j ≡ 0)
-        on_j true p z q = (ap (λ (y : Route). y.source) (sym (done-is q)), z.0, z.1, sym (eqb_true 0 j p))
+        on_j true p z q = (ap (λ (y : Route). y.source) (sym (done-is q)), z.0, z.1, sym (eqb-true 0 j p))
           where
             done-is : {a c : Route} → ◌≡◌ {A = Res Route} (done a) (done c) → a ≡ c
             done-is e = cc
@@ -774,16 +774,16 @@ module _ (b : Composition) (s : State) (n i j : ℕ) (ws : List ℕ) where
     -- NO SUCH KIND
     pub no_such : (k : ℕ) → (k ≡ 0) ⊎ (8 < k) → Caused (Low k) (Good k) (L k)
     unfolding local inner
-    no_such k q = choose_c (Low k) (Good k) (eqb k 1) _ _ (λ z. absurd (out 1 (eqb_true k 1 z) (omega arith) (omega arith)))
-        (λ a. choose_c (Low k) (Good k) (eqb k 8) _ _ (λ z. absurd (out 8 (eqb_true k 8 z) (omega arith) (omega arith)))
+    no_such k q = choose_c (Low k) (Good k) (eqb k 1) _ _ (λ z. absurd (out 1 (eqb-true k 1 z) (omega arith) (omega arith)))
+        (λ a. choose_c (Low k) (Good k) (eqb k 8) _ _ (λ z. absurd (out 8 (eqb-true k 8 z) (omega arith) (omega arith)))
         (λ c. need_c (Low k) (Good k) _ 10 _ (λ z. low_10 k (no_kind q))
-        (λ d. choose_c (Low k) (Good k) (eqb k 4) _ _ (λ z. absurd (out 4 (eqb_true k 4 z) (omega arith) (omega arith)))
-        (λ f. choose_c (Low k) (Good k) (eqb k 5) _ _ (λ z. absurd (out 5 (eqb_true k 5 z) (omega arith) (omega arith)))
+        (λ d. choose_c (Low k) (Good k) (eqb k 4) _ _ (λ z. absurd (out 4 (eqb-true k 4 z) (omega arith) (omega arith)))
+        (λ f. choose_c (Low k) (Good k) (eqb k 5) _ _ (λ z. absurd (out 5 (eqb-true k 5 z) (omega arith) (omega arith)))
         (λ g. need_c (Low k) (Good k) _ 10 _ (λ z. low_10 k (no_kind q))
-        (λ l. choose_c (Low k) (Good k) (eqb k 2) _ _ (λ z. absurd (out 2 (eqb_true k 2 z) (omega arith) (omega arith)))
-        (λ m. choose_c (Low k) (Good k) (eqb k 3) _ _ (λ z. absurd (out 3 (eqb_true k 3 z) (omega arith) (omega arith)))
-        (λ p. choose_c (Low k) (Good k) (eqb k 6) _ _ (λ z. absurd (out 6 (eqb_true k 6 z) (omega arith) (omega arith)))
-        (λ r. choose_c (Low k) (Good k) (eqb k 7) _ _ (λ z. absurd (out 7 (eqb_true k 7 z) (omega arith) (omega arith)))
+        (λ l. choose_c (Low k) (Good k) (eqb k 2) _ _ (λ z. absurd (out 2 (eqb-true k 2 z) (omega arith) (omega arith)))
+        (λ m. choose_c (Low k) (Good k) (eqb k 3) _ _ (λ z. absurd (out 3 (eqb-true k 3 z) (omega arith) (omega arith)))
+        (λ p. choose_c (Low k) (Good k) (eqb k 6) _ _ (λ z. absurd (out 6 (eqb-true k 6 z) (omega arith) (omega arith)))
+        (λ r. choose_c (Low k) (Good k) (eqb k 7) _ _ (λ z. absurd (out 7 (eqb-true k 7 z) (omega arith) (omega arith)))
         (λ t. low_10 k (no_kind q)))))))))))
       where
         out : (m : ℕ) → k ≡ m → 1 ≤ m → m ≤ 8 → ⊥

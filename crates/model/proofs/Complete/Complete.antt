@@ -5,7 +5,7 @@ use mathlib.Core.Logic.{◌≢◌, ◌⊎◌, inl, inr, ⊎_elim}
 use mathlib.Core.List.{List, [], ◌∷◌}
 use mathlib.Core.Option.{some}
 use Prim.Native.Nat.{ℕ}
-use borrow.Author.Tests.{eqb_true, eqb-false}
+use borrow.Author.Tests.{eqb-true, eqb-false}
 use lib.Dec.{eqb}
 use lib.ListN.{get_elem?, set}
 use Rattle.calculus.specs.Syntax.{Val, Pat, Vars, ITag, plain, Mode, Proc, comp, match, ren}
@@ -62,7 +62,7 @@ module _ (b : Composition) (s : State) (e : ready b s ≡ true) where
           → fill (conf_of b s).boxes (upd (λ k. parallel (sel k)) z (parallel (set (set (sel z) i pnil) j (after m u x g p P σ)))) ≋ v.next → Completed b s tau (joint t u) R
 
       go : (c : Bool) → eqb k 0 ≡ c → Completed b s tau (joint t u) R
-      go true q = subst At (sym (eqb_true k 0 q)) (λ o h to. complete_forward b s e R v i j x g y m p P σ ne o h f ok to) o h to
+      go true q = subst At (sym (eqb-true k 0 q)) (λ o h to. complete_forward b s e R v i j x g y m p P σ ne o h f ok to) o h to
       go false q = complete_meeting b s e v k i j x g y m p P σ ne o h f ok to (eqb-false k 0 q)
 
   by_move : {N R : Proc Mark []} {w : Participants Mark} → Move (All b s) (conf_of b s).boxes sel (wf_all b s e) (atoms_at (conf_of b s).items (items_atoms ids b s e)) (fn_sel b s e) N tau w →

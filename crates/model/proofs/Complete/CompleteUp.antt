@@ -5,7 +5,7 @@ use mathlib.Core.List.{List, [], ◌∷◌, ◌++◌}
 use mathlib.Core.Option.{some}
 use Prim.Native.Nat.{ℕ, zero, suc, ◌≤◌, ◌<◌}
 use native.Mathlib.Omega.{arith}
-use borrow.Author.Tests.{leb-true, leb-false, ne_eqb, eqb_true}
+use borrow.Author.Tests.{leb-true, leb-false, ne_eqb, eqb-true}
 use lib.Dec.{leb, eqb, T}
 use lib.ListN.{length, get_elem?, set, length-set}
 use Rattle.calculus.specs.Syntax.{Val, plain, received_child, Proc, remark}
@@ -134,7 +134,7 @@ module _ (b : Composition) (s : State) (e : ready b s ≡ true) where
         silent_met b s e vw ac v (up_step vw.c.side j) refl q (up_there vw.c (known s) (shelf_of s) vw.core j 0 ch u g ∙ to_shelf vw.c vw.core j ch u h)
         (every_remove short vw.core.contents.particles j (all_short b s e vw)) refl refl J n
         (λ l. bag_trans bag (bag_trans
-        (bag_eq (ap₂ (λ (x : ℕ) (r : List (Item (Unit {0}))). item 0 (pout tt x (received_child (own_name vw.c.side)) (val_of u)) ∷ r) (eqb_true ch 2 (snd _ _ h)) gone)) (vw.shelve q vw.left u refl refl (vw.free (room l)))))
+        (bag_eq (ap₂ (λ (x : ℕ) (r : List (Item (Unit {0}))). item 0 (pout tt x (received_child (own_name vw.c.side)) (val_of u)) ∷ r) (eqb-true ch 2 (snd _ _ h)) gone)) (vw.shelve q vw.left u refl refl (vw.free (room l)))))
         (λ l. by_17 (shelf_full refl (here_part g) is_shelf (full (leb 32 (length vw.core.shelf)) refl l)))
       where
         q : Core

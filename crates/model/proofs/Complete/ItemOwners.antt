@@ -5,7 +5,7 @@ use mathlib.Core.List.{List, [], ◌∷◌, ◌++◌, append_assoc}
 use mathlib.Core.Logic.{⊎_elim}
 use mathlib.Core.Option.{some}
 use Prim.Native.Nat.{ℕ}
-use borrow.Author.Tests.{eqb_true, eq-eqb}
+use borrow.Author.Tests.{eqb-true, eq-eqb}
 use lib.Dec.{eqb}
 use lib.ListN.{get_elem?, set}
 use Rattle.calculus.specs.Tree.{Item}
@@ -53,7 +53,7 @@ by_at {A} f (k ∷ ns) d X i Y e = go (part_of (f k) (by_side f ns) X i Y e) (λ
       P = k ∷ r.P;
       Q = r.Q;
       is = ap (λ (l : List ℕ). k ∷ l) r.is;
-      off = λ z. ⊎_elim (λ y. d.0 (subst (λ (m : ℕ). has m ns ≡ true) (eqb_true r.n k y) (ap (has r.n) r.is ∙ has_mid r.n r.P r.Q))) r.off (or_cases (eqb r.n k) (has r.n r.P) z);
+      off = λ z. ⊎_elim (λ y. d.0 (subst (λ (m : ℕ). has m ns ≡ true) (eqb-true r.n k y) (ap (has r.n) r.is ∙ has_mid r.n r.P r.Q))) r.off (or_cases (eqb r.n k) (has r.n r.P) z);
       X1 = r.X1;
       Y1 = r.Y1;
       at = r.at;

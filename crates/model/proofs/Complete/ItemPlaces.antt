@@ -19,7 +19,7 @@ use Rattle.model.specs.Wrapper.{Wrapper}
 use Rattle.model.specs.Side.{Particle, Message, Core}
 use Rattle.model.specs.Process.{Mark, numbered, part_item, msg_item, side_items}
 use Rattle.calculus.proofs.Trees.{fill_cong, upd_same, upd_other}
-use Rattle.calculus.proofs.FreeNames.{eqb_true}
+use Rattle.calculus.proofs.FreeNames.{eqb-true}
 use Rattle.calculus.proofs.Bags.{item, at, select_app, ritem, ritems, ritems_app}
 use Rattle.model.proofs.Basics.Splits.{numbered_map}
 use Rattle.model.proofs.Sound.ItemMoves.{ids, forget, plain_m, plain_p, plain_part, plain_msg, target}
@@ -153,7 +153,7 @@ module _ {M : Type 0} (bs : List (Place M)) (I : List (Item M)) where
   one_changed b i P Q a = fill_cong bs (upd content b (parallel (set (select I b) i Q))) (at (a.X ++ item b Q ∷ a.Y)) (λ k. go k (eqb k b) refl)
     where
       go : (k : ℕ) (c : Bool) → eqb k b ≡ c → upd content b (parallel (set (select I b) i Q)) k ≋ at (a.X ++ item b Q ∷ a.Y) k
-      go k true q = subst₂ (λ (Y Z : Proc M []). Y ≋ Z) (sym (upd_same content b k (parallel (set (select I b) i Q)) q)) (ap (λ (z : ℕ). at (a.X ++ item b Q ∷ a.Y) z) (sym (eqb_true q)))
+      go k true q = subst₂ (λ (Y Z : Proc M []). Y ≋ Z) (sym (upd_same content b k (parallel (set (select I b) i Q)) q)) (ap (λ (z : ℕ). at (a.X ++ item b Q ∷ a.Y) z) (sym (eqb-true q)))
           (subst (λ (l : List (Proc M [])). parallel l ≋ at (a.X ++ item b Q ∷ a.Y) b) (sym (a.put Q)) rfl)
       go k false q = subst₂ (λ (Y Z : Proc M []). Y ≋ Z) (sym (upd_other content b k (parallel (set (select I b) i Q)) q)) (ap parallel (off a.X a.Y b k P Q a.is q)) rfl
 
@@ -171,11 +171,11 @@ module _ {M : Type 0} (bs : List (Place M)) (I : List (Item M)) where
       go : (k : ℕ) (t : Bool) → eqb k c ≡ t → (u : Bool) → eqb k b ≡ u → F k ≋ at (item c R ∷ Z) k
       go k true q u r = subst₂ (λ (Y1 Y2 : Proc M []). Y1 ≋ Y2) (sym (upd_same (upd content b (parallel (set (select I b) i Q))) c k (ppar R (content c)) q))
           (ap (λ (t : Bool). parallel (cond t (R ∷ select Z k) (select Z k))) (sym q))
-          (in_par rfl (subst₂ (λ (Y1 Y2 : Proc M []). Y1 ≋ Y2) (ap content (eqb_true q)) refl
-          (subst (λ (l : List (Proc M [])). content k ≋ parallel l) (off a.X a.Y b k P Q a.is (subst (λ (z : ℕ). eqb z b ≡ false) (sym (eqb_true q)) n)) rfl)))
+          (in_par rfl (subst₂ (λ (Y1 Y2 : Proc M []). Y1 ≋ Y2) (ap content (eqb-true q)) refl
+          (subst (λ (l : List (Proc M [])). content k ≋ parallel l) (off a.X a.Y b k P Q a.is (subst (λ (z : ℕ). eqb z b ≡ false) (sym (eqb-true q)) n)) rfl)))
       go k false q true r = subst₂ (λ (Y1 Y2 : Proc M []). Y1 ≋ Y2) (sym (upd_other (upd content b (parallel (set (select I b) i Q))) c k (ppar R (content c)) q ∙ upd_same content b k (parallel (set (select I b) i Q)) r))
           (ap (λ (t : Bool). parallel (cond t (R ∷ select Z k) (select Z k))) (sym q))
-          (subst (λ (z : ℕ). parallel (set (select I b) i Q) ≋ parallel (select Z z)) (sym (eqb_true r)) (subst (λ (l : List (Proc M [])). parallel l ≋ parallel (select Z b)) (sym (a.put Q)) rfl))
+          (subst (λ (z : ℕ). parallel (set (select I b) i Q) ≋ parallel (select Z z)) (sym (eqb-true r)) (subst (λ (l : List (Proc M [])). parallel l ≋ parallel (select Z b)) (sym (a.put Q)) rfl))
       go k false q false r = subst₂ (λ (Y1 Y2 : Proc M []). Y1 ≋ Y2) (sym (upd_other (upd content b (parallel (set (select I b) i Q))) c k (ppar R (content c)) q ∙ upd_other content b k (parallel (set (select I b) i Q)) r))
           (ap (λ (t : Bool). parallel (cond t (R ∷ select Z k) (select Z k))) (sym q)) (subst (λ (l : List (Proc M [])). content k ≋ parallel l) (off a.X a.Y b k P Q a.is r) rfl)
 
@@ -188,7 +188,7 @@ two_changed {M} bs I b i j P Q P' Q' a c = fill_cong bs F (at (c.X ++ item b Q' 
     F = upd (λ k. parallel (select I k)) b (parallel (set (set (select I b) i Q) j Q'))
 
     go : (k : ℕ) (t : Bool) → eqb k b ≡ t → F k ≋ at (c.X ++ item b Q' ∷ c.Y) k
-    go k true q = subst₂ (λ (Y Z : Proc M []). Y ≋ Z) (sym (upd_same (λ k. parallel (select I k)) b k (parallel (set (set (select I b) i Q) j Q')) q)) (ap (λ (z : ℕ). at (c.X ++ item b Q' ∷ c.Y) z) (sym (eqb_true q)))
+    go k true q = subst₂ (λ (Y Z : Proc M []). Y ≋ Z) (sym (upd_same (λ k. parallel (select I k)) b k (parallel (set (set (select I b) i Q) j Q')) q)) (ap (λ (z : ℕ). at (c.X ++ item b Q' ∷ c.Y) z) (sym (eqb-true q)))
         (subst (λ (l : List (Proc M [])). parallel l ≋ at (c.X ++ item b Q' ∷ c.Y) b) (sym (ap (λ (l : List (Proc M [])). set l j Q') (a.put Q) ∙ c.put Q')) rfl)
     go k false q = subst₂ (λ (Y Z : Proc M []). Y ≋ Z) (sym (upd_other (λ k. parallel (select I k)) b k (parallel (set (set (select I b) i Q) j Q')) q))
         (ap parallel (off bs I a.X a.Y b k P Q a.is q ∙ off bs (a.X ++ item b Q ∷ a.Y) c.X c.Y b k P' Q' c.is q)) rfl

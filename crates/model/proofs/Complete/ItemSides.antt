@@ -6,7 +6,7 @@ use mathlib.Core.Logic.{◌⊎◌, inl, inr, ⊎_elim}
 use mathlib.Core.Option.{some}
 use Prim.Native.Nat.{ℕ, suc, ◌+◌, ◌≤◌}
 use native.Mathlib.Omega.{arith}
-use borrow.Author.Tests.{leb-true, ltb-true, le-leb, eqb_true, eq-eqb}
+use borrow.Author.Tests.{leb-true, ltb-true, le-leb, eqb-true, eq-eqb}
 use lib.Dec.{leb, eqb, T}
 use lib.ListN.{length, get_elem?, length-append}
 use Rattle.calculus.specs.Syntax.{Val, Tag, plain, received_parent, received_child, Proc, ITag, ren, remark}
@@ -221,7 +221,7 @@ module _ (b : Composition) (s : State) (e : ready b s ≡ true) where
         where
           by_zero : (t : Bool) → eqb a.j 0 ≡ t → Root c
           by_zero true z =
-              let j0 = eqb_true a.j 0 z in
+              let j0 = eqb-true a.j 0 z in
               let is0 : c ≡ place_of ids a.n 0 a.box = a.is ∙ ap (λ (n : ℕ). place_of ids a.n n a.box) j0 in
               record { side = a.n; is_side = a.is_side; site_is = ap (λ (d : Place Mark). d.site) is0; name_is = ap (λ (d : Place Mark). d.name) is0; mark_is = ap (λ (d : Place Mark). d.mark) is0 }
           by_zero false z =

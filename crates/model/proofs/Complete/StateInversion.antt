@@ -29,7 +29,7 @@ use Rattle.calculus.proofs.Marks.{remark_cong}
 use Rattle.calculus.proofs.Equivariance.{lren}
 use Rattle.calculus.proofs.Restriction.{RestrictInv, minus}
 use Rattle.calculus.proofs.Trees.{same}
-use Rattle.calculus.proofs.FreeNames.{eqb_true}
+use Rattle.calculus.proofs.FreeNames.{eqb-true}
 use Rattle.calculus.proofs.TreeMoves.{Atom, Move, term_moves}
 use Rattle.calculus.proofs.Bags.{item, at, Bag, ritems}
 use Rattle.model.proofs.Basics.Tests.{fst, snd, some_inj, or_right, no_some}
@@ -127,7 +127,7 @@ item_at {M} (x ∷ I) k i P e = go (eqb k x.site) refl i e (λ i e. item_at I k 
     go true q zero e ih = record {
       X = [];
       Y = I;
-      is = ap₂ (λ (z : ℕ) (R : Proc M []). record { site = z; what = R } ∷ I) (sym (eqb_true q)) (some_inj e);
+      is = ap₂ (λ (z : ℕ) (R : Proc M []). record { site = z; what = R } ∷ I) (sym (eqb-true q)) (some_inj e);
       put = λ Q. ap (λ (l : List (Proc M [])). set l zero Q) (skip true q I) ∙ sym (ap (λ (t : Bool). cond t (Q ∷ select I k) (select I k)) (same k));
     }
     go true q (suc i) e ih = let r = ih i e in record {

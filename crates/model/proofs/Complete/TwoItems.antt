@@ -19,7 +19,7 @@ use Rattle.model.specs.Wrapper.{Wrapper}
 use Rattle.model.specs.Side.{Particle, Message, Core}
 use Rattle.model.specs.Process.{Mark, site_of, numbered, part_item, msg_item, side_items}
 use Rattle.calculus.proofs.Trees.{same, fill_cong, upd_same, upd_other}
-use Rattle.calculus.proofs.FreeNames.{eqb_true}
+use Rattle.calculus.proofs.FreeNames.{eqb-true}
 use Rattle.calculus.proofs.Bags.{item, at, select_app, ritem, ritems, ritems_app}
 use Rattle.model.proofs.Basics.Splits.{numbered_map}
 use Rattle.model.proofs.Sound.ItemMoves.{ids, forget, plain_m, plain_p, plain_part, plain_msg, whole, target}
@@ -62,7 +62,7 @@ two_at {M} (x ∷ I) k i j P Q lt e e' = go (eqb k x.site) refl i j lt e e' (λ 
       X = [];
       Y = r.X;
       Z = r.Y;
-      is = ap₂ (λ (z : Item M) (l : List (Item M)). z ∷ l) (ap₂ (λ (z : ℕ) (R : Proc M []). item z R) (sym (eqb_true q)) (some_inj e)) r.is;
+      is = ap₂ (λ (z : Item M) (l : List (Item M)). z ∷ l) (ap₂ (λ (z : ℕ) (R : Proc M []). item z R) (sym (eqb-true q)) (some_inj e)) r.is;
       put = λ P' Q'. ap (λ (l : List (Proc M [])). set (set l zero P') (suc j) Q') (skip true q I) ∙ ap (λ (l : List (Proc M [])). P' ∷ l) (r.put Q')
           ∙ sym (ap (λ (t : Bool). cond t (P' ∷ select (r.X ++ item k Q' ∷ r.Y) k) (select (r.X ++ item k Q' ∷ r.Y) k)) (same k));
     }
@@ -98,7 +98,7 @@ module _ {M : Type 0} (bs : List (Place M)) (I : List (Item M)) where
           ∙ ap (λ (l : List (Proc M [])). select X k ++ l) (select_app Y (item b S ∷ Z) k ∙ ap (λ (c : Bool). select Y k ++ cond c (S ∷ select Z k) (select Z k)) n)
 
       go : (k : ℕ) (c : Bool) → eqb k b ≡ c → upd content b (parallel L) k ≋ at J k
-      go k true q = subst₂ (λ (A B : Proc M []). A ≋ B) (sym (upd_same content b k (parallel L) q)) (ap (λ (z : ℕ). at J z) (sym (eqb_true q))) (subst (λ (z : List (Proc M [])). parallel z ≋ at J b) (sym l) rfl)
+      go k true q = subst₂ (λ (A B : Proc M []). A ≋ B) (sym (upd_same content b k (parallel L) q)) (ap (λ (z : ℕ). at J z) (sym (eqb-true q))) (subst (λ (z : List (Proc M [])). parallel z ≋ at J b) (sym l) rfl)
       go k false q = subst₂ (λ (A B : Proc M []). A ≋ B) (sym (upd_other content b k (parallel L) q)) (ap parallel (ap (λ (z : List (Item M)). select z k) e ∙ gap k P Q q ∙ sym (gap k P' Q' q))) rfl
 
 -- two elements of a numbered list
@@ -182,7 +182,7 @@ module _ (w : Wrapper) (side : ℕ) (T : Table) (C D : List (Item Mark)) (s : Co
   away_l n (m ∷ l) = (λ k. off k (eqb (site_of side k) 0) refl, away_l (suc n) l)
     where
       off : (k : ℕ) (c : Bool) → eqb (site_of side k) 0 ≡ c → c ≡ false
-      off k true q = let z : site_of side k ≡ 0 = eqb_true q in absurd (omega arith)
+      off k true q = let z : site_of side k ≡ 0 = eqb-true q in absurd (omega arith)
       off k false q = refl
 
   pub two_parts : (X : List (Item Mark)) (k : ℕ) (P : Proc Mark []) (Y : List (Item Mark)) (Q : Proc Mark []) (Z : List (Item Mark)) → whole w side T C D s ≡ X ++ item (site_of side k) P ∷ (Y ++ item (site_of side k) Q ∷ Z)

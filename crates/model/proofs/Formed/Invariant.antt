@@ -6,7 +6,7 @@ use mathlib.Core.Logic.{◌⊎◌, inl, inr, ⊎_elim}
 use Prim.Native.Nat.{ℕ, zero, suc, ◌+◌, ◌/◌, ◌%◌, ◌<◌, ◌≤◌}
 use native.Mathlib.Nat.{add-zero}
 use native.Mathlib.Omega.{arith}
-use borrow.Author.Tests.{leb-true, eqb_true, le-leb, lt-ltb, ltb-true}
+use borrow.Author.Tests.{leb-true, eqb-true, le-leb, lt-ltb, ltb-true}
 use lib.Dec.{ltb, eqb}
 use lib.ListN.{length, get_or, set, length-set}
 use Rattle.model.specs.Basics.{◌&◌, choose, need, Res, refuse, done, bind, every, one_of, has}
@@ -63,7 +63,7 @@ core_limits c k s o = both _ _ o.contents.few (both _ _ (le-leb _ _ o.few_lobby)
 pub route_j : (rs : List Route) (n j : ℕ) (r : Route) → route_to rs n j ≡ done r → r.j ≡ j
 unfolding route_to
 route_j [] n j r e = absurd (clash e)
-route_j (q ∷ rs) n j r e = ⊎_elim (λ p. ap (λ (x : Route). x.j) (sym (done_inj p.1)) ∙ eqb_true q.j j (snd _ _ p.0)) (λ p. route_j rs n j r p.1) (choose_done _ _ _ _ e)
+route_j (q ∷ rs) n j r e = ⊎_elim (λ p. ap (λ (x : Route). x.j) (sym (done_inj p.1)) ∙ eqb-true q.j j (snd _ _ p.0)) (λ p. route_j rs n j r p.1) (choose_done _ _ _ _ e)
 
 pub route_any : (rs : List Route) (n j : ℕ) (r : Route) → route_to rs n j ≡ done r → one_of (λ r. eqb r.receiver n) rs ≡ true
 unfolding route_to
@@ -221,12 +221,12 @@ copies_where w x h = go (eqb w 1) (eqb w 2) (eqb w 3) refl h
     go : (t u v : Bool) → eqb w 3 ≡ v → has x (cond t filter (cond u pipeline (cond v logging no_wrapper))).copies ≡ true → w ≡ 3
     go true u v q h = absurd (false≢true h)
     go false true v q h = absurd (false≢true h)
-    go false false true q h = eqb_true w 3 q
+    go false false true q h = eqb-true w 3 q
     go false false false q h = absurd (false≢true h)
 
 pub positive : (n : ℕ) → has n all_sides ≡ true → (1 ≤ n) × (n ≤ 2)
-positive n h = ⊎_elim (λ q. let z = eqb_true n 1 q in (omega arith, omega arith))
-    (λ p. ⊎_elim (λ q. let z = eqb_true n 2 q in (omega arith, omega arith)) (λ q. absurd (false≢true q)) (or_cases (eqb n 2) false p)) (or_cases (eqb n 1) (has n (2 ∷ [])) h)
+positive n h = ⊎_elim (λ q. let z = eqb-true n 1 q in (omega arith, omega arith))
+    (λ p. ⊎_elim (λ q. let z = eqb-true n 2 q in (omega arith, omega arith)) (λ q. absurd (false≢true q)) (or_cases (eqb n 2) false p)) (or_cases (eqb n 1) (has n (2 ∷ [])) h)
 
 pub one_get : {A : Type 0} (f : A → Bool) (l : List A) (d : A) → one_of f l ≡ true → (i : ℕ) × (i < length l) × (f (get_or l i d) ≡ true)
 one_get f [] d e = absurd (false≢true e)
@@ -259,7 +259,7 @@ load_walk b n h (m ∷ ns) s e q = go (choose (has_side (wrapper_of b) m) (side_
     go : (r : Res Fault) → choose (has_side (wrapper_of b) m) (side_fault m (table b m)) (lack_fault (table b m)) ≡ r →
         (is_ok (load_sides b ns (ok s)) ≡ true → has n ns ≡ true → Checked (table b n) × (within_limits (start n (table b n)) ≡ true)) → Checked (table b n) × (within_limits (start n (table b n)) ≡ true)
     go (done f) p ih = absurd (false≢true (rw (p, load_sides) at e))
-    go (refuse k) p ih = ⊎_elim (λ z. let y = eqb_true n m z in side_faultless n (table b n) k (rw (← y, h) at p)) (λ z. ih (rw (p, load_sides) at e) z) (or_cases (eqb n m) (has n ns) q)
+    go (refuse k) p ih = ⊎_elim (λ z. let y = eqb-true n m z in side_faultless n (table b n) k (rw (← y, h) at p)) (λ z. ih (rw (p, load_sides) at e) z) (or_cases (eqb n m) (has n ns) q)
 
 pub load_checked : (b : Composition) → is_ok (load b) ≡ true → (n : ℕ) → has_side (wrapper_of b) n ≡ true → Checked (table b n) × (within_limits (start n (table b n)) ≡ true)
 unfolding load
@@ -283,7 +283,7 @@ module _ (b : Composition) (s : State) (e : ready b s ≡ true) where
 
   pub size : length s.sides ≡ 2
   unfolding wf_state
-  size = eqb_true (length s.sides) 2 (fst _ _ wf)
+  size = eqb-true (length s.sides) 2 (fst _ _ wf)
 
   pub at_side : (n : ℕ) → has n all_sides ≡ true → wf_side_of b s n ≡ true
   unfolding wf_state
@@ -320,7 +320,7 @@ module _ (b : Composition) (s : State) (e : ready b s ≡ true) where
     where
       empty : (l : List (List ℕ)) → eqb (length l) 0 ≡ true → every (wf_value (counts s)) l ≡ true
       empty [] h = refl
-      empty (x ∷ l) h = let z = eqb_true (suc (length l)) 0 h in absurd (omega arith)
+      empty (x ∷ l) h = let z = eqb-true (suc (length l)) 0 h in absurd (omega arith)
 
       go : (n : ℕ) → has n all_sides ≡ true → (t : Bool) → has_side (wrapper_of b) n ≡ t → every (wf_value (counts s)) (side s n).core.shelf ≡ true
       go n h true p = (side_ok n p).shelf
@@ -376,7 +376,7 @@ module _ (b : Composition) (s : State) (e : ready b s ≡ true) where
       go : (n : ℕ) → has n all_sides ≡ true → (t : Bool) → has_side (wrapper_of b) n ≡ t → length (side s n).core.shelf ≤ 32
       go n h true p = (side_ok b s e n p).few_shelf
       go n h false p =
-          let z = eqb_true (length (side s n).core.shelf) 0 (fst _ _ (snd _ _ (snd _ _ (snd _ _ (snd _ _ (snd _ _ (snd _ _ (rw p at (at_side b s e n h))))))))) in
+          let z = eqb-true (length (side s n).core.shelf) 0 (fst _ _ (snd _ _ (snd _ _ (snd _ _ (snd _ _ (snd _ _ (snd _ _ (rw p at (at_side b s e n h))))))))) in
           omega arith
 
       past : (l : List Side) (i : ℕ) → length l ≤ i → length (get_or l i no_side).core.shelf ≡ 0
@@ -423,7 +423,7 @@ module _ (b : Composition) (s : State) (e : ready b s ≡ true) where
 
   pub taken_size : (n : ℕ) → has_side (wrapper_of b) n ≡ true → length (side s n).core.taken ≡ 64
   unfolding wf_side
-  taken_size n h = eqb_true (length (side s n).core.taken) 64 (fst _ _ (snd _ _ (snd _ _ (side_wf b s e n h))))
+  taken_size n h = eqb-true (length (side s n).core.taken) 64 (fst _ _ (snd _ _ (snd _ _ (side_wf b s e n h))))
 
   -- a side's own names are few
   pub few_minted : (n : ℕ) → (side s n).core.contents.minted ≤ 256
@@ -433,7 +433,7 @@ module _ (b : Composition) (s : State) (e : ready b s ≡ true) where
     where
       go : (n : ℕ) → has n all_sides ≡ true → (t : Bool) → has_side (wrapper_of b) n ≡ t → (side s n).core.contents.minted ≤ 256
       go n h true p = leb-true (side s n).core.contents.minted 256 (snd _ _ (snd _ _ (side_ok b s e n p).contents.few))
-      go n h false p = let z = eqb_true (side s n).core.contents.minted 0 (fst _ _ (snd _ _ (snd _ _ (rw p at (at_side b s e n h))))) in omega arith
+      go n h false p = let z = eqb-true (side s n).core.contents.minted 0 (fst _ _ (snd _ _ (snd _ _ (rw p at (at_side b s e n h))))) in omega arith
 
       past : (l : List Side) (i : ℕ) → length l ≤ i → (get_or l i no_side).core.contents.minted ≡ 0
       past [] i h = refl

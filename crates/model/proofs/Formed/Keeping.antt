@@ -6,7 +6,7 @@ use mathlib.Core.Logic.{⊎_elim}
 use Prim.Native.Nat.{ℕ, zero, suc, ◌+◌, ◌<◌, ◌≤◌}
 use native.Mathlib.Nat.{add-zero}
 use native.Mathlib.Omega.{arith}
-use borrow.Author.Tests.{leb-true, ltb-true, eqb_true, le-leb, lt-ltb}
+use borrow.Author.Tests.{leb-true, ltb-true, eqb-true, le-leb, lt-ltb}
 use lib.Dec.{ltb, eqb}
 use lib.ListN.{length, set, length-append, length-set, length-map}
 use Rattle.model.specs.Basics.{◌&◌, ◌or◌, Res, refuse, done, every, has, remove, pick}
@@ -87,7 +87,7 @@ shaped_words v e = go (items is_name 11 v 1) refl
   where
     go : (r : Res (List ℕ)) → items is_name 11 v 1 ≡ r → every (λ w. is_name w or is_tuple w) v ≡ true
     go (refuse n) p = absurd (false≢true (rw (p, shaped) at e))
-    go (done r) p = items_words is_name 11 v 1 r p (eqb_true (length r) 0 (rw (p, shaped) at e))
+    go (done r) p = items_words is_name 11 v 1 r p (eqb-true (length r) 0 (rw (p, shaped) at e))
 
 -- the box at a place: its parent is earlier and its name is held, unless it is box 0
 boxes_pick : {B : Type 0} (k : Counts) (l : List Box) (i j : ℕ) (f : Box → Res B) (b : B) → pick l j f ≡ done b → wf_boxes k i l ≡ true →
@@ -143,7 +143,7 @@ module _ (c : Setting) (k : Counts) (s : Core) (o : CoreOk c k s) where
   copied_wf cl v h = go c.wrapper.copies cl (has_itself c.wrapper.copies)
     where
       one : (x : ℕ) → is_log x ≡ true → has x c.wrapper.copies ≡ true → wf_in c k (record { status = leaving; chan = x; val = v }) ≡ true
-      one x p q = both _ _ h (both _ _ (alt_left _ _ (le-leb x 63 (let z = eqb_true x 3 p in omega arith))) (alt_right _ _ q))
+      one x p q = both _ _ h (both _ _ (alt_left _ _ (le-leb x 63 (let z = eqb-true x 3 p in omega arith))) (alt_right _ _ q))
 
       go : (ds : List ℕ) → every is_log ds ≡ true → every (λ x. has x c.wrapper.copies) ds ≡ true → every (wf_in c k) (copied ds v) ≡ true
       go [] p q = refl
@@ -343,7 +343,7 @@ module _ (c : Setting) (k : Counts) (s : Core) (o : CoreOk c k s) where
           })
         where
           zero-no : eqb (0 + suc b) 0 ≡ true → ⊥
-          zero-no z = let q = eqb_true (0 + suc b) 0 z in omega arith
+          zero-no z = let q = eqb-true (0 + suc b) 0 z in omega arith
 
       go : (p : Particle) → up_particle c s i p ≡ done m → wf_particle c.table k (length s.contents.boxes) p ≡ true → Kept c k s m
       go (input b n vs) f h = let z : ◌≡◌ {A = ℕ} 0 1 = cc in absurd (omega arith)

@@ -5,7 +5,7 @@ use mathlib.Core.List.{List, [], ◌∷◌, ◌++◌}
 use mathlib.Core.Logic.{⊎_elim}
 use Prim.Native.Nat.{ℕ, ◌+◌, ◌*◌, ◌<◌, ◌≤◌}
 use native.Mathlib.Omega.{arith}
-use borrow.Author.Tests.{leb-true, ltb-true, eqb_true, le-leb, lt-ltb}
+use borrow.Author.Tests.{leb-true, ltb-true, eqb-true, le-leb, lt-ltb}
 use lib.Dec.{ltb, eqb}
 use lib.ListN.{length, length-append}
 use Rattle.model.specs.Basics.{done, every, remove, has}
@@ -47,7 +47,7 @@ every_without f false l i j e = go (ltb i j)
 
 -- a minted number, its side and its serial
 pub minted_number_lem : (n j : ℕ) → has n all_sides ≡ true → j < 256 → (is_minted (65536 * n + j) ≡ true) × (side_of (65536 * n + j) ≡ n) × (serial (65536 * n + j) ≡ j) × (65536 * n + j < 4000000)
-minted_number_lem n j h l = ⊎_elim (λ q. of-side-1 (eqb_true n 1 q)) (λ p. ⊎_elim (λ q. of_side_2 (eqb_true n 2 q)) (λ q. absurd (false≢true q)) (or_cases (eqb n 2) false p)) (or_cases (eqb n 1) (has n (2 ∷ [])) h)
+minted_number_lem n j h l = ⊎_elim (λ q. of-side-1 (eqb-true n 1 q)) (λ p. ⊎_elim (λ q. of_side_2 (eqb-true n 2 q)) (λ q. absurd (false≢true q)) (or_cases (eqb n 2) false p)) (or_cases (eqb n 1) (has n (2 ∷ [])) h)
   where
     of-side-1 : n ≡ 1 → (is_minted (65536 * n + j) ≡ true) × (side_of (65536 * n + j) ≡ n) × (serial (65536 * n + j) ≡ j) × (65536 * n + j < 4000000)
     of-side-1 e = rw e (alt_left _ _ (both _ _ (le-leb 65536 (65536 * 1 + j) (omega arith)) (le-leb (65536 * 1 + j) 65791 (omega arith))), omega arith, omega arith, omega arith)
@@ -131,7 +131,7 @@ module _ (c : Setting) (k : Counts) (s : Core) (o : CoreOk c k s) (ch : Checked 
       let z = need_done _ _ _ _ y.2 in
       let inside = ltb-true n (count c.table) (fst _ _ (snd _ _ h')) in
       settled a (scope c.table n) p vs y.0 again i j b v (body_of (subst (λ (w : Term). Sits c.table (scope c.table n) w) q (sits c.table ch n inside)))
-      (eqb_true (length vs) (length (scope c.table n)) (fst _ _ (snd _ _ (snd _ _ (snd _ _ h'))))) (fst _ _ (snd _ _ (snd _ _ (snd _ _ (snd _ _ h')))))
+      (eqb-true (length vs) (length (scope c.table n)) (fst _ _ (snd _ _ (snd _ _ (snd _ _ h'))))) (fst _ _ (snd _ _ (snd _ _ (snd _ _ (snd _ _ h')))))
       (snd _ _ (snd _ _ (snd _ _ h))) (ltb-true b (length s.contents.boxes) (fst _ _ h)) y.1 z.0 m z.1 sh lim
 
   pub meet_keeps : (i j : ℕ) (m : Moved) → meet c s i j ≡ done m → every short m.core.contents.particles ≡ true → limits m.core ≡ true → Kept' c k s m

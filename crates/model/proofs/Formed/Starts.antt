@@ -4,7 +4,7 @@ use mathlib.Core.Bool.{Bool, true, false, cond, false≢true}
 use mathlib.Core.List.{List, [], ◌∷◌, map}
 use Prim.Native.Nat.{ℕ, zero, suc, ◌+◌, ◌*◌, ◌≤◌}
 use native.Mathlib.Omega.{arith}
-use borrow.Author.Tests.{leb-true, eqb_true, le-leb, lt-ltb}
+use borrow.Author.Tests.{leb-true, eqb-true, le-leb, lt-ltb}
 use lib.Dec.{leb, ltb, eqb}
 use lib.ListN.{length, get_or, length-append, replicate}
 use Rattle.model.specs.Basics.{◌&◌, choose, Res, refuse, done, every, has}
@@ -63,7 +63,7 @@ subst_length ρ h (w ∷ ws) =
     omega (arith, length-append (cond (is_public w) (value ρ w) (w ∷ [])) (substitute ρ ws), one_word_lem, subst_length ρ h ws)
   where
     go : (b : Bool) → length (cond b (value ρ w) (w ∷ [])) ≡ 1
-    go true = eqb_true (length (value ρ w)) 1 (look_all one_word ρ.names ρ.vals w (w ∷ []) refl h)
+    go true = eqb-true (length (value ρ w)) 1 (look_all one_word ρ.names ρ.vals w (w ∷ []) refl h)
     go false = refl
 
 start_short : (i : ℕ) {t : Table} {σ : List ℕ} {a : Term} → Sits t σ a → (ρ : Env) → every one_word ρ.vals ≡ true → (b : ℕ) (s : Contents) → every short s.particles ≡ true → every short (unfolds i a ρ b s).particles ≡ true
@@ -77,7 +77,7 @@ start_short i (s_out {c = c} {g = g} {v = v} pc pg pv sv) ρ h b s e = every_app
 start_short i (s_inp pc pg pp pd ln kn tm sc q) ρ h b s e = every_append short s.particles _ e (both _ _ refl refl)
 
 pub scope_root : (t : Table) → scope t 0 ≡ []
-unfolding Rattle.model.specs.Table.scopeUp
+unfolding Rattle.model.specs.Table.scope_up
 scope_root t = refl
 
 start_core : (c : Setting) (k : Counts) → Checked c.table → has c.side all_sides ≡ true → mine c k ≡ (start c.side c.table).minted → within_limits (start c.side c.table) ≡ true →

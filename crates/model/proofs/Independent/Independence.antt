@@ -5,7 +5,7 @@ use mathlib.Core.List.{List, [], ◌∷◌, ◌++◌, map}
 use mathlib.Core.Logic.{⊎_elim}
 use Prim.Native.Nat.{ℕ, zero, suc, ◌*◌, ◌<◌, ◌≤◌}
 use native.Mathlib.Omega.{arith}
-use borrow.Author.Tests.{leb-true, eqb_true, eq-eqb}
+use borrow.Author.Tests.{leb-true, eqb-true, eq-eqb}
 use lib.Dec.{eqb}
 use lib.ListN.{length, get_or, set, replicate}
 use lib.Seq.{get_or-set_same}
@@ -21,7 +21,7 @@ use Rattle.model.specs.Runs.{is_of, steps_of, sees, after_all, left_by, left_ear
 use Rattle.model.proofs.Basics.Sides.{put_same, put_other, put_agree}
 use Rattle.model.proofs.Formed.Invariant.{which, positive, keeps, mark1_size}
 use Rattle.model.proofs.Formed.Starts.{load_state, starts}
-use Rattle.model.proofs.Basics.Tests.{append_nil, or_cases, or_right, has_append, has_every, fst, snd, both, alt, choose_done, head_eq, tail_eq}
+use Rattle.model.proofs.Basics.Tests.{append-nil, or_cases, or_right, has_append, has_every, fst, snd, both, alt, choose_done, head_eq, tail_eq}
 use Rattle.model.proofs.Formed.Keeping.{done_inj}
 
 -- LISTS
@@ -45,7 +45,7 @@ route_source g (q ∷ rs) n j r c h e = ⊎_elim (λ p. this p.0 (done_inj p.1))
   where
     this : eqb q.receiver n & eqb q.j j ≡ true → q ≡ r → has r.source g ≡ true
     this t same =
-        let at : has q.receiver g ≡ true = ap (λ (m : ℕ). has m g) (eqb_true q.receiver n (fst _ _ t)) ∙ h in
+        let at : has q.receiver g ≡ true = ap (λ (m : ℕ). has m g) (eqb-true q.receiver n (fst _ _ t)) ∙ h in
         rw (← same) (⊎_elim (λ u. absurd (false≢true (rw at at u))) (λ u. u) (alt _ _ (fst _ _ c)))
 
 -- ONE STEP of a side reads the rest only by the names that may enter and the shelves of its routes
@@ -97,7 +97,7 @@ returns_known seen k h (w ∷ ws) e =
 
 ready_size : (b : Composition) (s : State) → ready b s ≡ true → length s.sides ≡ 2
 unfolding ready wf_state
-ready_size b s e = eqb_true (length s.sides) 2 (fst _ _ (snd _ _ e))
+ready_size b s e = eqb-true (length s.sides) 2 (fst _ _ (snd _ _ e))
 
 abbrev pub moved : Composition → State → Step → Res Moved
 moved b s x = settled (local (setting b x.side) (known s) (shelf_of s) (side s x.side).core x)
@@ -145,7 +145,7 @@ mark_all_keeps (v ∷ vs) l w e = mark_all_keeps vs (mark1 l v) w (mark1_keeps l
 mark_all_marks : (vs : List ℕ) (l : List Bool) (w : ℕ) → length l ≡ 512 → has w vs ≡ true → is_minted w ≡ true → marked (mark_all l vs) w ≡ true
 mark_all_marks [] l w n h m = absurd (false≢true h)
 mark_all_marks (v ∷ vs) l w n h m =
-    ⊎_elim (λ p. let q : w ≡ v = eqb_true w v p in rw (← q) (mark_all_keeps vs (mark1 l w) w (mark1_marks l w n m)))
+    ⊎_elim (λ p. let q : w ≡ v = eqb-true w v p in rw (← q) (mark_all_keeps vs (mark1 l w) w (mark1_marks l w n m)))
     (λ p. mark_all_marks vs (mark1 l v) w (mark1_size l v ∙ n) p m)
     (or_cases (eqb w v) (has w vs) h)
 
@@ -199,7 +199,7 @@ covers_own g seen s n r h po lt l c w p m = ⊎_elim old new (has_append w seen 
     old q = let u = c w q m in (u.0, u.1, at u.0 u.2 (eqb u.0 n) refl)
       where
         at : (k : ℕ) → marked (side s k).left w ≡ true → (t : Bool) → eqb k n ≡ t → marked (side (put_side s n (side_after (side s n) r)) k).left w ≡ true
-        at k e true q = let z : n ≡ k = sym (eqb_true k n q) in
+        at k e true q = let z : n ≡ k = sym (eqb-true k n q) in
             subst (λ (i : ℕ). marked (side (put_side s n (side_after (side s n) r)) i).left w ≡ true) z (ap (λ (o : Side). marked o.left w) here ∙ after_keeps (side s n) r w (ap (λ (i : ℕ). marked (side s i).left w) z ∙ e))
         at k e false q = ap (λ (o : Side). marked o.left w) (put_other s n k (side_after (side s n) r) (λ z. false≢true (sym q ∙ eq-eqb k n z))) ∙ e
 
@@ -208,8 +208,8 @@ unfolding ready wf_state wf_side_of wf_side is_no_side
 left_size b s n e h = go (has_side (wrapper_of b) n) (has_every (wf_side_of b s) all_sides n (snd _ _ (snd _ _ e)) h)
   where
     go : (t : Bool) → cond t (wf_side (setting b n) (Rattle.model.specs.WellFormed.counts s) (shelf_of s) (side s n)) (is_no_side (side s n)) ≡ true → length (side s n).left ≡ 512
-    go true h = eqb_true (length (side s n).left) 512 (fst _ _ (fst _ _ (snd _ _ h)))
-    go false h = eqb_true (length (side s n).left) 512 (fst _ _ (snd _ _ (snd _ _ (snd _ _ (snd _ _ h)))))
+    go true h = eqb-true (length (side s n).left) 512 (fst _ _ (fst _ _ (snd _ _ h)))
+    go false h = eqb-true (length (side s n).left) 512 (fst _ _ (snd _ _ (snd _ _ (snd _ _ (snd _ _ h)))))
 
 -- a step outside the group leaves the group as it was, and lets nothing out by its outlets
 other : (g : List ℕ) (b : Composition) (s : State) (x : Step) → ready b s ≡ true → is_of g x ≡ false → Agree g (step b s x).after s × (left_by g (step b s x).answer ≡ [])
@@ -239,11 +239,11 @@ covers_step g seen b s x e o c = go (has_side (wrapper_of b) x.side) refl
     go : (t : Bool) → has_side (wrapper_of b) x.side ≡ t → Covers g (seen ++ left_by g (step b s x).answer) (step b s x).after
     go true h = let a = which b.wrapper x.side h in
         rw (step_has b s x e h) (covers_own g seen s x.side (moved b s x) o (positive x.side a).0 (omega (arith, (positive x.side a).1, ready_size b s e)) (left_size b s x.side e a) c)
-    go false h = rw (step_lacks b s x e h, append_nil seen) c
+    go false h = rw (step_lacks b s x e h, append-nil seen) c
 
 covers_other : (g seen : List ℕ) (b : Composition) (s : State) (x : Step) → Agree g (step b s x).after s × (left_by g (step b s x).answer ≡ []) → Covers g seen s → Covers g (seen ++ left_by g (step b s x).answer) (step b s x).after
 unfolding Agree
-covers_other g seen b s x r c = rw (r.1, append_nil seen) (covers_agree g seen s (step b s x).after (λ n h. sym (r.0 n h)) c)
+covers_other g seen b s x r c = rw (r.1, append-nil seen) (covers_agree g seen s (step b s x).after (λ n h. sym (r.0 n h)) c)
 
 map_agree : {A : Type 0} (f h : ℕ → A) (l : List ℕ) → ((n : ℕ) → has n l ≡ true → f n ≡ h n) → map f l ≡ map h l
 map_agree f h [] e = refl
@@ -332,14 +332,14 @@ module _ (g : List ℕ) (b b' : Composition) (same-wrapper : b.wrapper ≡ b'.wr
                 rw (q, ← st.0, ih (seen ++ left_by g (step b s x).answer) (step b s x).after (step b' s'' x).after (on b s x e) (on b' s'' x e') st.1 (covers_step g seen b s x e o c))
         go false o ih =
             let so = other g b s x e o in
-            rw (o, ih (seen ++ left_by g (step b s x).answer) (step b s x).after s'' (on b s x e) e' (joined so.0 a) (covers_other g seen b s x so c), so.1, append_nil seen)
+            rw (o, ih (seen ++ left_by g (step b s x).answer) (step b s x).after s'' (on b s x e) e' (joined so.0 a) (covers_other g seen b s x so c), so.1, append-nil seen)
           where
             joined : Agree g (step b s x).after s → Agree g s s'' → Agree g (step b s x).after s''
             joined q a n h = q n h ∙ a n h
 
 map_get : {A : Type 0} (f h : ℕ → A) (l : List ℕ) → map f l ≡ map h l → (n : ℕ) → has n l ≡ true → f n ≡ h n
 map_get f h [] e n q = absurd (false≢true q)
-map_get f h (m ∷ l) e n q = ⊎_elim (λ p. let z = eqb_true n m p in rw z (head_eq e)) (λ p. map_get f h l (tail_eq e) n p) (or_cases (eqb n m) (has n l) q)
+map_get f h (m ∷ l) e n q = ⊎_elim (λ p. let z = eqb-true n m p in rw z (head_eq e)) (λ p. map_get f h l (tail_eq e) n p) (or_cases (eqb n m) (has n l) q)
 
 -- A closed group of sides, under any wrapper
 pub group_independence : GroupIndependence

@@ -4,7 +4,7 @@ use mathlib.Core.Bool.{Bool, true, false, cond}
 use mathlib.Core.List.{List, [], ◌∷◌, ◌++◌}
 use Prim.Native.Nat.{ℕ, zero, suc, ◌<◌, ◌≤◌}
 use native.Mathlib.Omega.{arith}
-use borrow.Author.Tests.{leb-true, ltb-true, eqb_true, le-leb, lt-ltb}
+use borrow.Author.Tests.{leb-true, ltb-true, eqb-true, le-leb, lt-ltb}
 use lib.Dec.{leb, ltb, eqb}
 use lib.ListN.{length, get_or}
 use Rattle.calculus.specs.Syntax.{Val, nm, AllV, AllT, AllN, IsName}
@@ -135,7 +135,7 @@ module _ {M : Type 0} (mk : Mark → M) (A : List ℕ) (k : Counts) (held_in : (
     unfolding wf_particle
     input_sound b n vs e =
         let e1 = snd _ _ e in let e2 = snd _ _ e1 in let e3 = snd _ _ e2 in let e4 = snd _ _ e3 in
-        fits_sound (sits t c n (ltb-true n (count t) (fst _ _ e1))) [] (env_at t n vs) (env_of (env_at t n vs)) (eqb_true (length vs) (length (scope t n)) (fst _ _ e3)) (env_names (env_at t n vs) (fst _ _ e4)) (snd _ _ e4)
+        fits_sound (sits t c n (ltb-true n (count t) (fst _ _ e1))) [] (env_at t n vs) (env_of (env_at t n vs)) (eqb-true (length vs) (length (scope t n)) (fst _ _ e3)) (env_names (env_at t n vs) (fst _ _ e4)) (snd _ _ e4)
 
     pub input_vals : (b n : ℕ) (vs : List (List ℕ)) → wf_particle t k nb (input b n vs) ≡ true → every (wf_value k) vs ≡ true
     unfolding wf_particle

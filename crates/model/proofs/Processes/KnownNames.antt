@@ -5,7 +5,7 @@ use mathlib.Core.List.{List, [], ◌∷◌, ◌++◌, map}
 use mathlib.Core.Logic.{◌⊎◌, ⊎_elim}
 use Prim.Native.Nat.{ℕ, zero, suc, ◌+◌, ◌-◌, ◌<◌, ◌≤◌}
 use native.Mathlib.Omega.{arith}
-use borrow.Author.Tests.{leb-true, ltb-true, eqb_true, eqb-false, eq-eqb, le-leb}
+use borrow.Author.Tests.{leb-true, ltb-true, eqb-true, eqb-false, eq-eqb, le-leb}
 use lib.Dec.{ltb, eqb, T, eqb_refl}
 use Rattle.calculus.specs.Transitions.{mem, In, Out∉}
 use Rattle.model.specs.Basics.{◌&◌, ◌or◌, every, has}
@@ -36,7 +36,7 @@ in_upto (suc n) i f h = go (eqb i n) refl (λ l. in_upto n i f l)
     apart i n h ne = omega arith
 
     go : (c : Bool) → eqb i n ≡ c → (i < n → T (mem (f i) (upto n f))) → T (mem (f i) (upto n f ++ f n ∷ []))
-    go true e ih = mem_right (f i) (upto n f) (f n ∷ []) (subst (λ (z : ℕ). T (mem (f i) (f z ∷ []))) (eqb_true i n e) (or_left (eqb (f i) (f i)) false (eqb_refl (f i))))
+    go true e ih = mem_right (f i) (upto n f) (f n ∷ []) (subst (λ (z : ℕ). T (mem (f i) (f z ∷ []))) (eqb-true i n e) (or_left (eqb (f i) (f i)) false (eqb_refl (f i))))
     go false e ih = let ne = eqb-false i n e in mem_left (f i) (upto n f) (f n ∷ []) (ih (apart i n h ne))
 
 pub is_true : (b : Bool) → b ≡ true → T b
@@ -50,7 +50,7 @@ out_of x l h = go (mem x l) refl
     go false e = refl
 
 T-eqb : (x y : ℕ) → T (eqb x y) → x ≡ y
-T-eqb x y h = eqb_true x y (go (eqb x y) h)
+T-eqb x y h = eqb-true x y (go (eqb x y) h)
   where
     go : (b : Bool) → T b → b ≡ true
     go true t = refl
@@ -137,7 +137,7 @@ minted_side w e = ⊎_elim
 -- what each side has
 pub by_in : (f : ℕ → List ℕ) (ns : List ℕ) (n x : ℕ) → has n ns ≡ true → T (mem x (f n)) → T (mem x (by_side f ns))
 by_in f [] n x h m = absurd (false≢true h)
-by_in f (k ∷ ns) n x h m = ⊎_elim (λ q. mem_left x (f k) (by_side f ns) (subst (λ (z : ℕ). T (mem x (f z))) (eqb_true n k q) m)) (λ q. mem_right x (f k) (by_side f ns) (by_in f ns n x q m)) (Bool-cases (eqb n k) (has n ns) h)
+by_in f (k ∷ ns) n x h m = ⊎_elim (λ q. mem_left x (f k) (by_side f ns) (subst (λ (z : ℕ). T (mem x (f z))) (eqb-true n k q) m)) (λ q. mem_right x (f k) (by_side f ns) (by_in f ns n x q m)) (Bool-cases (eqb n k) (has n ns) h)
 
 pub by_out : (f : ℕ → List ℕ) (ns : List ℕ) (x : ℕ) → T (mem x (by_side f ns)) → (n : ℕ) × (has n ns ≡ true) × T (mem x (f n))
 by_out f [] x h = absurd h
@@ -156,7 +156,7 @@ map_out f (k ∷ ns) x h = ⊎_elim (λ q. (k, or_first (eqb k k) (has k ns) (eq
 
 pub map_in : (f : ℕ → ℕ) (ns : List ℕ) (n : ℕ) → has n ns ≡ true → T (mem (f n) (map f ns))
 map_in f [] n h = absurd (false≢true h)
-map_in f (k ∷ ns) n h = ⊎_elim (λ q. or_left (eqb (f n) (f k)) (mem (f n) (map f ns)) (is_true _ (eq-eqb (f n) (f k) (ap f (eqb_true n k q)))))
+map_in f (k ∷ ns) n h = ⊎_elim (λ q. or_left (eqb (f n) (f k)) (mem (f n) (map f ns)) (is_true _ (eq-eqb (f n) (f k) (ap f (eqb-true n k q)))))
     (λ q. or_right (eqb (f n) (f k)) (mem (f n) (map f ns)) (map_in f ns n q)) (Bool-cases (eqb n k) (has n ns) h)
 
 pub apart_map : (f : ℕ → ℕ) (ns : List ℕ) → Distinct ns → ((n m : ℕ) → f n ≡ f m → n ≡ m) → Apart (map f ns)

@@ -5,7 +5,7 @@ use mathlib.Core.List.{List, [], ◌∷◌, ◌++◌, map}
 use mathlib.Core.Logic.{◌⊎◌, inl, inr, ⊎_elim}
 use Prim.Native.Nat.{ℕ, suc, ◌+◌, ◌<◌, ◌≤◌}
 use native.Mathlib.Omega.{arith}
-use borrow.Author.Tests.{eqb_true, eq-eqb, ne_eqb}
+use borrow.Author.Tests.{eqb-true, eq-eqb, ne_eqb}
 use lib.Dec.{eqb}
 use lib.ListN.{length}
 use Rattle.calculus.specs.Syntax.{AllN, Proc, Scope, var, remark, the_name, iren}
@@ -88,7 +88,7 @@ module _ (b : Composition) (s : State) (e : ready b s ≡ true) where
           fresh = λ m x y q i. behind_other mk (All b s) (counts s) (held_in b s) (site_of m i) n (ne_eqb (site_of m i) 0 (λ z. omega (arith, x, z)))
               (λ j. sites_apart m n i j x y a.0 (omega (arith, a.1)) (other m q)) 0 bs acc (p.fresh m x y (or_none (eqb m n) (has m ns) q).1 i);
           reach = λ m x y q i l. ⊎_elim
-              (λ z. let w : n ≡ m = sym (eqb_true m n z) in subst (λ (k : ℕ). i < length (side s k).core.contents.boxes → Reach (places_of mk n 0 bs acc) (site_of k i)) w (λ u. t.reach i (omega (arith, u))) l)
+              (λ z. let w : n ≡ m = sym (eqb-true m n z) in subst (λ (k : ℕ). i < length (side s k).core.contents.boxes → Reach (places_of mk n 0 bs acc) (site_of k i)) w (λ u. t.reach i (omega (arith, u))) l)
               (λ z. apart_reach m x y z i l (eqb m n) refl t.reach)
               (or_cases (eqb m n) (has m ns) q);
         }
@@ -98,7 +98,7 @@ module _ (b : Composition) (s : State) (e : ready b s ≡ true) where
 
         apart_reach : (m : ℕ) → 1 ≤ m → m ≤ 8 → has m ns ≡ true → (i : ℕ) → i < length (side s m).core.contents.boxes → (u : Bool) → eqb m n ≡ u →
             ((i : ℕ) → i < 0 + length (side s n).core.contents.boxes → Reach (places_of mk n 0 (side s n).core.contents.boxes acc) (site_of n i)) → Reach (places_of mk n 0 (side s n).core.contents.boxes acc) (site_of m i)
-        apart_reach m x y z i l true q r = absurd (false≢true (sym f ∙ ap (λ (k : ℕ). has k ns) (sym (eqb_true m n q)) ∙ z))
+        apart_reach m x y z i l true q r = absurd (false≢true (sym f ∙ ap (λ (k : ℕ). has k ns) (sym (eqb-true m n q)) ∙ z))
         apart_reach m x y z i l false q r =
             let a = positive n (which b.wrapper n h) in
             reach_other mk (All b s) (counts s) (held_in b s) (site_of m i) n (λ j. sites_apart m n i j x y a.0 (omega (arith, a.1)) (λ w. false≢true (sym q ∙ eq-eqb m n w))) 0 (side s n).core.contents.boxes acc (p.reach m x y z i l)
@@ -201,7 +201,7 @@ module _ {M U : Type 0} (mk : Mark → M) (h : M → U) where
   pub part_marks : (T : Table) (side i : ℕ) (p : Particle) → ritem h (part_item mk T side i p) ≡ part_item (λ m. h (mk m)) T side i p
   unfolding remark
   part_marks T side i (output b c g v) = refl
-  part_marks T side i (input b n vs) = ap (λ (P : Proc U []). record { site = site_of side b; what = P }) (remark_proc h [] (mk (part side i)) (code_of (term T n)) (env_of (Rattle.model.specs.WellFormed.envAt T n vs)))
+  part_marks T side i (input b n vs) = ap (λ (P : Proc U []). record { site = site_of side b; what = P }) (remark_proc h [] (mk (part side i)) (code_of (term T n)) (env_of (Rattle.model.specs.WellFormed.env_at T n vs)))
 
   pub msg_marks : (w : Wrapper) (side i : ℕ) (m : Message) → ritem h (msg_item mk w side i m) ≡ msg_item (λ m. h (mk m)) w side i m
   unfolding remark

@@ -15,7 +15,7 @@ use Rattle.model.specs.Basics.{◌&◌, ◌or◌, done, every}
 use Rattle.model.specs.Values.{items, is_tuple, is_name, is_value, arity}
 use Rattle.model.specs.WellFormed.{Counts, held, held_word, wf_value}
 use Rattle.model.specs.Process.{vwords, vswords, vcount, first_v, behind_v, reads, head_v, val_of}
-use Rattle.model.proofs.Basics.Tests.{fst, snd, both, alt, every_two, append_nil}
+use Rattle.model.proofs.Basics.Tests.{fst, snd, both, alt, every_two, append-nil}
 use Rattle.model.proofs.Basics.Names.{name_small}
 use Rattle.model.proofs.Formed.Keeping.{done_inj, shaped_words}
 use Rattle.model.proofs.Basics.Items.{clash, items_leaf, items_tuple, items_bad, tuple_not_name, every_front, every_back}
@@ -109,7 +109,7 @@ mutual
 
 pub val_back : (v : Val ℕ) → every worded (vwords v) ≡ true → AllV v (λ x. is_tuple x ≡ false) → val_of (vwords v) ≡ v
 unfolding val_of
-val_back v e h = ap (λ (l : List ℕ). head_v (reads l 1)) (sym (append_nil (vwords v))) ∙ ap head_v (read_back v [] 0 e h)
+val_back v e h = ap (λ (l : List ℕ). head_v (reads l 1)) (sym (append-nil (vwords v))) ∙ ap head_v (read_back v [] 0 e h)
 
 -- WHAT IS READ IS WRITTEN BACK
 pub split_words : (k : ℕ) (vs : Vals ℕ) → vswords (first_v k vs) ++ vswords (behind_v k vs) ≡ vswords vs
@@ -161,7 +161,7 @@ val_written v h = let r = write_back is_name 11 tuple_not_name v 1 h in go (read
 
     go : (vs : Vals ℕ) → vswords vs ≡ v → vcount vs ≡ 1 → vwords (head_v vs) ≡ v
     go vnil a b = absurd (omega arith)
-    go (vcons u us) a b = sym (append_nil (vwords u)) ∙ ap (λ (l : List ℕ). vwords u ++ l) (sym (none us (omega arith))) ∙ a
+    go (vcons u us) a b = sym (append-nil (vwords u)) ∙ ap (λ (l : List ℕ). vwords u ++ l) (sym (none us (omega arith))) ∙ a
 
 -- the names of a value are its words that are no tuple words
 mem_app : (x : ℕ) (l m : List ℕ) → mem x (l ++ m) ≡ mem x l || mem x m

@@ -5,7 +5,7 @@ use mathlib.Core.Bool.{Bool, true, false, false≢true}
 use mathlib.Core.Logic.{◌⊎◌, inl, inr, ⊎_elim}
 use Prim.Native.Nat.{ℕ, ◌<◌}
 use native.Mathlib.Omega.{arith}
-use borrow.Author.Tests.{eqb_true, ltb-true}
+use borrow.Author.Tests.{eqb-true, ltb-true}
 use lib.Dec.{eqb, ltb, eqb_refl}
 use Rattle.calculus.specs.Syntax.{Proc, var, AllN, AllV, outer}
 use Rattle.calculus.specs.Congruence.{◌≋◌, symm}
@@ -52,9 +52,9 @@ pub wrapper_of_lem : (b : Composition) (s : State) → load b ≡ ok s → (P : 
 wrapper_of_lem b s e = by_number (eqb b.wrapper 1) refl (eqb b.wrapper 2) refl (eqb b.wrapper 3) refl
   where
     by_number : (t : Bool) → eqb b.wrapper 1 ≡ t → (u : Bool) → eqb b.wrapper 2 ≡ u → (v : Bool) → eqb b.wrapper 3 ≡ v → (P : Proc (Unit {0}) []) × Wraps b P
-    by_number true h u k v j = (W1 tt (handler (table b 1)), as_filter (eqb_true b.wrapper 1 h))
-    by_number false h true k v j = (W2 tt (handler (table b 1)) (handler (table b 2)), as_pipeline (eqb_true b.wrapper 2 k))
-    by_number false h false k true j = (L tt (handler (table b 1)), as_logging (eqb_true b.wrapper 3 j))
+    by_number true h u k v j = (W1 tt (handler (table b 1)), as_filter (eqb-true b.wrapper 1 h))
+    by_number false h true k v j = (W2 tt (handler (table b 1)) (handler (table b 2)), as_pipeline (eqb-true b.wrapper 2 k))
+    by_number false h false k true j = (L tt (handler (table b 1)), as_logging (eqb-true b.wrapper 3 j))
     by_number false h false k false j = absurd (⊎_elim (λ q. false≢true (sym h ∙ q)) (λ q. ⊎_elim (λ q. false≢true (sym k ∙ q)) (λ q. false≢true (sym j ∙ q)) (alt _ _ q)) (alt _ _ (loads_known b s e)))
 
 pub wraps_start : (b : Composition) (s : State) {P : Proc (Unit {0}) []} → load b ≡ ok s → Wraps b P → P ≋ process_of b s

@@ -4,7 +4,7 @@ use mathlib.Core.List.{List, [], ◌∷◌, ◌++◌}
 use mathlib.Core.Bool.{Bool, true, false, not, ◌||◌, cond, false≢true}
 use Prim.Native.Nat.{ℕ, ◌+◌, ◌<◌}
 use native.Mathlib.Omega.{arith}
-use borrow.Author.Tests.{eqb_true, eqb-false, ne_eqb, not-true}
+use borrow.Author.Tests.{eqb-true, eqb-false, ne_eqb, not-true}
 use lib.Dec.{eqb, T, eqb_refl}
 use Rattle.calculus.specs.Syntax.{Val, AllN}
 use Rattle.calculus.specs.Transitions.{Label, In, Out∉, mem, names}
@@ -52,7 +52,7 @@ module _ (x : ℕ) (small : x < 4000000) where
   heard (labelled enters n v) l (u, e, f, q) h = ap (λ (y : Label). mem x (heard_on (env_in 1) y)) q ∙ by_side_lem (eqb n 1) refl
     where
       by_side_lem : (c : Bool) → eqb n 1 ≡ c → mem x (cond (eqb (64 + n) (env_in 1)) (names u) []) ≡ false
-      by_side_lem true p = rw (ap (λ (m : ℕ). eqb (64 + m) 65) (eqb_true n 1 p)) (sym (in_words v u e) ∙ not-true (has x v) (rw p at h))
+      by_side_lem true p = rw (ap (λ (m : ℕ). eqb (64 + m) 65) (eqb-true n 1 p)) (sym (in_words v u e) ∙ not-true (has x v) (rw p at h))
       by_side_lem false p = rw (ne_eqb (64 + n) 65 (λ z. eqb-false n 1 p (omega arith))) refl
   heard (labelled leaves n v) l (u, e, f, q) h = ap (λ (y : Label). mem x (heard_on (env_in 1) y)) q
   heard (labelled logs n v) l (u, e, f, (c, i, q)) h = absurd (false≢true i)
@@ -65,7 +65,7 @@ module _ (x : ℕ) (small : x < 4000000) where
   sent (labelled leaves n v) l (u, e, f, q) h = by_side_lem (eqb n 1) refl (sym (ap (λ (y : Label). mem x (sent_on (env_out 1) y)) q) ∙ h)
     where
       by_side_lem : (c : Bool) → eqb n 1 ≡ c → mem x (cond (eqb (72 + n) (env_out 1)) (names u) []) ≡ false → has x (cond (has n (1 ∷ [])) v []) ≡ false
-      by_side_lem true p k = rw p (in_words v u e ∙ (rw (ap (λ (m : ℕ). eqb (72 + m) 73) (eqb_true n 1 p)) at k))
+      by_side_lem true p k = rw p (in_words v u e ∙ (rw (ap (λ (m : ℕ). eqb (72 + m) 73) (eqb-true n 1 p)) at k))
       by_side_lem false p k = rw p refl
   sent (labelled logs n v) l (u, e, f, (c, i, q)) h = absurd (false≢true i)
   sent (refusal k n) l e h = refl

@@ -5,7 +5,7 @@ use mathlib.Core.List.{List, []}
 use mathlib.Core.Logic.{inl, ⊎_elim}
 use Prim.Native.Nat.{ℕ}
 use native.Mathlib.Omega.{arith}
-use borrow.Author.Tests.{eqb_true}
+use borrow.Author.Tests.{eqb-true}
 use Rattle.calculus.specs.Syntax.{Val, Tag, plain, received_parent, received_child, Proc, ren, tren, within, parent, child}
 use Rattle.calculus.specs.Transitions.{Label, tau, send, recv, Participants, In}
 use Rattle.calculus.specs.Transitions.{Step as Trans}
@@ -124,7 +124,7 @@ module _ (b : Composition) (s : State) (e : ready b s ≡ true) (X : List ℕ) (
           let eo : o ≡ plain parent = only_parent o m.names.to (ap tag_of q.3) in
           subst (PureLabel b) (sym (λ i. send (ex i) (eo i) v)) (pure_out n (is_true _ h'))
       go (labelled logs n u) (y, p, f, (c, i, q)) sd h =
-          let c3 : c ≡ 3 = eqb_true c 3 (has_every is_log (wrapper_of b).copies c (copies_log b.wrapper) i) in
+          let c3 : c ≡ 3 = eqb-true c 3 (has_every is_log (wrapper_of b).copies c (copies_log b.wrapper) i) in
           let ex : x ≡ 3 = only_kept m.names x 3 (by_known X s 3 (is_low (omega arith))) (ap chan_of q ∙ c3) in
           let eo : o ≡ plain parent = only_parent o m.names.to (ap tag_of q) in
           subst (PureLabel b) (sym (λ i. send (ex i) (eo i) v)) (pure_log (copies_where b.wrapper c i))

@@ -21,7 +21,7 @@ use Rattle.model.specs.Wrapper.{Wrapper}
 use Rattle.model.specs.Process.{vwords, vswords, vcount, val_of}
 use Rattle.model.specs.Agreement.{foreign, some_name, enterable, minted_number, Says, says_tau, says_in, says_out, says_log}
 use Rattle.calculus.proofs.Renaming.{AllV-map, AllV-map2}
-use Rattle.model.proofs.Basics.Tests.{fst, snd, both, alt, alt_left, alt_right, append_nil, or_none, one_fails}
+use Rattle.model.proofs.Basics.Tests.{fst, snd, both, alt, alt_left, alt_right, append-nil, or_none, one_fails}
 use Rattle.model.proofs.Formed.Keeping.{Spoken, shaped_words}
 use Rattle.model.proofs.Formed.Invariant.{known_held}
 use Rattle.model.proofs.Processes.KnownNames.{outside_names, outside_in_lem, known_all, is_low, is_brought, has_left, by_known, held_minted}
@@ -101,7 +101,7 @@ mutual
 
 value_of_names : (v : Val ℕ) → length (vwords v) ≤ 16 → AllV v (λ x. is_name x ≡ true) → is_value (vwords v) ≡ true
 unfolding is_value
-value_of_names v l h = both _ _ (le-leb (length (vwords v)) 16 l) (items_shaped (vwords v) (ap (λ (w : List ℕ). items is_name 11 w 1) (sym (append_nil (vwords v))) ∙ reads_on v [] 0 l h ∙ items_zero is_name 11 []))
+value_of_names v l h = both _ _ (le-leb (length (vwords v)) 16 l) (items_shaped (vwords v) (ap (λ (w : List ℕ). items is_name 11 w 1) (sym (append-nil (vwords v))) ∙ reads_on v [] 0 l h ∙ items_zero is_name 11 []))
 
 is_T : (b : Bool) → b ≡ true → T b
 is_T b e = subst (λ (c : Bool). T c) (sym e) tt

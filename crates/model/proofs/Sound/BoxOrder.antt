@@ -5,7 +5,7 @@ use mathlib.Core.List.{List, [], ◌∷◌, ◌++◌, append_assoc, map}
 use mathlib.Core.Logic.{◌⊎◌, inl, ⊎_elim}
 use Prim.Native.Nat.{ℕ, suc, ◌<◌, ◌≤◌}
 use native.Mathlib.Omega.{arith}
-use borrow.Author.Tests.{ltb-true, eqb_true, eq-eqb, ne_eqb}
+use borrow.Author.Tests.{ltb-true, eqb-true, eq-eqb, ne_eqb}
 use lib.Dec.{eqb, T}
 use lib.ListN.{length}
 use Rattle.calculus.specs.Congruence.{◌≋◌, trans}
@@ -115,7 +115,7 @@ has_last m n X Y = has_app m X (Y ++ n ∷ []) ∙ ap (λ (t : Bool). has m X ||
 distinct_end : (n : ℕ) (Y : List ℕ) → (has n Y ≡ true → ⊥) → Distinct Y → Distinct (Y ++ n ∷ [])
 distinct_end n [] h d = (false≢true, tt)
 distinct_end n (y ∷ Y) h d = (
-  λ q. ⊎_elim d.0 (λ p. ⊎_elim (λ r. h (or_first (eqb n y) (has n Y) (eq-eqb n y (sym (eqb_true y n r))))) (λ r. false≢true r) (Bool-cases (eqb y n) false p)) (Bool-cases (has y Y) (has y (n ∷ [])) (sym (has_app y Y (n ∷ [])) ∙ q)),
+  λ q. ⊎_elim d.0 (λ p. ⊎_elim (λ r. h (or_first (eqb n y) (has n Y) (eq-eqb n y (sym (eqb-true y n r))))) (λ r. false≢true r) (Bool-cases (eqb y n) false p)) (Bool-cases (has y Y) (has y (n ∷ [])) (sym (has_app y Y (n ∷ [])) ∙ q)),
   distinct_end n Y (λ q. h (bool-right (eqb n y) (has n Y) q)) d.1,
 )
 

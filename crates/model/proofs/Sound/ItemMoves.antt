@@ -5,7 +5,7 @@ use mathlib.Core.List.{List, [], ◌∷◌, ◌++◌, map, append_assoc}
 use mathlib.Core.Option.{some}
 use Prim.Native.Nat.{ℕ}
 use native.Mathlib.Omega.{arith}
-use borrow.Author.Tests.{eqb_true, ne_eqb}
+use borrow.Author.Tests.{eqb-true, ne_eqb}
 use lib.Dec.{T}
 use lib.ListN.{set, get_elem?}
 use Rattle.calculus.specs.Syntax.{Val, AllN, Proc, Tag, plain, received_parent, received_child, replicated, remark, comp, ITag}
@@ -326,7 +326,7 @@ module _ (w : Wrapper) (side : ℕ) (T : Table) (C D : List (Item Mark)) (s : Co
       ap₂ (λ (x : ℕ) (r : List (Item (Unit {0}))). item 0 (pout tt x (plain iparent) (val_of v)) ∷ r) (not_out c (fst _ _ h)) (copied_items cs v (snd _ _ h))
     where
       not_out : (c : ℕ) → is_log c ≡ true → leaves_as w side c ≡ c
-      not_out c q = ap (λ (t : Bool). cond t (w.outlet side) c) (ne_eqb c 1 (λ z. let y = eqb_true c 3 q in omega arith))
+      not_out c q = ap (λ (t : Bool). cond t (w.outlet side) c) (ne_eqb c 1 (λ z. let y = eqb-true c 3 q in omega arith))
 
   -- what a forwarder has sent is copies and a message more at the end of the lobby
   pub add_sent : (cs v : List ℕ) → every is_log cs ≡ true → (l : List Message) (m : Message) (ps : List Particle)

@@ -5,7 +5,7 @@ use mathlib.Core.List.{List, [], ◌∷◌, ◌++◌}
 use mathlib.Core.Logic.{⊎_elim}
 use Prim.Native.Nat.{ℕ, suc, ◌<◌}
 use native.Mathlib.Omega.{arith}
-use borrow.Author.Tests.{leb-true, leb-false, lt-ltb, le-ltb, eqb_true, not-false}
+use borrow.Author.Tests.{leb-true, leb-false, lt-ltb, le-ltb, eqb-true, not-false}
 use lib.Dec.{leb, ltb, eqb, T}
 use mathlib.Core.Option.{some}
 use lib.ListN.{length, get_elem?}
@@ -40,7 +40,7 @@ says_inv (says_log {c = c} {v = v} q e h) = (v, e, h, (c, q, refl))
 -- what is said of a message that leaves on a channel: an output on the environment's name of the channel
 module _ (w : Wrapper) (cl : every is_log w.copies ≡ true) (n c : ℕ) (ok : eqb c 1 or has c w.copies ≡ true) where
   copy_log : (x : ℕ) → has x w.copies ≡ true → x ≡ 3
-  copy_log x q = eqb_true x 3 (has_every is_log w.copies x cl q)
+  copy_log x q = eqb-true x 3 (has_every is_log w.copies x cl q)
 
   pub left_inv : (v : List ℕ) (l : Label) → SaysInv w (labelled (leaving_on c) n v) l → (u : Val ℕ) × (v ≡ vwords u) × T (not (foreign u)) × (l ≡ send (leaves_as w n c) (plain iparent) u)
   left_inv v l h = go (eqb c 1) refl h
@@ -134,7 +134,7 @@ step_eq x κ σ i j ws a b c d e = λ t. record { kind = sym a t; side = sym b t
 
 pub empty_words : (ws : List ℕ) → eqb (length ws) 0 ≡ true → ws ≡ []
 empty_words [] e = refl
-empty_words (w ∷ ws) e = let z = eqb_true (suc (length ws)) 0 e in absurd (omega arith)
+empty_words (w ∷ ws) e = let z = eqb-true (suc (length ws)) 0 e in absurd (omega arith)
 
 pub at_enter : (w : Wrapper) (x : Step) (σ : ℕ) (u : Mark) → x.kind ≡ 1 → x.side ≡ σ → x.i ≡ 0 → x.j ≡ 0 → At w x (joint u (enterer σ))
 at_enter w x σ u a b c d = subst (λ (y : Step). At w y (joint u (enterer σ))) (step_eq x 1 σ 0 0 x.words a b c d refl) enter

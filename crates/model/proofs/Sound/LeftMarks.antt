@@ -4,7 +4,7 @@ use mathlib.Core.Bool.{Bool, true, false, cond, ◌||◌}
 use mathlib.Core.List.{List, [], ◌∷◌}
 use mathlib.Core.Logic.{◌⊎◌, inl, inr}
 use Prim.Native.Nat.{ℕ}
-use borrow.Author.Tests.{eqb_true, eqb-false, eq-eqb, ne_eqb}
+use borrow.Author.Tests.{eqb-true, eqb-false, eq-eqb, ne_eqb}
 use lib.Dec.{eqb}
 use Rattle.calculus.specs.Transitions.{mem}
 use Rattle.model.specs.Basics.{Res, refuse, done, has}
@@ -71,7 +71,7 @@ module _ (b : Composition) (s : State) (x : Step) (n w : ℕ) (m : is_minted w �
   by_side_lem : ready b s ≡ true → has_side (wrapper_of b) x.side ≡ true → (t : Bool) → eqb n x.side ≡ t
       → Kept s n w (record { answer = answer_of x.side (moved b s x); after = put_side s x.side (side_after (side s x.side) (moved b s x)) })
   by_side_lem e h true q =
-      let own_side : n ≡ x.side = eqb_true n x.side q in
+      let own_side : n ≡ x.side = eqb-true n x.side q in
       rw (own_side, put_same s x.side (side_after (side s x.side) (moved b s x)) (pos b s e x.side h) (lt b s e x.side h)) (own b s x w e h m (moved b s x))
   by_side_lem e h false q =
       let other : n ≡ x.side → ⊥ = eqb-false n x.side q in

@@ -6,7 +6,7 @@ use mathlib.Core.Logic.{◌⊎◌, ⊎_elim}
 use mathlib.Core.Option.{Option, none, some}
 use Prim.Native.Nat.{ℕ, zero, suc, ◌+◌}
 use native.Mathlib.Omega.{arith}
-use borrow.Author.Tests.{leb-true, ltb-false, eqb_true, not-true}
+use borrow.Author.Tests.{leb-true, ltb-false, eqb-true, not-true}
 use lib.Dec.{ltb, eqb}
 use lib.ListN.{length}
 use Rattle.calculus.specs.Syntax.{Val, Vals, nm, tup, vnil, vcons, Vars, Varss, both, match}
@@ -106,7 +106,7 @@ does_tuple p ps ih t n (w ∷ ws) fit e ip iv di = go (eqb w p) refl
     go : (b : Bool) → eqb w p ≡ b → Matched (p ∷ ps) (suc n) (w ∷ ws) fit.bound
     go false q = absurd (clash (rw (t, matches, q) at e))
     go true q =
-        let same : w ≡ p = eqb_true w p q in
+        let same : w ≡ p = eqb-true w p q in
         let tw : is_tuple w ≡ true = rw same t in
         let iv' : items is_name 11 ws (arity w + n) ≡ done [] = sym (items_tuple is_name 11 w ws n (tuple_not_name w tw) tw) ∙ iv in
         let r = ih (arity p + n) ws fit (rw (t, matches, q) at e) (sym (items_tuple is_pattern_leaf 5 p ps n (tuple_not_leaf p t) t) ∙ ip) (rw same at iv') (subst (λ (l : List ℕ). distinct l ≡ true) (skip p ps (tuple_not_public p t)) di) in
@@ -144,7 +144,7 @@ does_other p ps ih t n v fit e ip iv di =
         by_name : (x : ℕ) (G : Val ℕ → Val ℕ) (c : Bool) → eqb p x ≡ c → (us : List (List ℕ)) → has p (binders ps) ≡ false → ((d : List ℕ) → G (val_of d) ≡ val_of (lookup (binders ps) us x d)) → (d : List ℕ)
             → value_or {B = Unit {0}} (λ z. val_of (first_of v)) (cond (eqb p x) (some tt) none) (G (val_of d)) ≡ val_of (lookup (p ∷ binders ps) (first_of v ∷ us) x d)
         by_name x G true z us h w d = ap (λ (c : Bool). value_or {B = Unit {0}} (λ z. val_of (first_of v)) (cond c (some tt) none) (G (val_of d))) z
-            ∙ sym (ap (λ (c : Bool). val_of (lookup (binders ps) us x (cond c (first_of v) d))) z ∙ ap val_of (look_none (binders ps) us x (first_of v) (subst (λ (y : ℕ). has y (binders ps) ≡ false) (eqb_true p x z) h)))
+            ∙ sym (ap (λ (c : Bool). val_of (lookup (binders ps) us x (cond c (first_of v) d))) z ∙ ap val_of (look_none (binders ps) us x (first_of v) (subst (λ (y : ℕ). has y (binders ps) ≡ false) (eqb-true p x z) h)))
         by_name x G false z us h w d = ap (λ (c : Bool). value_or {B = Unit {0}} (λ z. val_of (first_of v)) (cond c (some tt) none) (G (val_of d))) z ∙ w d ∙ sym (ap (λ (c : Bool). val_of (lookup (binders ps) us x (cond c (first_of v) d))) z)
     go false q fr ip' rd =
         let r = ih n (rest_of v) fit (rw (t, q, matches) at e) ip' fr.2 (subst (λ (l : List ℕ). distinct l ≡ true) (skip p ps q) di) in
@@ -202,7 +202,7 @@ has_public (w ∷ p) x e = go (is_public w) refl e (has_public p x)
     go true q h ih = split (eqb x w) refl h
       where
         split : (c : Bool) → eqb x w ≡ c → c || has x (binders p) ≡ true → is_public x ≡ true
-        split true r h = subst (λ (y : ℕ). is_public y ≡ true) (sym (eqb_true x w r)) q
+        split true r h = subst (λ (y : ℕ). is_public y ≡ true) (sym (eqb-true x w r)) q
         split false r h = ih h
     go false q h ih = ih h
 

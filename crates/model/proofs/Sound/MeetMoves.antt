@@ -5,7 +5,7 @@ use mathlib.Core.List.{List, [], ◌∷◌}
 use mathlib.Core.Option.{some}
 use Prim.Native.Nat.{ℕ, ◌<◌, ◌≤◌}
 use native.Mathlib.Omega.{arith}
-use borrow.Author.Tests.{leb-true, ltb-true, eqb_true}
+use borrow.Author.Tests.{leb-true, ltb-true, eqb-true}
 use lib.ListN.{length, length-append, get_elem?}
 use Rattle.calculus.specs.Syntax.{Pat}
 use Rattle.calculus.specs.Syntax.{Val, Proc, AllN, remark, Tag, plain, comp, ITag, iren, the_name, Vars}
@@ -91,7 +91,7 @@ module _ (b : Composition) (s : State) (e : ready b s ≡ true) (vw : View b s) 
 
     pub sized : Sized (env_at Tb n vs)
     unfolding wf_particle
-    sized = eqb_true (length vs) (length (scope Tb n)) (fst _ _ (snd _ _ (snd _ _ (snd _ _ wq))))
+    sized = eqb-true (length vs) (length (scope Tb n)) (fst _ _ (snd _ _ (snd _ _ (snd _ _ wq))))
 
     pub fits_all : defined (term Tb n) (env_at Tb n vs) ≡ true
     unfolding wf_particle
@@ -230,11 +230,11 @@ module _ (b : Composition) (s : State) (e : ready b s ≡ true) (vw : View b s) 
               let x = need_done _ _ _ _ h in
               let y = bind_done _ _ _ x.1 in
               let z = need_done _ _ _ _ y.2 in
-              let same : γ ≡ β = sym (eqb_true β γ (fst _ _ x.0)) in
+              let same : γ ≡ β = sym (eqb-true β γ (fst _ _ x.0)) in
               let gq' = subst (λ (k : ℕ). get_elem? vw.core.contents.particles j ≡ some (input k n vs)) same gq in
               let wq' = subst (λ (k : ℕ). wf_particle Tb (counts s) nb (input k n vs) ≡ true) same wq in
               subst (λ (k : Moved). (k.label ≡ silent) × Goes b s (after b s e vw k) tau (joint (part side i) (part side j))) (done_inj z.1) (
                 refl,
-                met i j β ch g v n vs gp gq' node wp wq' y.0 y.1 z.0 (eqb_true ch (word (env_at Tb n vs) node.chan) (fst _ _ (snd _ _ x.0))) (snd _ _ (snd _ _ x.0))
+                met i j β ch g v n vs gp gq' node wp wq' y.0 y.1 z.0 (eqb-true ch (word (env_at Tb n vs) node.chan) (fst _ _ (snd _ _ x.0))) (snd _ _ (snd _ _ x.0))
                     (leb-true _ 256 (snd _ _ (snd _ _ (roomy_of _ (at_limits z.1 lim))))),
               )

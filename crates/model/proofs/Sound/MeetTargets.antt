@@ -5,7 +5,7 @@ use mathlib.Core.List.{List, [], ◌∷◌, ◌++◌, map, append_assoc}
 use mathlib.Core.Logic.{⊎_elim}
 use Prim.Native.Nat.{ℕ, zero, suc, ◌<◌, ◌≤◌}
 use native.Mathlib.Omega.{arith}
-use borrow.Author.Tests.{leb-true, ltb-true, eqb_true, ne_eqb}
+use borrow.Author.Tests.{leb-true, ltb-true, eqb-true, ne_eqb}
 use lib.Dec.{eqb}
 use lib.ListN.{length, get_or, length-map}
 use Rattle.calculus.specs.Syntax.{Proc, remark, comp, received_child}
@@ -66,7 +66,7 @@ fit_comp (to_child n) h e = absurd (false≢true e)
 fit_comp (from_child n) within e = absurd (false≢true e)
 fit_comp (from_child n) to_parent e = absurd (false≢true e)
 fit_comp (from_child n) from_parent e = absurd (false≢true e)
-fit_comp (from_child n) (to_child m) e = ap received_child (eqb_true n m e)
+fit_comp (from_child n) (to_child m) e = ap received_child (eqb-true n m e)
 fit_comp (from_child n) (from_child m) e = absurd (false≢true e)
 
 each_front : {M : Type 0} (A : List ℕ) (X Y : List (Item M)) → Each A (X ++ Y) → Each A X
@@ -189,8 +189,8 @@ module _ (b : Composition) (s : State) (e : ready b s ≡ true) (vw : View b s) 
       go (suc (suc (suc n))) f = let z = past (counts s) (suc (suc n)) (omega (arith, long)) in omega arith
 
   mine_top : mine vw.c top ≡ 256
-  mine_top = ⊎_elim (λ q. ap (count_of top) (eqb_true vw.c.side 1 q))
-      (λ q. ⊎_elim (λ r. ap (count_of top) (eqb_true vw.c.side 2 r)) (λ r. absurd (false≢true r)) (Bool-cases (eqb vw.c.side 2) false q)) (Bool-cases (eqb vw.c.side 1) (has vw.c.side (2 ∷ [])) own.0)
+  mine_top = ⊎_elim (λ q. ap (count_of top) (eqb-true vw.c.side 1 q))
+      (λ q. ⊎_elim (λ r. ap (count_of top) (eqb-true vw.c.side 2 r)) (λ r. absurd (false≢true r)) (Bool-cases (eqb vw.c.side 2) false q)) (Bool-cases (eqb vw.c.side 1) (has vw.c.side (2 ∷ [])) own.0)
 
   -- a body at a box, beside other items X, is the next state beside them
   pub grown_cong : (X : List (Item (Unit {0}))) → Each (All b s) X → ((k : ℕ) → select X (site_of side k) ≡ []) → {σ : List ℕ} {a : Term} → Sits Tb σ a → (ρ : Env) → ρ.names ≡ σ → Sized ρ →

@@ -5,7 +5,7 @@ use mathlib.Core.List.{List, [], ◌∷◌, map}
 use mathlib.Core.Logic.{⊎_elim}
 use Prim.Native.Nat.{ℕ, ◌<◌, ◌≤◌}
 use native.Mathlib.Omega.{arith}
-use borrow.Author.Tests.{eqb_true, eq-eqb}
+use borrow.Author.Tests.{eqb-true, eq-eqb}
 use lib.Dec.{eqb, T}
 use Rattle.calculus.specs.Transitions.{mem, names, Out∉}
 use Rattle.calculus.proofs.Restriction.{Eachn}
@@ -33,14 +33,14 @@ module _ (b : Composition) (s : State) (few : (n : ℕ) → (side s n).core.cont
   in_words x l m = subst (λ (c : Bool). T c) (names_words x l (val_of ws) ∙ ap (mem x) (val_written ws iv)) m
 
   no_own : (x : ℕ) → T (mem x (map own_name (wrapper_of b).sides)) → T (mem x (y ∷ names (val_of ws))) → ⊥
-  no_own x o m = let w = own_low b s x o in ⊎_elim (λ a. let q = eqb_true x y (T_true (eqb x y) a) in omega (arith, w.0))
+  no_own x o m = let w = own_low b s x o in ⊎_elim (λ a. let q = eqb-true x y (T_true (eqb x y) a) in omega (arith, w.0))
       (λ a. no_word x (omega (arith, w.0)) (omega (arith, w.1)) (every_mem worded ws x wv (in_words x (omega (arith, w.1)) a))) (or_cases (eqb x y) (mem x (names (val_of ws))) m)
 
   no_minted : (x : ℕ) → T (mem x (minted_of s)) → not (known s x) ≡ true → T (mem x (y ∷ names (val_of ws))) → ⊥
   no_minted x i n m =
       let h = minted_high b s x i in let mi = minted_is s few x i in
       let may : x < 4000000 → T (mem x (names (val_of ws))) → not (is_minted x) or known s x ≡ true = λ l a. every_mem (λ x. not (is_minted x) or known s x) ws x kv (in_words x l a) in
-      ⊎_elim (λ a. let q = eqb_true x y (T_true (eqb x y) a) in omega arith)
+      ⊎_elim (λ a. let q = eqb-true x y (T_true (eqb x y) a) in omega arith)
       (λ a. ⊎_elim (λ p. false≢true (sym (ap not mi) ∙ p)) (λ p. false≢true (sym (ap not p) ∙ n)) (alt _ _ (may (omega (arith, (minted_range x mi).1)) a)))
       (or_cases (eqb x y) (mem x (names (val_of ws))) m)
 

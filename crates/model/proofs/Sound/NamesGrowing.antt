@@ -5,7 +5,7 @@ use mathlib.Core.List.{List, [], ◌∷◌, ◌++◌}
 use mathlib.Core.Logic.{◌⊎◌, inl, inr, ⊎_elim}
 use Prim.Native.Nat.{ℕ, ◌<◌}
 use native.Mathlib.Omega.{arith}
-use borrow.Author.Tests.{leb-true, eqb_true, eq-eqb, not-false}
+use borrow.Author.Tests.{leb-true, eqb-true, eq-eqb, not-false}
 use lib.Dec.{eqb, T}
 use Rattle.calculus.specs.Syntax.{Val, Tag, plain, parent}
 use Rattle.calculus.specs.Transitions.{Label, tau, send, recv, In, mem, names, lnames}
@@ -56,7 +56,7 @@ of_knows b s e X z (left m k) = by_known X s z (has_left (held_minted b s z (hel
 -- a name of a label's value is low, from outside or minted
 some_none : (f : ℕ → Bool) (l : List ℕ) → some_name f l ≡ false → (z : ℕ) → In l z → f z ≡ false
 some_none f [] h z i = absurd i
-some_none f (x ∷ l) h z i = ⊎_elim (λ q. ap f (eqb_true z x (T_true _ q)) ∙ (fails (f x) (some_name f l) h).0) (λ q. some_none f l (fails (f x) (some_name f l) h).1 z q) (or_cases (eqb z x) (mem z l) i)
+some_none f (x ∷ l) h z i = ⊎_elim (λ q. ap f (eqb-true z x (T_true _ q)) ∙ (fails (f x) (some_name f l) h).0) (λ q. some_none f l (fails (f x) (some_name f l) h).1 z q) (or_cases (eqb z x) (mem z l) i)
   where
     fails : (a c : Bool) → a || c ≡ false → (a ≡ false) × (c ≡ false)
     fails true c e = absurd (false≢true (sym e))
@@ -151,7 +151,7 @@ module _ (b : Composition) (s : State) (e : ready b s ≡ true) (k : Step) (h : 
   -- the names of a label on channel x with value u: x is low, and those of u are low, from outside, or minted, and then marked
   named_by : (t : State) (x : ℕ) (u : Val ℕ) → x < 81 → T (not (foreign u)) → ((z : ℕ) → In (names u) z → is_minted z ≡ true → known t z ≡ true) → (z : ℕ) → In (x ∷ names u) z →
       (z < 81) ⊎ (((is_minted z ≡ true) × (known t z ≡ true)) ⊎ (is_outside z ≡ true))
-  named_by t x u l f k z i = ⊎_elim (λ p. inl (let q = eqb_true z x (T_true _ p) in omega arith))
+  named_by t x u l f k z i = ⊎_elim (λ p. inl (let q = eqb-true z x (T_true _ p) in omega arith))
       (λ p. ⊎_elim (λ q. inl q) (λ q. inr (⊎_elim (λ m. inl (m, k z p m)) (λ o. inr o) q)) (label_name u f z p))
       (or_cases (eqb z x) (mem z (names u)) i)
 
@@ -182,7 +182,7 @@ module _ (b : Composition) (s : State) (e : ready b s ≡ true) (k : Step) (h : 
           entered_known m q a.0 z (subst T (names_words z (let q = (minted_range z mi).1 in omega arith) sy.0 ∙ ap (mem z) (sym a.1)) i) mi
   by_label X m q l ask r leaves ey sy = by_left m r (subst Leaves (sym ey) tt) sy.0 sy.1 _ (outlet_low b s e n h) X sy.2 l sy.3
   by_label X m q l ask r logs ey (u, p, f, (x, y, z)) =
-      let x3 = eqb_true x 3 (has_every is_log (wrapper_of b).copies x (copies_log b.wrapper) y) in
+      let x3 = eqb-true x 3 (has_every is_log (wrapper_of b).copies x (copies_log b.wrapper) y) in
       by_left m r (subst Leaves (sym ey) tt) u p x (omega arith) X f l z
 
 pub names_grow : NamesGrow

@@ -5,10 +5,10 @@ use mathlib.Core.List.{List, [], ◌∷◌, ◌++◌, map}
 use mathlib.Core.Logic.{⊎_elim}
 use Prim.Native.Nat.{ℕ, ◌<◌, ◌≤◌}
 use native.Mathlib.Omega.{arith}
-use borrow.Author.Tests.{leb-true, eqb_true, eq-eqb, ne_eqb, eqb-false}
+use borrow.Author.Tests.{leb-true, eqb-true, eq-eqb, ne_eqb, eqb-false}
 use lib.Dec.{leb, eqb, T}
 use lib.ListN.{length, get_or, set}
-use lib.Seq.{get_or-set_same, get_or_set_other}
+use lib.Seq.{get_or-set_same, get_or-set_other}
 use Rattle.calculus.specs.Transitions.{mem, names}
 use Rattle.model.specs.Basics.{◌&◌, done, every}
 use Rattle.model.specs.Values.{is_minted, is_name, items}
@@ -72,10 +72,10 @@ marked_one l w x n p = go (is_minted w) refl (eqb x w) refl
     or_false false = refl
 
     go : (b : Bool) → is_minted w ≡ b → (c : Bool) → eqb x w ≡ c → marked (cond b (set l (mark_of w) true) l) x ≡ marked l x || c
-    go true q true r = let e = eqb_true x w r in
+    go true q true r = let e = eqb-true x w r in
         subst (λ (y : ℕ). get_or (set l (mark_of y) true) (mark_of x) false ≡ get_or l (mark_of x) false || true) e (get_or-set_same l (mark_of x) true false (omega (arith, minted_place x p)) ∙ sym (or_true (marked l x)))
-    go true q false r = get_or_set_other l (mark_of w) (mark_of x) true false (λ z. eqb-false x w r (place_own x w p q z)) ∙ sym (or_false (marked l x))
-    go false q true r = absurd (false≢true (sym q ∙ subst (λ (y : ℕ). is_minted y ≡ true) (eqb_true x w r) p))
+    go true q false r = get_or-set_other l (mark_of w) (mark_of x) true false (λ z. eqb-false x w r (place_own x w p q z)) ∙ sym (or_false (marked l x))
+    go false q true r = absurd (false≢true (sym q ∙ subst (λ (y : ℕ). is_minted y ≡ true) (eqb-true x w r) p))
     go false q false r = sym (or_false (marked l x))
 
 pub marked_all : (v : List ℕ) (l : List Bool) (x : ℕ) → length l ≡ 512 → is_minted x ≡ true → marked (mark_all l v) x ≡ marked l x || mem x v
@@ -131,7 +131,7 @@ new_left b s s' y v few ly iv hv em hk =
     own_out : (x : ℕ) → T (mem x (map own_name (wrapper_of b).sides)) → mem x (y ∷ names (val_of v)) ≡ false
     own_out x m = let o = own_low b s x m in
         out_of x (y ∷ names (val_of v))
-        (λ t. ⊎_elim (λ a. let q = eqb_true x y (T_true (eqb x y) a) in omega (arith, o.0)) (λ a. no_own v hv (subst (λ (c : Bool). T c) (small x (omega (arith, o.1))) a)) (or_cases (eqb x y) (mem x (names (val_of v))) t))
+        (λ t. ⊎_elim (λ a. let q = eqb-true x y (T_true (eqb x y) a) in omega (arith, o.0)) (λ a. no_own v hv (subst (λ (c : Bool). T c) (small x (omega (arith, o.1))) a)) (or_cases (eqb x y) (mem x (names (val_of v))) t))
       where
         T_true : (c : Bool) → T c → c ≡ true
         T_true true h = refl
@@ -140,7 +140,7 @@ new_left b s s' y v few ly iv hv em hk =
         no_own : (v : List ℕ) → every worded v ≡ true → T (mem x v) → ⊥
         no_own [] h t = t
         no_own (w ∷ v) h t = ⊎_elim
-            (λ a. no_word x (omega (arith, (own_low b s x m).0)) (omega (arith, (own_low b s x m).1)) (subst (λ (z : ℕ). worded z ≡ true) (sym (eqb_true x w (T_true (eqb x w) a))) (fst _ _ h)))
+            (λ a. no_word x (omega (arith, (own_low b s x m).0)) (omega (arith, (own_low b s x m).1)) (subst (λ (z : ℕ). worded z ≡ true) (sym (eqb-true x w (T_true (eqb x w) a))) (fst _ _ h)))
             (λ a. no_own v (snd _ _ h) a) (or_cases (eqb x w) (mem x v) t)
 
     kept : keep (λ x. not (known s' x)) (minted_of s') ≡ minus (keep (λ x. not (known s x)) (minted_of s)) (y ∷ names (val_of v))

@@ -6,7 +6,7 @@ use mathlib.Core.Logic.{⊎_elim}
 use mathlib.Core.Option.{some}
 use Prim.Native.Nat.{ℕ, zero, suc, ◌≤◌}
 use native.Mathlib.Omega.{arith}
-use borrow.Author.Tests.{eqb_true, ne_eqb, not-true}
+use borrow.Author.Tests.{eqb-true, ne_eqb, not-true}
 use lib.Dec.{eqb}
 use lib.ListN.{length, set, get_elem?}
 use Rattle.calculus.specs.Syntax.{plain, received_child}
@@ -58,7 +58,7 @@ is_toChild : (g : STag) (n : ℕ) → is_to_child g n ≡ true → g ≡ to_chil
 is_toChild within n e = absurd (false≢true e)
 is_toChild to_parent n e = absurd (false≢true e)
 is_toChild from_parent n e = absurd (false≢true e)
-is_toChild (to_child m) n e = ap to_child (eqb_true m n e)
+is_toChild (to_child m) n e = ap to_child (eqb-true m n e)
 is_toChild (from_child m) n e = absurd (false≢true e)
 
 pub first_box : {A : Type 0} (l : List A) → 1 ≤ length l → (x : A) × (get_elem? l 0 ≡ some x)
@@ -152,7 +152,7 @@ module _ (A : List ℕ) (bs : List (Place Mark)) (wf : Wf A bs) (ro : Rooted bs)
   unfolding up_from
   up_at i (suc b) ch g v m get tp e = quiet (up_quiet i b ch g v m get tp e)
   up_at i zero ch g v m get tp e = ⊎_elim
-      (λ p. let ch2 = eqb_true ch 2 (snd _ _ p.0) in
+      (λ p. let ch2 = eqb-true ch 2 (snd _ _ p.0) in
       shelved g v (fst _ _ p.0) (subst (λ (x : ℕ). get_elem? s.contents.particles i ≡ some (output 0 x g v)) ch2 get) tp (sym (done_inj p.1)))
       (λ p. quiet (subst (λ (y : Moved). Quiet (lone (part c.side i)) y) (done_inj p.1) (record {
         moves = moves_to (up_zero i ch g v get tp) (add_msg w c.side c.table C D s s.lobby (record { status = arrived; chan = ch; val = v }) (remove s.contents.particles i));
@@ -184,7 +184,7 @@ module _ (A : List ℕ) (bs : List (Place Mark)) (wf : Wf A bs) (ro : Rooted bs)
       go (output b ch g v) x get gx e =
           let a = need_done _ _ _ _ e in
           let z = not-true (eqb j 0) (fst _ _ a.0) in
-          let pb : b ≡ x.parent = sym (eqb_true x.parent b (fst _ _ (snd _ _ a.0))) in
+          let pb : b ≡ x.parent = sym (eqb-true x.parent b (fst _ _ (snd _ _ a.0))) in
           let at = part_at w c.side c.table C D s i (output b ch g v) get in
           let is_it = part_found i b ch g (to_child x.name) v (is_toChild g x.name (snd _ _ (snd _ _ a.0))) at ∙ ap (λ (y : ℕ). at.X ++ part_item ids c.table c.side i (output y ch (to_child x.name) v) ∷ at.Y) pb in
           subst (λ (y : Moved). Quiet (joint (part c.side i) (boxed c.side j)) y) (done_inj a.1) (record {
@@ -219,7 +219,7 @@ module _ (A : List ℕ) (bs : List (Place Mark)) (wf : Wf A bs) (ro : Rooted bs)
         let a = need_done _ _ _ _ e1 in
         let at = lobby_at w c.side c.table C D s i n g in
         let is_it : I ≡ (C ++ at.X) ++ item 0 (pout (lobby c.side i) out_name (received_child (own_name c.side)) (val_of n.val)) ∷ at.Y =
-        at.is ∙ ap₂ (λ (p : SPlace) (x : ℕ). (C ++ at.X) ++ item 0 (msg_proc ids w c.side i p x n.val) ∷ at.Y) (is_arrived_lem n.status (fst _ _ a.0)) (eqb_true n.chan 1 (snd _ _ a.0)) in
+        at.is ∙ ap₂ (λ (p : SPlace) (x : ℕ). (C ++ at.X) ++ item 0 (msg_proc ids w c.side i p x n.val) ∷ at.Y) (is_arrived_lem n.status (fst _ _ a.0)) (eqb-true n.chan 1 (snd _ _ a.0)) in
         let is-here : I ≡ C1 ++ passing ids w c.side ∷ ((C2 ++ at.X) ++ item 0 (pout (lobby c.side i) out_name (received_child (own_name c.side)) (val_of n.val)) ∷ at.Y) =
         is_it ∙ ap (λ (L : List (Item Mark)). (L ++ at.X) ++ item 0 (pout (lobby c.side i) out_name (received_child (own_name c.side)) (val_of n.val)) ∷ at.Y) at_pass ∙ regroup C1 C2 at.X (passing ids w c.side) _ in
         let back : ritems forget (C1 ++ passing ids w c.side ∷ ((C2 ++ at.X) ++ at.Y)) ≡ ritems forget (C ++ at.X) ++ ritems forget at.Y =
@@ -243,7 +243,7 @@ module _ (A : List ℕ) (bs : List (Place Mark)) (wf : Wf A bs) (ro : Rooted bs)
   module _ (cl : every is_log w.copies ≡ true) (E1 E2 : List (Item Mark)) (at_enter : C ≡ E1 ++ entering ids w c.side ∷ E2) where
     pub enter_moves : (kn : ℕ → Bool) (ws : List ℕ) (m : Moved) (u : Mark) → enter w.copies kn s ws ≡ done m →
         (Moves A bs I (recv (w.inlet c.side) (plain iparent) (val_of ws)) (joint u (enterer c.side)) (aim (s.lobby ++ (copied w.copies ws ++ record { status = down; chan = 0; val = ws } ∷ [])) s.contents.particles))
-        × (Rattle.model.specs.Values.is_value ws ≡ true) × (every (λ x. not (Rattle.model.specs.Values.isMinted x) or kn x) ws ≡ true)
+        × (Rattle.model.specs.Values.is_value ws ≡ true) × (every (λ x. not (Rattle.model.specs.Values.is_minted x) or kn x) ws ≡ true)
         × (m ≡ record { label = enters; val = ws; core = record { contents = s.contents; lobby = s.lobby ++ (copied w.copies ws ++ record { status = down; chan = 0; val = ws } ∷ []); shelf = s.shelf; taken = s.taken } })
     unfolding enter
     enter_moves kn ws m u e =

@@ -6,7 +6,7 @@ use mathlib.Core.Logic.{⊎_elim}
 use mathlib.Core.Option.{some}
 use Prim.Native.Nat.{ℕ, ◌<◌}
 use native.Mathlib.Omega.{arith}
-use borrow.Author.Tests.{leb-true, eqb_true}
+use borrow.Author.Tests.{leb-true, eqb-true}
 use lib.Dec.{leb, eqb}
 use lib.ListN.{length, get_elem?, length-append}
 use Rattle.calculus.specs.Syntax.{plain}
@@ -102,7 +102,7 @@ module _ (b : Composition) (s : State) (e : ready b s ≡ true) where
       where
         go : (t : Bool) → t or has c (wrapper_of b).copies ≡ true → cond t ((wrapper_of b).outlet vw.c.side) c < 81
         go true h = outwards_low
-        go false h = let q = eqb_true c 3 (has_every is_log (wrapper_of b).copies c (copies_log b.wrapper) (⊎_elim (λ p. absurd (false≢true p)) (λ p. p) (alt _ _ h))) in omega arith
+        go false h = let q = eqb-true c 3 (has_every is_log (wrapper_of b).copies c (copies_log b.wrapper) (⊎_elim (λ p. absurd (false≢true p)) (λ p. p) (alt _ _ h))) in omega arith
 
     pub inwards_low : (wrapper_of b).inlet vw.c.side < 81
     inwards_low = inlet_low b s e vw.c.side vw.is_side
@@ -198,25 +198,25 @@ module _ (b : Composition) (s : State) (e : ready b s ≡ true) where
       inner_done x l m sd i lim sy =
           let a = need_done _ _ _ _ i in
           let ws = empty_words x.words a.0 in
-          ⊎_elim (λ p. let k4 = eqb_true x.kind 4 p.0 in
+          ⊎_elim (λ p. let k4 = eqb-true x.kind 4 p.0 in
           let q = descend_quiet (All b s) (conf_of b s).boxes (wf_all b s e) (rooted_all b s e) root_all (wrapper_of b) vw.c vw.C vw.D vw.core each_now vw.ok.contents.box0 vw.has x.i x.j m p.1 in
           silent_done x l m (joint (part vw.c.side x.i) (boxed vw.c.side x.j)) (at_descend (wrapper_of b) x vw.c.side k4 sd ws) (not_kind x 4 1 k4 (λ z. omega arith))
           (not_kind x 4 7 k4 (λ z. omega arith)) q.label sy (quiet_goes q)) (λ p.
-          ⊎_elim (λ p. let k5 = eqb_true x.kind 5 p.0 in let q = meeting x.i x.j m p.1 lim in
+          ⊎_elim (λ p. let k5 = eqb-true x.kind 5 p.0 in let q = meeting x.i x.j m p.1 lim in
           silent_done x l m (joint (part vw.c.side x.i) (part vw.c.side x.j)) (at_meet (wrapper_of b) x vw.c.side k5 sd ws) (not_kind x 5 1 k5 (λ z. omega arith))
-          (not_kind x 5 7 k5 (λ z. omega arith)) q.0 sy q.1) (λ p. let d = need_done _ _ _ _ p.1 in let j0 = eqb_true x.j 0 d.0 in
-          ⊎_elim (λ p. let k2 = eqb_true x.kind 2 p.0 in
+          (not_kind x 5 7 k5 (λ z. omega arith)) q.0 sy q.1) (λ p. let d = need_done _ _ _ _ p.1 in let j0 = eqb-true x.j 0 d.0 in
+          ⊎_elim (λ p. let k2 = eqb-true x.kind 2 p.0 in
           let q = down_quiet (All b s) (conf_of b s).boxes (wf_all b s e) (rooted_all b s e) root_all (wrapper_of b) vw.c vw.C vw.D vw.core each_now vw.ok.contents.box0 vw.has x.i m p.1 in
           silent_done x l m (joint (lobby vw.c.side x.i) (boxed vw.c.side 0)) (at_down (wrapper_of b) x vw.c.side k2 sd j0 ws) (not_kind x 2 1 k2 (λ z. omega arith))
           (not_kind x 2 7 k2 (λ z. omega arith)) q.label sy (quiet_goes q)) (λ p.
-          ⊎_elim (λ p. up_done x l m lim (eqb_true x.kind 3 p.0) sd j0 ws
+          ⊎_elim (λ p. up_done x l m lim (eqb-true x.kind 3 p.0) sd j0 ws
           (up_moves (All b s) (conf_of b s).boxes (wf_all b s e) (rooted_all b s e) root_all (wrapper_of b) vw.c vw.C vw.D vw.core each_now vw.ok.contents.box0 vw.has x.i m p.1) sy) (λ p.
-          ⊎_elim (λ p. let k6 = eqb_true x.kind 6 p.0 in
+          ⊎_elim (λ p. let k6 = eqb-true x.kind 6 p.0 in
           let q = pass_quiet (All b s) (conf_of b s).boxes (wf_all b s e) (rooted_all b s e) root_all (wrapper_of b) vw.c vw.C vw.D vw.core each_now vw.ok.contents.box0 vw.has
           (copies_log b.wrapper) vw.C1 vw.C2 vw.at_pass x.i m (ap (λ (z : Setting). Rattle.model.specs.Step.pass z.wrapper.copies vw.core x.i) (sym vw.c_is) ∙ p.1) in
           silent_done x l m (joint (lobby vw.c.side x.i) (passer vw.c.side)) (at_pass (wrapper_of b) x vw.c.side k6 sd j0 ws) (not_kind x 6 1 k6 (λ z. omega arith))
           (not_kind x 6 7 k6 (λ z. omega arith)) q.label sy (quiet_goes q)) (λ p.
-          ⊎_elim (λ p. leave_done x l m (eqb_true x.kind 7 p.0) sd j0 ws p.1 sy) (λ p. absurd (clash p.1))
+          ⊎_elim (λ p. leave_done x l m (eqb-true x.kind 7 p.0) sd j0 ws p.1 sy) (λ p. absurd (clash p.1))
           (choose_done _ _ _ _ p.1)) (choose_done _ _ _ _ p.1)) (choose_done _ _ _ _ p.1)) (choose_done _ _ _ _ d.1)) (choose_done _ _ _ _ p.1)) (choose_done _ _ _ _ a.1)
 
       module _ (taking : (x : Step) (l : Label) (m : Moved) (r : Route) → x.kind ≡ 8 → x.words ≡ [] → x.side ≡ vw.c.side → route_to (wrapper_of b).routes vw.c.side x.j ≡ done r →
@@ -227,8 +227,8 @@ module _ (b : Composition) (s : State) (e : ready b s ≡ true) where
         local_done x l m sd r lim sy =
             ⊎_elim (λ p. let a = need_done _ _ _ _ p.1 in
             let entered = ap (λ (z : Setting). enter z.wrapper.copies (known s) vw.core x.words) (sym vw.c_is) ∙ a.1 in
-            enter_done x l m (eqb_true x.kind 1 p.0) sd (eqb_true x.i 0 (fst _ _ a.0)) (eqb_true x.j 0 (snd _ _ a.0)) entered sy)
+            enter_done x l m (eqb-true x.kind 1 p.0) sd (eqb-true x.i 0 (fst _ _ a.0)) (eqb-true x.j 0 (snd _ _ a.0)) entered sy)
             (λ p. ⊎_elim (λ q. let a = need_done _ _ _ _ q.1 in let g = bind_done _ _ _ a.1 in
-            taking x l m g.0 (eqb_true x.kind 8 q.0) (empty_words x.words a.0) sd (ap (λ (z : Setting). route_to z.wrapper.routes vw.c.side x.j) (sym vw.c_is) ∙ g.1)
+            taking x l m g.0 (eqb-true x.kind 8 q.0) (empty_words x.words a.0) sd (ap (λ (z : Setting). route_to z.wrapper.routes vw.c.side x.j) (sym vw.c_is) ∙ g.1)
             g.2 sy) (λ q. inner_done x l m sd q.1 lim sy) (choose_done _ _ _ _ p.1))
             (choose_done _ _ _ _ r)

@@ -6,7 +6,7 @@ use mathlib.Core.Logic.{⊎_elim}
 use mathlib.Core.Option.{some}
 use Prim.Native.Nat.{ℕ, zero, suc, ◌+◌, ◌<◌, ◌≤◌}
 use native.Mathlib.Omega.{arith}
-use borrow.Author.Tests.{eqb_true, eq-eqb}
+use borrow.Author.Tests.{eqb-true, eq-eqb}
 use lib.Dec.{eqb}
 use lib.ListN.{length, get_or, set, get_elem?}
 use Rattle.calculus.specs.Syntax.{received_child}
@@ -119,12 +119,12 @@ has_here n ns = ap (λ (t : Bool). t || has n ns) (eq-eqb n n refl)
 pub split : (ns : List ℕ) (n : ℕ) → Distinct ns → has n ns ≡ true → Split ns n
 split [] n d h = absurd (false≢true h)
 split (k ∷ ns) n d h = ⊎_elim
-    (λ q. let z : k ≡ n = sym (eqb_true n k q) in record { X = []; Y = ns; is = ap (λ (m : ℕ). m ∷ ns) z; off_X = λ m w. absurd (false≢true w); off_Y = λ m w y. d.0 (subst (λ (i : ℕ). has i ns ≡ true) (y ∙ sym z) w) })
+    (λ q. let z : k ≡ n = sym (eqb-true n k q) in record { X = []; Y = ns; is = ap (λ (m : ℕ). m ∷ ns) z; off_X = λ m w. absurd (false≢true w); off_Y = λ m w y. d.0 (subst (λ (i : ℕ). has i ns ≡ true) (y ∙ sym z) w) })
     (λ q. let r = split ns n d.1 q in record {
       X = k ∷ r.X;
       Y = r.Y;
       is = ap (λ (l : List ℕ). k ∷ l) r.is;
-      off_X = λ m w y. ⊎_elim (λ p. d.0 (subst (λ (i : ℕ). has i ns ≡ true) (sym y ∙ eqb_true m k p) q)) (λ p. r.off_X m p y) (or_cases (eqb m k) (has m r.X) w);
+      off_X = λ m w y. ⊎_elim (λ p. d.0 (subst (λ (i : ℕ). has i ns ≡ true) (sym y ∙ eqb-true m k p) q)) (λ p. r.off_X m p y) (or_cases (eqb m k) (has m r.X) w);
       off_Y = r.off_Y;
     })
     (or_cases (eqb n k) (has n ns) h)
@@ -153,7 +153,7 @@ has_all s (n ∷ ns) acc h = has_all s ns (places_of ids n 0 (side s n).core.con
 pub has_box : (s : State) (ns : List ℕ) (acc : List (Place Mark)) (n : ℕ) → has n ns ≡ true → (j : ℕ) (x : Box) → get_elem? (side s n).core.contents.boxes j ≡ some x → Has (place_of ids n j x) (all_places ids s ns acc)
 has_box s [] acc n h j x g = absurd (false≢true h)
 has_box s (k ∷ ns) acc n h j x g = ⊎_elim
-    (λ q. let z : n ≡ k = eqb_true n k q in has_all s ns (places_of ids k 0 (side s k).core.contents.boxes acc) (subst (λ (i : ℕ). Has (place_of ids n j x) (places_of ids i 0 (side s i).core.contents.boxes acc)) z
+    (λ q. let z : n ≡ k = eqb-true n k q in has_all s ns (places_of ids k 0 (side s k).core.contents.boxes acc) (subst (λ (i : ℕ). Has (place_of ids n j x) (places_of ids i 0 (side s i).core.contents.boxes acc)) z
     (subst (λ (i : ℕ). Has (place_of ids n i x) (places_of ids n 0 (side s n).core.contents.boxes acc)) (omega arith) (has_place ids n 0 (side s n).core.contents.boxes acc j x g))))
     (λ q. has_box s ns (places_of ids k 0 (side s k).core.contents.boxes acc) n q j x g)
     (or_cases (eqb n k) (has n ns) h)
@@ -220,7 +220,7 @@ module _ (b : Composition) (s : State) (e : ready b s ≡ true) (n : ℕ) (h : h
     where
       go : (t : Bool) → eqb m n ≡ t → P (side (with_side_lem k l) m) (side s m)
       go true q =
-          let z : n ≡ m = sym (eqb_true m n q) in
+          let z : n ≡ m = sym (eqb-true m n q) in
           subst (λ (i : ℕ). P (side (with_side_lem k l) i) (side s i)) z (subst (λ (o : Side). P o (side s n)) (sym (at_n k l)) p)
       go false q = subst (λ (o : Side). P o (side s m)) (sym (off_n k l m (λ z. false≢true (sym q ∙ eq-eqb m n z)))) (r (side s m))
 

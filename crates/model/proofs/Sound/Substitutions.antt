@@ -5,7 +5,7 @@ use mathlib.Core.List.{List, [], ◌∷◌, ◌++◌}
 use mathlib.Core.Option.{none, some}
 use Prim.Native.Nat.{ℕ, zero, suc, ◌+◌, ◌<◌}
 use native.Mathlib.Omega.{arith}
-use borrow.Author.Tests.{leb-true, ltb-false, eqb_true, le-leb, lt-ltb}
+use borrow.Author.Tests.{leb-true, ltb-false, eqb-true, le-leb, lt-ltb}
 use lib.Dec.{leb, ltb, eqb}
 use lib.ListN.{length}
 use Rattle.calculus.specs.Syntax.{Val, Vals, nm, tup, vnil, vcons, vsub, vsubs, the_name, iren, plain}
@@ -118,7 +118,7 @@ env_new ρ x w l p s = fun_ext (λ n. go n (ltb n 64) refl (eqb x n) refl)
     go n true q false r = ap val_of (look_append ρ.names ρ.vals (x ∷ []) ((w ∷ []) ∷ []) n (n ∷ []) l ∙ ap (λ (t : Bool). cond t (w ∷ []) (value ρ n)) r)
     go n false q true r =
         let a = leb-true x 63 p in
-        let b = eqb_true x n r in
+        let b = eqb-true x n r in
         let c = ltb-false n 64 q in
         absurd (omega arith)
     go n false q false r = refl

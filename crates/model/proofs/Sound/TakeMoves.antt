@@ -6,10 +6,10 @@ use mathlib.Core.Logic.{⊎_elim}
 use mathlib.Core.Option.{some}
 use Prim.Native.Nat.{ℕ, zero, suc, ◌+◌, ◌<◌, ◌≤◌}
 use native.Mathlib.Omega.{arith}
-use borrow.Author.Tests.{eqb_true}
+use borrow.Author.Tests.{eqb-true}
 use lib.Dec.{eqb}
 use lib.ListN.{length, set, get_elem?}
-use lib.Seq.{get_or-set_same, get_or_set_other}
+use lib.Seq.{get_or-set_same, get_or-set_other}
 use Rattle.calculus.specs.Syntax.{plain}
 use Rattle.calculus.specs.Syntax.{out as pout, child as ichild}
 use Rattle.calculus.specs.Transitions.{tau, joint}
@@ -44,7 +44,7 @@ route_get [] n j r e = absurd (clash e)
 route_get (q ∷ rs) n j r e = ⊎_elim (λ p. this p.0 (done_inj p.1)) (λ p. let t = route_get rs n j r p.1 in (suc t.0, t.1, t.2)) (choose_done _ _ _ _ e)
   where
     this : eqb q.receiver n & eqb q.j j ≡ true → q ≡ r → (k : ℕ) × (get_elem? (q ∷ rs) k ≡ some r) × (r.receiver ≡ n)
-    this t same = (0, ap some same, ap (λ (x : Route). x.receiver) (sym same) ∙ eqb_true q.receiver n (fst _ _ t))
+    this t same = (0, ap some same, ap (λ (x : Route). x.receiver) (sym same) ∙ eqb-true q.receiver n (fst _ _ t))
 
 pub record MapAt (rs : List Route) (r : Route) : Type 0 where
   pub A : List (Item Mark)
@@ -65,7 +65,7 @@ pub sole : (w n k : ℕ) → takes_any (described w) n ≡ true → takes_any (d
 sole w n k = described_by (λ d. takes_any d n ≡ true → takes_any d k ≡ true → n ≡ k) (λ p q. absurd (false≢true p)) two (λ p q. absurd (false≢true p)) (λ p q. absurd (false≢true p)) w
   where
     is-2 : (n : ℕ) → eqb 2 n || false ≡ true → 2 ≡ n
-    is-2 n p = ⊎_elim (λ a. eqb_true 2 n a) (λ a. absurd (false≢true a)) (or_cases (eqb 2 n) false p)
+    is-2 n p = ⊎_elim (λ a. eqb-true 2 n a) (λ a. absurd (false≢true a)) (or_cases (eqb 2 n) false p)
 
     two : eqb 2 n || false ≡ true → eqb 2 k || false ≡ true → n ≡ k
     two p q = sym (is-2 n p) ∙ is-2 k q
@@ -155,7 +155,7 @@ module _ (b : Composition) (s : State) (e : ready b s ≡ true) (n : ℕ) (h : h
 
   gone_else : (i : ℕ) (v : List ℕ) (q x : ℕ) → i < 32 → x < 32 → 1 ≤ q → ((q ≡ m) × (x ≡ i) → ⊥) → is_gone (took_state i v) q x ≡ is_gone s q x
   gone_else i v q x l u p ne = put_one (λ o. has_taken o.core q x) s n (record { core = took i v; left = (side s n).left })
-      (get_or_set_other (side s n).core.taken (taken_at m i) (taken_at q x) true false (λ z. ne (omega (arith, z, l, u, p, pm.0), omega (arith, z, l, u, p, pm.0))))
+      (get_or-set_other (side s n).core.taken (taken_at m i) (taken_at q x) true false (λ z. ne (omega (arith, z, l, u, p, pm.0), omega (arith, z, l, u, p, pm.0))))
 
   abbrev pub Mm : Split (wrapper_of b).sides m
   Mm = split (wrapper_of b).sides m (sides_distinct b.wrapper) hm

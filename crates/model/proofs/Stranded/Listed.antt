@@ -6,7 +6,7 @@ use mathlib.Core.Logic.{◌⊎◌, inl, inr, ⊎_elim}
 use mathlib.Core.Option.{some}
 use Prim.Native.Nat.{ℕ, zero, suc, ◌+◌, ◌<◌, ◌≤◌}
 use native.Mathlib.Omega.{arith}
-use borrow.Author.Tests.{ltb-true, lt-ltb, eqb_true, eqb-false, eq-eqb, ne_eqb, not-true}
+use borrow.Author.Tests.{ltb-true, lt-ltb, eqb-true, eqb-false, eq-eqb, ne_eqb, not-true}
 use lib.Dec.{eqb, ltb}
 use lib.ListN.{get_elem?}
 use Rattle.model.specs.Basics.{◌&◌, every, has}
@@ -34,7 +34,7 @@ is_stranded_lem m a c = both _ _ (ap is_arrived a) (ap not (ne_eqb m.chan 1 c))
 -- one number before some others, where a test passes
 first_or_later : (t : Bool) (j i : ℕ) (ps : List ℕ) → has i (cond t (j ∷ ps) ps) ≡ true → ((t ≡ true) × (i ≡ j)) ⊎ (has i ps ≡ true)
 first_or_later false j i ps h = inr h
-first_or_later true j i ps h = ⊎_elim (λ z. inl (refl, eqb_true i j z)) inr (or_cases (eqb i j) (has i ps) h)
+first_or_later true j i ps h = ⊎_elim (λ z. inl (refl, eqb-true i j z)) inr (or_cases (eqb i j) (has i ps) h)
 
 later_has : (t : Bool) (j i : ℕ) (ps : List ℕ) → has i ps ≡ true → has i (cond t (j ∷ ps) ps) ≡ true
 later_has false j i ps h = h
@@ -92,13 +92,13 @@ here_has p ps = or_first (eqb p p) (has p ps) (eq-eqb p p refl)
 -- the head is the smallest
 head_least : (p i : ℕ) (ps : List ℕ) → ascends (p ∷ ps) ≡ true → has i (p ∷ ps) ≡ true → p ≤ i
 head_least p i ps a h =
-    ⊎_elim (λ z. omega (arith, eqb_true i p z)) (λ z. let lt = ltb-true p i (has_every (ltb p) ps i (fst _ _ a) z) in omega (arith, lt)) (or_cases (eqb i p) (has i ps) h)
+    ⊎_elim (λ z. omega (arith, eqb-true i p z)) (λ z. let lt = ltb-true p i (has_every (ltb p) ps i (fst _ _ a) z) in omega (arith, lt)) (or_cases (eqb i p) (has i ps) h)
 
 -- the numbers behind equal heads
 behind : (p q : ℕ) (ps qs : List ℕ) → p ≡ q → ascends (p ∷ ps) ≡ true → Within (p ∷ ps) (q ∷ qs) → Within ps qs
 behind p q ps qs e a w i h =
     let above = ltb-true p i (has_every (ltb p) ps i (fst _ _ a) h) in
-    ⊎_elim (λ z. absurd (omega (arith, eqb_true i q z, above, e))) (λ z. z) (or_cases (eqb i q) (has i qs) (w i (or_right (eqb i p) (has i ps) h)))
+    ⊎_elim (λ z. absurd (omega (arith, eqb-true i q z, above, e))) (λ z. z) (or_cases (eqb i q) (has i qs) (w i (or_right (eqb i p) (has i ps) h)))
 
 same_numbers : (ps qs : List ℕ) → ascends ps ≡ true → ascends qs ≡ true → Within ps qs → Within qs ps → ps ≡ qs
 same_numbers [] [] a c v w = refl

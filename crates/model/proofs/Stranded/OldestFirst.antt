@@ -1,12 +1,12 @@
 -- Stranded messages stay, in the order in which they arrived.
 use mathlib.Core.Path.{◌≡◌, refl, sym, ap, ap₂, subst, ◌∙◌}
 use mathlib.Core.Bool.{Bool, true, false, not, cond, false≢true}
-use mathlib.Core.List.{List, [], ◌∷◌, ◌++◌, map, append_assoc, append_nil}
+use mathlib.Core.List.{List, [], ◌∷◌, ◌++◌, map, append_assoc, append-nil}
 use mathlib.Core.Logic.{⊎_elim}
 use mathlib.Core.Option.{Option, some}
 use Prim.Native.Nat.{ℕ, zero, suc, ◌≤◌}
 use native.Mathlib.Omega.{arith}
-use borrow.Author.Tests.{eqb_true, eqb-false}
+use borrow.Author.Tests.{eqb-true, eqb-false}
 use lib.Dec.{eqb}
 use lib.ListN.{length, get_elem?, set, length-append}
 use Rattle.model.specs.Basics.{◌&◌, Res, refuse, done, remove}
@@ -100,7 +100,7 @@ pub record Grown (l l' : List Message) : Type 0 where
   pub is : stranded_in l' ≡ stranded_in l ++ more
 
 same : (l l' : List Message) → stranded_in l' ≡ stranded_in l → Grown l l'
-same l l' e = record { more = []; few = omega arith; is = e ∙ sym (append_nil (stranded_in l)) }
+same l l' e = record { more = []; few = omega arith; is = e ∙ sym (append-nil (stranded_in l)) }
 
 -- none of those added is stranded
 added : (l r : List Message) → stranded_in r ≡ [] → Grown l (l ++ r)
@@ -181,7 +181,7 @@ module _ (c : Setting) (s : Core) (m : Moved) where
       let put : List Message = set s.lobby i gone in
       let kept : stranded_in put ≡ stranded_in s.lobby = in_set s.lobby i x gone there (passing_not x a.0) refl in
       grown_as a.1
-      (same s.lobby (put ++ copied cs x.val) (in_append put (copied cs x.val) ∙ ap₂ (λ (y z : List Message). y ++ z) kept (in_copied cs x.val) ∙ append_nil (stranded_in s.lobby)))
+      (same s.lobby (put ++ copied cs x.val) (in_append put (copied cs x.val) ∙ ap₂ (λ (y z : List Message). y ++ z) kept (in_copied cs x.val) ∙ append-nil (stranded_in s.lobby)))
 
   leave_grows : (i : ℕ) → leave s i ≡ done m → Grows
   unfolding leave
@@ -253,7 +253,7 @@ module _ (b : Composition) (s : State) (x : Step) where
               let many = size b s ready-so in
               let put : side (put_side s x.side own) x.side ≡ own = put_same s x.side own number.0 (omega (arith, number.1, many)) in
               let grown = subst (λ (o : Side). Grown (side s x.side).core.lobby o.core.lobby) (sym put) (own_grows ready-so has_so (moved b s x) refl) in
-              subst (λ (k : ℕ). Grown (side s k).core.lobby (side (put_side s x.side own) k).core.lobby) (sym (eqb_true n x.side q)) grown
+              subst (λ (k : ℕ). Grown (side s k).core.lobby (side (put_side s x.side own) k).core.lobby) (sym (eqb-true n x.side q)) grown
 
 -- THE POSITIONS name the stranded in their order
 one_named : (t : Bool) (f : ℕ → Option Message) (j : ℕ) (ps : List ℕ) (m : Message) (ms : List Message) → f j ≡ some m → map f ps ≡ map some ms →

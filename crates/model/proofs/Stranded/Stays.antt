@@ -6,7 +6,7 @@ use mathlib.Core.Logic.{◌⊎◌, inl, inr, ⊎_elim}
 use mathlib.Core.Option.{some}
 use Prim.Native.Nat.{ℕ, zero, suc, ◌<◌, ◌≤◌}
 use native.Mathlib.Omega.{arith}
-use borrow.Author.Tests.{eqb_true}
+use borrow.Author.Tests.{eqb-true}
 use lib.Dec.{eqb}
 use lib.ListN.{length, get_elem?}
 use Rattle.model.specs.Basics.{has}
@@ -30,11 +30,11 @@ lobby_kinds = 2 ∷ 6 ∷ 7 ∷ []
 
 of_lobby : (k : ℕ) → has k lobby_kinds ≡ true → (k ≡ 2) ⊎ ((k ≡ 6) ⊎ (k ≡ 7))
 of_lobby k h =
-    ⊎_elim (λ z. inl (eqb_true k 2 z)) (λ z. inr (⊎_elim (λ y. inl (eqb_true k 6 y)) (λ y. inr (by_7 (or_cases (eqb k 7) false y))) (or_cases (eqb k 6) (eqb k 7 || false) z)))
+    ⊎_elim (λ z. inl (eqb-true k 2 z)) (λ z. inr (⊎_elim (λ y. inl (eqb-true k 6 y)) (λ y. inr (by_7 (or_cases (eqb k 7) false y))) (or_cases (eqb k 6) (eqb k 7 || false) z)))
     (or_cases (eqb k 2) (eqb k 6 || (eqb k 7 || false)) h)
   where
     by_7 : (eqb k 7 ≡ true) ⊎ (false ≡ true) → k ≡ 7
-    by_7 (inl z) = eqb_true k 7 z
+    by_7 (inl z) = eqb-true k 7 z
     by_7 (inr z) = absurd (false≢true z)
 
 -- no other kind does
