@@ -451,7 +451,7 @@ half P x = ren {r = var ∷ []} P (under (name_or x))
 
 half_half : {M : Type 0} (P : Proc M (var ∷ var ∷ [])) (x z : ℕ) → opened (half P x) z ≡ opened (half (ren {r = var ∷ var ∷ []} P swapped) z) x
 half_half P x z = ren_ren {q = []} (var ∷ []) P (under (name_or x)) (name_or z)
-    ∙ ap (λ h. ren {r = []} P h) (fun_ext (elim [ inl b ↦ refl | inr y ↦ (elim y [ inl c ↦ refl | inr n ↦ refl ]) ]))
+    ∙ ap (λ h. ren {r = []} P h) (fun_ext (elim [ inl b ↦ refl | inr (inl c) ↦ refl | inr (inr n) ↦ refl ]))
     ∙ sym (ap (λ X. ren {r = []} X (name_or x)) (ren_ren {q = var ∷ []} (var ∷ var ∷ []) P swapped (under (name_or z))) ∙ ren_ren {q = []} (var ∷ []) P (λ a. under (name_or z) (swapped a)) (name_or x))
 
 turned : {M : Type 0} {A : List ℕ} {S : Proc M []} {l : Label} {w : Participants M} (P : Proc M (var ∷ var ∷ [])) (x z : ℕ) → Step (z ∷ x ∷ A) (opened (half P x) z) l w S →
@@ -488,7 +488,7 @@ does_new_new P A l w R d = turn P ((cong_fn (new_new {P = P}) (In A)).0 (step_so
 
 swapped_twice : {M : Type 0} (P : Proc M (var ∷ var ∷ [])) → ren {r = var ∷ var ∷ []} (ren {r = var ∷ var ∷ []} P swapped) swapped ≡ P
 swapped_twice P = ren_ren {q = var ∷ var ∷ []} (var ∷ var ∷ []) P swapped swapped
-    ∙ ap (λ h. ren {r = var ∷ var ∷ []} P h) (fun_ext (elim [ inl b ↦ refl | inr y ↦ (elim y [ inl c ↦ refl | inr n ↦ refl ]) ])) ∙ ren_id P
+    ∙ ap (λ h. ren {r = var ∷ var ∷ []} P h) (fun_ext (elim [ inl b ↦ refl | inr (inl c) ↦ refl | inr (inr n) ↦ refl ])) ∙ ren_id P
 
 pub does_new_new_back : {M : Type 0} (P : Proc M (var ∷ var ∷ [])) → Does (new (new (ren {r = var ∷ var ∷ []} P swapped))) (new (new P))
 does_new_new_back P = subst (λ X. Does (new (new (ren {r = var ∷ var ∷ []} P swapped))) (new (new X))) (swapped_twice P) (does_new_new (ren {r = var ∷ var ∷ []} P swapped))

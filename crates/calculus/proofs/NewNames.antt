@@ -33,9 +33,9 @@ seq_inv (first {Q = R} p q) = (R, p, q)
 -- and at any
 split : {A : List ℕ} {P Q : Proc (Unit {0}) []} (ls ks : List Label) → Seq A P (ls ++ ks) Q → (R : Proc (Unit {0}) []) × Seq A P ls R × Seq (grown_by ls A) R ks Q
 split {P = P} [] ks q = (P, ended, q)
-split (l ∷ ls) ks q =
+split {A = A} {P = P} {Q = Q} (l ∷ ls) ks q =
     let i = seq_inv q in
-    let s = split ls ks i.2 in
+    let s = split {A = lnames l ++ A} {P = i.0} {Q = Q} ls ks i.2 in
     (s.0, first i.1 s.1, s.2)
 
 source : {A : List ℕ} {P Q : Proc (Unit {0}) []} (ls ks : List Label) (l : Label) → Seq A P (ls ++ l ∷ ks) Q → Fn⊆ P A

@@ -120,7 +120,7 @@ walled_ren q (inp m t x i p P) f r = λ k. (c : Level) × in_ren c x i f r k × 
 
 -- CONGRUENCE
 ext_swapped : {B C N : Type 0} (a c : Role) (r : N → Role) → ◌≡◌ {A = B ⊎ (C ⊎ N) → Role} (ext a (ext c r)) (λ x. ext c (ext a r) (swapped x))
-ext_swapped a c r = fun_ext (elim [ inl b ↦ refl | inr x ↦ (elim x [ inl d ↦ refl | inr n ↦ refl ]) ])
+ext_swapped a c r = fun_ext (elim [ inl b ↦ refl | inr (inl d) ↦ refl | inr (inr n) ↦ refl ])
 
 guest_outer : {B N : Type 0} (c : Level) (a : Role) (r : N → Role) (x : B ⊎ N) → Guest c (ext a r x) → outer (λ y. Guest c (r y)) x
 guest_outer c a r (inl b) h = tt

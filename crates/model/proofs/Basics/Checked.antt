@@ -9,7 +9,7 @@ use native.Mathlib.Omega.{arith}
 use borrow.Author.Tests.{leb-true, ltb-true, eqb-true, eq-eqb, ne_eqb, le-leb}
 use lib.Dec.{leb, ltb, eqb}
 use lib.ListN.{length}
-use Rattle.model.specs.Basics.{◌&◌, Res, refuse, done, or_else, is_done}
+use Rattle.model.specs.Basics.{◌&◌, implies, Res, refuse, done, or_else, is_done}
 use Rattle.model.specs.Values.{items, is_public, is_pattern_leaf, binders, distinct, at}
 use Rattle.model.specs.Table.{Table, count, kind, field, Term, nil, par, box, new, out, inp, build, term, child_times, bound, scope_up, scope}
 use Rattle.model.specs.Checks.{found, check1, fields_ok, first_bad, fault, Fault, check2, check3, check4, check5, pattern_ok, times_child}
@@ -70,7 +70,7 @@ child_above t c n l κ m e left = let f = rw e at (fst _ _ (c.c3 n l)) in lt_bot
 child_above t c n l κ m e right = let f = rw e at (fst _ _ (c.c3 n l)) in lt_both _ _ _ (fst _ _ (snd _ _ f))
 child_above t c n l κ m e in_box = let f = rw e at (fst _ _ (c.c3 n l)) in lt_both _ _ _ (fst _ _ (snd _ _ f))
 child_above t c n l κ m e in_new = let f = rw e at (fst _ _ (c.c3 n l)) in lt_both _ _ _ (fst _ _ (snd _ _ f))
-child_above t c n l κ m e (in_body {e = k}) = let f = body_fields t c _ n k l e (fst _ _ (c.c3 n l)) in lt_both _ _ _ (fst _ _ (snd _ _ (snd _ _ (snd _ _ f))))
+child_above t c n l κ m e (in_body {e = k}) = let f = body_fields t c (λ u w. implies (eqb u 1) (ltb n w & ltb w (count t))) n k l e (fst _ _ (c.c3 n l)) in lt_both _ _ _ (fst _ _ (snd _ _ (snd _ _ (snd _ _ f))))
 
 pub is_tree : (t : Table) → Checked t → Tree t
 is_tree t c n m l ch = child_above t c n l (kind t n) m refl ch
@@ -194,8 +194,8 @@ module _ (t : Table) (c : Checked t) where
       let ok = fst _ _ (fst _ _ (snd _ _ (snd _ _ f5))) in
       s_out (fst _ _ (fst _ _ f4)) (snd _ _ (fst _ _ (snd _ _ f4))) (at_whole is_public t.pool (field t n 3) _ (done_or _ ok)) (at_short is_public t.pool (field t n 3) _ (done_or _ ok))
   sits_build n l (suc (suc (suc (suc (suc k))))) e q h =
-      let f4 = body_fields t c _ n k l e (c.c4 n l) in
-      let f5 = body_fields t c _ n k l e (c.c5 n l) in
+      let f4 = body_fields t c (λ u w. implies (eqb u 2) (leb w 63) & implies (eqb u 3) (leb w 65)) n k l e (c.c4 n l) in
+      let f5 = body_fields t c (λ u w. implies (eqb u 4) (is_done (at is_public t.pool w)) & implies (eqb u 5) (pattern_ok t.pool w)) n k l e (c.c5 n l) in
       let five : 5 ≤ kind t n = omega (arith, e) in
       s_inp (fst _ _ (fst _ _ f4)) (snd _ _ (fst _ _ (snd _ _ f4))) (pat_whole t.pool (field t n 3) (snd _ _ (fst _ _ (snd _ _ (snd _ _ f5))))) (pat_distinct t.pool (field t n 3) (snd _ _ (fst _ _ (snd _ _ (snd _ _ f5)))))
       l (le-leb 5 (kind t n) five) q refl (subst (λ (x : List ℕ). Sits t (scope t n ++ x) (term t (field t n 4))) (bound_body n five) (h _ in_body))

@@ -137,20 +137,20 @@ row_1 t q = ⊎_elim (λ z. words (eqb-false (length t.nodes % 5) 0 z))
 row_2 : (t : Table) (p : ℕ) → p < count t → check2 t p ≡ false → TableCause t 2 p
 unfolding check2
 row_2 t p l q = ⊎_elim (λ z. unknown_kind l (leb-false (kind t p) 6 z))
-    (λ z. let (k, u, g, y) = fields_fail _ t p 1 (uses (kind t p)) z in let w = implies_fail (eqb u 0) _ y in unused_field k (used_as t p k u 0 l g w.0) (eqb-false (field t p (1 + k)) 0 w.1))
+    (λ z. let (k, u, g, y) = fields_fail (λ u w. implies (eqb u 0) (eqb w 0)) t p 1 (uses (kind t p)) z in let w = implies_fail (eqb u 0) _ y in unused_field k (used_as t p k u 0 l g w.0) (eqb-false (field t p (1 + k)) 0 w.1))
     (one_fails _ _ q)
 
 row_3 : (t : Table) (p : ℕ) → p < count t → check3 t p ≡ false → TableCause t 3 p
 unfolding check3
 row_3 t p l q = ⊎_elim
-    (λ z. let (k, u, g, y) = fields_fail _ t p 1 (uses (kind t p)) z in let w = implies_fail (eqb u 1) _ y in
+    (λ z. let (k, u, g, y) = fields_fail (λ u w. implies (eqb u 1) (ltb p w & ltb w (count t))) t p 1 (uses (kind t p)) z in let w = implies_fail (eqb u 1) _ y in
     ⊎_elim (λ r. child_low k (used_as t p k u 1 l g w.0) (ltb-false p (field t p (1 + k)) r)) (λ r. child_out k (used_as t p k u 1 l g w.0) (ltb-false (field t p (1 + k)) (count t) r)) (one_fails _ _ w.1))
     (λ z. let w = neither _ _ z in not_once l (eqb-false p 0 w.0) (eqb-false (times_child t p (count t)) 1 w.1))
     (one_fails _ _ q)
 
 row_4 : (t : Table) (p : ℕ) → p < count t → check4 t p ≡ false → TableCause t 4 p
 unfolding check4
-row_4 t p l q = let (k, u, g, y) = fields_fail _ t p 1 (uses (kind t p)) q in
+row_4 t p l q = let (k, u, g, y) = fields_fail (λ u w. implies (eqb u 2) (leb w 63) & implies (eqb u 3) (leb w 65)) t p 1 (uses (kind t p)) q in
     ⊎_elim (λ z. let w = implies_fail (eqb u 2) _ z in name_high k (used_as t p k u 2 l g w.0) (leb-false (field t p (1 + k)) 63 w.1))
     (λ z. let w = implies_fail (eqb u 3) _ z in tag_high k (used_as t p k u 3 l g w.0) (leb-false (field t p (1 + k)) 65 w.1)) (one_fails _ _ y)
 
@@ -174,7 +174,7 @@ broken_at leaf pool p h = rw (broken_refused leaf (drop p pool) h, at)
 
 row_5 : (t : Table) (p : ℕ) → p < count t → check5 t p ≡ false → TableCause t 5 p
 unfolding check5 pattern_ok
-row_5 t p l q = let (k, u, g, y) = fields_fail _ t p 1 (uses (kind t p)) q in
+row_5 t p l q = let (k, u, g, y) = fields_fail (λ u w. implies (eqb u 4) (is_done (at is_public t.pool w)) & implies (eqb u 5) (pattern_ok t.pool w)) t p 1 (uses (kind t p)) q in
     ⊎_elim (λ z. let w = implies_fail (eqb u 4) _ z in let d = not_done (at is_public t.pool (field t p (1 + k))) w.1 in
     bad_item k 4 (used_as t p k u 4 l g w.0, inl refl) (at_broken is_public t.pool (field t p (1 + k)) d.0 d.1))
     (λ z. let w = implies_fail (eqb u 5) _ z in pattern (at is_pattern_leaf t.pool (field t p (1 + k))) k (used_as t p k u 5 l g w.0) refl w.1) (one_fails _ _ y)
