@@ -1,4 +1,6 @@
 // An answer to a step as it is given: its label or number, its side, and its value's words with zeros past them.
+#![tactic(auto)]
+
 ghost use Rattle.values.specs.Env.{view_value};
 ghost use Rattle.answers.specs.Answers.{Padded};
 

@@ -1,9 +1,11 @@
 // The bench program: an input read from standard input, and its output written.
+#![tactic(auto)]
+
 use text::output_on;
 use writing::Page;
 
 // What is read of an input: one byte more than it may have, so that more is seen.
-#[derive(Drop)]
+#[derive(Clone, Copy)]
 struct Input;
 
 impl Input {

@@ -11,7 +11,7 @@ use steps::Said;
 use values::Value;
 
 // How far the claimed labels agree: so many do, the next record stands at `at`, and whether they part there.
-#[derive(Drop)]
+#[derive(Clone, Copy)]
 pub(crate) struct Agreed {
     pub(crate) at: usize,
     pub(crate) count: usize,

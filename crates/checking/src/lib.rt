@@ -1,5 +1,7 @@
 // A maker's own trace checked: the tables loaded, his steps made one after another from there, and each visible label held
 // against the next that he claims. Nothing lent is written, and no trace is kept.
+#![tactic(auto)]
+
 ghost use Rattle.std.specs.Prelude.{◌≡◌, map};
 ghost use Rattle.claims.specs.Claims.{check_trace};
 ghost use Rattle.wrappers.specs.Compositions.{composition};
@@ -14,7 +16,7 @@ mod claimed_labels; // the claimed labels beside those that come out
 
 // What the checker says: accepted; number, side and node of load's refusal; the first step at fault, which is refusal 20; or the
 // first label at fault, which is 21.
-#[derive(Drop)]
+#[derive(Clone, Copy)]
 pub enum Checked {
     Accepted,
     Unloaded(usize, u32, usize),

@@ -1,1 +1,2 @@
 // What a maker claims, by words; definitions only (specs/).
+#![tactic(auto)]

@@ -1,5 +1,7 @@
 // The trials of claims by `check_trace`, in the order of their table: a line for each, with its name and the verdict. Then rows
 // beyond the table: listing A's two lists cut at every place, and wrappers that are none.
+#![tactic(auto)]
+
 mod claim; // a claim and the verdict on it
 mod labels; // labels at fault
 mod more; // beyond the table

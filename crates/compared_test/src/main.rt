@@ -1,5 +1,7 @@
 // That the comparison of two states, by which the programs on broken states say that a state was kept, sees each field: pairs of
 // states that differ in one.
+#![tactic(auto)]
+
 use test_states::compare;
 
 // The fields of a particle.

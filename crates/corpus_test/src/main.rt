@@ -4,6 +4,8 @@
 //
 // Output: `run K differs` for each run whose output is not the recorded one; `malformed at run K` where the file holds no run,
 // breaks off or has a header that cannot be read, and nothing after that place is looked at; at the end `R runs, D differ`.
+#![tactic(auto)]
+
 ghost use Rattle.std.specs.Prelude.{◌≤◌};
 ghost use Rattle.io.specs.Counts.{IsPrefixLen};
 
@@ -16,14 +18,14 @@ const MOST_RUNS: usize = 100000;
 const HEADER_BYTES: usize = 64;
 
 // A byte that was read, or that the file ends.
-#[derive(Drop)]
+#[derive(Clone, Copy)]
 enum Byte {
     Read(u8),
     End,
 }
 
 // A header line that was read: its length without the newline, or that the file ends before it, or that it has no newline.
-#[derive(Drop)]
+#[derive(Clone, Copy)]
 enum Line {
     Length(usize),
     End,
@@ -31,21 +33,21 @@ enum Line {
 }
 
 // A decimal number with the position after its last digit.
-#[derive(Drop)]
+#[derive(Clone, Copy)]
 enum Field {
     Number(usize, usize),
     None,
 }
 
 // The number of bytes of a run's input and of its output.
-#[derive(Drop)]
+#[derive(Clone, Copy)]
 enum Header {
     Sizes(usize, usize),
     Unreadable,
 }
 
 // What came of one place of the file.
-#[derive(Drop)]
+#[derive(Clone, Copy)]
 enum Replayed {
     Same,
     Differs,
@@ -54,7 +56,7 @@ enum Replayed {
 }
 
 // The runs replayed, and how many of them differ.
-#[derive(Drop)]
+#[derive(Clone, Copy)]
 struct Count {
     runs: usize,
     differ: usize,

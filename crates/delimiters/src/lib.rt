@@ -1,4 +1,6 @@
 // The search for the next tab or newline, by which a field or a line ends.
+#![tactic(auto)]
+
 mod words;
 
 ghost use Rattle.std.specs.Prelude.{◌≡◌, ◌-◌};

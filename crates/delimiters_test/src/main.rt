@@ -1,19 +1,21 @@
 // Compares the search for the next tab or newline with a loop over bytes, on every list of a kind: up to 24 bytes, two
 // neighbours of a tab and a newline by turns, with a tab or a newline at one place or at none; from every start up to the end
 // and past it.
+#![tactic(auto)]
+
 ghost use Rattle.std.specs.Prelude.{◌≡◌, ◌≤◌, length};
 
 use delimiters::next_delimiter;
 use libc::STDOUT_FILENO;
 
 // How many searches were compared, and how many of them differ.
-#[derive(Drop)]
+#[derive(Clone, Copy)]
 struct Tally {
     compared: u64,
     differ: u64,
 }
 
-#[derive(Drop)]
+#[derive(Clone, Copy)]
 struct Case;
 
 impl Case {

@@ -1,5 +1,7 @@
 // The boundary for C and Rust: functions on numbers and slices. The tables of all sides are lent as one list of words, `tables`: side 1's
 // nodes, side 1's pool, side 2's nodes, and so on; `lengths` has the length of each of these parts in words.
+#![tactic(auto)]
+
 ghost use Rattle.std.specs.Prelude.{length};
 ghost use Rattle.format.specs.Output.{output};
 ghost use Rattle.format.specs.Words.{run_of};

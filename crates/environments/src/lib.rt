@@ -1,4 +1,6 @@
 // An environment in 144 lent words (crate sides): refusals 15 and 16 of a term in it, that of a waiting input, a match bound in it.
+#![tactic(auto)]
+
 ghost use Rattle.std.specs.Prelude.{◌≡◌};
 
 mod defined;

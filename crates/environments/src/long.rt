@@ -17,7 +17,7 @@ use tables::pool::words_at;
 use values::{Leaf, Value};
 
 // How many words each name of a table, 0 to 63, stands for.
-#[derive(Drop)]
+#[derive(Clone, Copy)]
 pub(crate) struct Sizes {
     of: [u8; NameSet::NAMES],
 }

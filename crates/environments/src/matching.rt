@@ -10,7 +10,7 @@ use tables::pool::words_at;
 use values::{Bound, Leaf, Value, part_words};
 
 // Whether a pattern takes a value, and how many names are in force then.
-#[derive(Drop)]
+#[derive(Clone, Copy)]
 pub struct Binding {
     pub fits: bool,
     pub n: usize,

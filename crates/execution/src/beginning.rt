@@ -12,7 +12,7 @@ use sides::{Rest, Rows, Sides};
 use wrappers::has_side;
 
 // The rests of the sides, and how many values each has on its shelf.
-#[derive(Drop)]
+#[derive(Clone, Copy)]
 pub struct Begun {
     pub rests: [Rest; Sides::COUNT],
     pub shelved: [usize; Sides::COUNT],

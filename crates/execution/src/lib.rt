@@ -1,5 +1,7 @@
 // Steps by words, made one at a time on all sides as they are lent: the sides at their start, and the step whose words stand at a
 // place. Nothing is checked here: load has taken the tables, and each step keeps a state well formed.
+#![tactic(auto)]
+
 mod beginning; // the sides at their start
 mod making; // a step made on all sides
 mod records; // where a record of words ends

@@ -3,7 +3,7 @@ ghost use Rattle.std.specs.Prelude.{◌≡◌};
 ghost use Rattle.execution.specs.Execution.{record_end, end_of};
 
 // The place behind a record, or that it breaks off.
-#[derive(Drop)]
+#[derive(Clone, Copy)]
 pub enum RecordEnd {
     At(usize),
     BreaksOff,

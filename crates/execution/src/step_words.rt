@@ -21,7 +21,7 @@ pub fn side_at(steps: &[u32], p: usize) -> u32
 }
 
 // Kind and places of a step.
-#[derive(Drop)]
+#[derive(Clone, Copy)]
 pub(crate) struct Asked {
     pub(crate) kind: u32,
     pub(crate) i: usize,

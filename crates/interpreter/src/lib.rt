@@ -1,4 +1,6 @@
 // Load, the eight steps and the question `stranded`: the exported functions. Nothing is asked of what they are lent or given.
+#![tactic(auto)]
+
 use loading::Outcome;
 use sides::State;
 use steps::Said;
@@ -12,14 +14,14 @@ pub use load_state::load;
 pub use step_state::step;
 pub use stranded_positions::stranded;
 
-#[derive(Drop)]
+#[derive(Clone, Copy)]
 pub struct LoadAnswer {
     pub outcome: Outcome,
     pub state: State,
 }
 
 // The answer to a step, its value's words zero past the length, and the state after it.
-#[derive(Drop)]
+#[derive(Clone, Copy)]
 pub struct Stepped {
     pub said: Said,
     pub side: u32,

@@ -89,7 +89,7 @@ fn take_out(
 }
 
 // How many values each side has on its shelf.
-#[derive(Drop)]
+#[derive(Clone, Copy)]
 struct Shelved {
     of: [usize; Sides::COUNT],
 }

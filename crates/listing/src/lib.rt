@@ -1,4 +1,6 @@
 // The stranded messages of a lobby, by their positions in a lent list of words.
+#![tactic(auto)]
+
 ghost use Rattle.std.specs.Prelude.{◌≡◌, ◌++◌, ◌≤◌, length, drop};
 ghost use Rattle.model.specs.Stranded.{is_stranded, stranded_from};
 ghost use Rattle.sides.specs.Views.{view_message, view_lobby};
@@ -7,7 +9,7 @@ ghost use Rattle.listing.specs.Listing.{ListedIs};
 use sides::{Lobby, Message, Status};
 
 // How many positions are put into the lent list, or that it is too short for them, which is refusal 22.
-#[derive(Drop)]
+#[derive(Clone, Copy)]
 pub enum Listed {
     Count(usize),
     TooShort,

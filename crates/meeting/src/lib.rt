@@ -1,5 +1,7 @@
 // Meet, over a side's lent words: an output and an input in one box, on one channel, with fitting tags. The input's body unfolds
 // with the bindings. A refusal leaves the very words.
+#![tactic(auto)]
+
 ghost use Rattle.std.specs.Prelude.{◌≡◌, ◌≤◌, length};
 ghost use Rattle.model.specs.Load.{Setting};
 ghost use Rattle.model.specs.Side.{Core};

@@ -13,6 +13,8 @@
 //   wf_value     at those four: length 0; the wildcard; 4000016; 3999999; words left over; parts missing; length 17
 //   wf_tag       to child and from child, as in held
 //   limits      minted 257; the others are those of fits_arrays
+#![tactic(auto)]
+
 mod counts; // each count
 mod names; // names and values
 

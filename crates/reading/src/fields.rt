@@ -8,7 +8,7 @@ ghost use Rattle.reading.specs.Fields.{number_of, view_line, short, line_with, l
 use delimiters::next_delimiter;
 
 // A field as a number.
-#[derive(Drop)]
+#[derive(Clone, Copy)]
 pub(crate) enum Number {
     Word(u32),
     Bad,
@@ -16,7 +16,7 @@ pub(crate) enum Number {
 
 // A line's letter and numbers, and the place of its newline. A length of 22 says that the line is at fault, or has more than 21
 // numbers; its end says nothing then.
-#[derive(Drop)]
+#[derive(Clone, Copy)]
 pub(crate) struct Line {
     pub(crate) letter: u8,
     pub(crate) words: [u32; Line::MOST],

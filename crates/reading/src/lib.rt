@@ -1,4 +1,6 @@
 // Reads what the bench program is given: lines of tab-parted fields, put into lent lists.
+#![tactic(auto)]
+
 mod fields;
 mod lines;
 
@@ -12,7 +14,7 @@ use sides::Sides;
 
 // How far the lent lists are filled: the words of each side's part of them, from side 1 on. `steps` counts steps, `words` the
 // words of the list of steps.
-#[derive(Drop)]
+#[derive(Clone, Copy)]
 pub struct Places {
     pub rank: usize,
     pub wrapper: u32,
@@ -23,14 +25,14 @@ pub struct Places {
 }
 
 // Whether all lines are read, or the number of the first line at fault.
-#[derive(Drop)]
+#[derive(Clone, Copy)]
 pub enum Verdict {
     Fault(usize),
     Whole,
 }
 
 // What is read, and how far the lent lists are filled; where a line is at fault, with the lines before it.
-#[derive(Drop)]
+#[derive(Clone, Copy)]
 pub struct Reading {
     pub verdict: Verdict,
     pub places: Places,

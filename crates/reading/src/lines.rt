@@ -11,14 +11,14 @@ use super::fields::Line;
 use sides::Sides;
 
 // What is read with a line more; where the line is at fault, without it.
-#[derive(Drop)]
+#[derive(Clone, Copy)]
 pub(crate) struct After {
     pub(crate) taken: bool,
     pub(crate) places: Places,
 }
 
 // The place of a side that a line names, from 0 on, or that it names none.
-#[derive(Drop)]
+#[derive(Clone, Copy)]
 enum Named {
     At(usize),
     Nothing,

@@ -3,6 +3,8 @@
 // A line has `broken`, or `allowed` for tables beside broken ones; what the tables are; after the colon the answer to `enter` with
 // the name 20, with the table on side 1, then on side 2, and `kept` where the state that came back is the one that was passed. The
 // lines after them have one answer: wrappers, and a state of the other wrapper or of other tables.
+#![tactic(auto)]
+
 ghost use Rattle.std.specs.Prelude.{◌≤◌};
 
 use interpreter::load;
@@ -112,7 +114,7 @@ fn nodes() {
 }
 
 // The words of at most 18 nodes.
-#[derive(Drop)]
+#[derive(Clone, Copy)]
 struct ChainWords {
     nodes: [u32; 90],
 }

@@ -1,5 +1,7 @@
 // What `run` does with a list of steps that breaks off, with lent words that are too few, with a load that is refused and with no
 // step. The lent words are 7 before. Then runs beside the trials, and last, what trial B strands, by words.
+#![tactic(auto)]
+
 mod more; // lengths, uses of bound names, descending, minted names
 mod stranded; // trial B
 

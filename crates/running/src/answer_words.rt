@@ -11,7 +11,7 @@ use steps::Said;
 use values::Value;
 
 // An answer in words.
-#[derive(Drop)]
+#[derive(Clone, Copy)]
 struct Words {
     of: [u32; Words::COUNT],
 }

@@ -1,5 +1,7 @@
 // A run: the tables loaded, and the steps of a list of words from there. Tables are checked once; each step after that keeps a
 // state well formed.
+#![tactic(auto)]
+
 ghost use Rattle.std.specs.Prelude.{map, length};
 ghost use Rattle.format.specs.Words.{run_of};
 ghost use Rattle.wrappers.specs.Compositions.{composition};
@@ -16,7 +18,7 @@ mod step_words; // words as steps
 
 // What a run comes to: how many answers are written, load's refusal, or that the steps break off, or the lent words are too
 // few.
-#[derive(Drop)]
+#[derive(Clone, Copy)]
 pub enum Ran {
     Done(usize),
     Refused(usize, u32, usize),

@@ -6,7 +6,7 @@ ghost use Rattle.running.specs.Running.{count_of, counted_of};
 use execution::{RecordEnd, record_end};
 
 // How many steps a list of words has, or that it breaks off.
-#[derive(Drop)]
+#[derive(Clone, Copy)]
 pub(crate) enum Counted {
     Steps(usize),
     BrokenOff,

@@ -1,5 +1,7 @@
 // A side's words in lent memory: its particles as rows, its boxes, its shelf; and an environment in the words of one row
 // (specs/Layout.antt). The rest of a side goes by value.
+#![tactic(auto)]
+
 use values::Value;
 
 mod boxes;
@@ -25,25 +27,25 @@ pub use shelf::{put_shelf, shelf_fits, shelf_value};
 pub use tags::{is_to_child, is_to_parent, tags_fit};
 
 // The sizes of the layout: layout.rt.
-#[derive(Drop)]
+#[derive(Clone, Copy)]
 pub struct Rows;
 
 // The places of a row's words: layout.rt.
-#[derive(Drop)]
+#[derive(Clone, Copy)]
 pub struct Row;
 
 // How many sides there are, and what follows from it: layout.rt.
-#[derive(Drop)]
+#[derive(Clone, Copy)]
 pub struct Sides;
 
-#[derive(Drop)]
+#[derive(Clone, Copy)]
 pub enum Status {
     Down,
     Arrived,
     Leaving,
 }
 
-#[derive(Drop)]
+#[derive(Clone, Copy)]
 pub struct Message {
     pub status: Status,
     pub channel: u32,
@@ -51,13 +53,13 @@ pub struct Message {
 }
 
 // At most 16 messages.
-#[derive(Drop)]
+#[derive(Clone, Copy)]
 pub struct Lobby {
     pub msgs: [Message; Side::LOBBY],
     pub len: usize,
 }
 
-#[derive(Drop)]
+#[derive(Clone, Copy)]
 pub enum Tag {
     Within,
     ToParent,
@@ -67,7 +69,7 @@ pub enum Tag {
 }
 
 // An output, out of its row.
-#[derive(Drop)]
+#[derive(Clone, Copy)]
 pub struct Output {
     pub at: usize,
     pub channel: u32,
@@ -77,7 +79,7 @@ pub struct Output {
 
 // A side but for its words: how many particles, boxes and shelf values it has, how many names it has minted, its lobby, and which
 // shelf places it has taken.
-#[derive(Drop)]
+#[derive(Clone, Copy)]
 pub struct Rest {
     pub particles: usize,
     pub boxes: usize,
@@ -88,7 +90,7 @@ pub struct Rest {
 }
 
 // A side by value: its words, the rest, and which minted names have left by its outlet.
-#[derive(Drop)]
+#[derive(Clone, Copy)]
 pub struct Side {
     pub words: [u32; Rows::WORDS],
     pub rest: Rest,
@@ -96,7 +98,7 @@ pub struct Side {
 }
 
 // The sides, from side 1 on.
-#[derive(Drop)]
+#[derive(Clone, Copy)]
 pub struct State {
     pub sides: [Side; Sides::COUNT],
 }

@@ -21,6 +21,8 @@
 //   wf_left      left 1 and 258 (the filter's: 2 and 256)
 //   wf_taken     taken on side 1; on side 2 at a place past the shelf's length, and at 32 and 63, places of side 2's shelf
 //   is_no_side    filter 2 and logging 2: particles, boxes, messages, shelf, minted, left, taken
+#![tactic(auto)]
+
 mod cases; // one thing put anew
 mod inputs; // waiting inputs
 

@@ -1,5 +1,7 @@
 // The steps of a side but meet. A side's words are lent, the rest of it goes by value: a step gives its label, its value and the
 // rest after it, or a refusal beside the old rest, and then the very words stay.
+#![tactic(auto)]
+
 ghost use Rattle.std.specs.Prelude.{◌≡◌};
 ghost use Rattle.steps.specs.Asked.{Says, number_of};
 
@@ -21,7 +23,7 @@ pub use particle_steps::{descend, up};
 pub use take_step::take;
 
 // A step's label, or the number of its refusal.
-#[derive(Drop)]
+#[derive(Clone, Copy)]
 pub enum Said {
     In,
     Out,
@@ -30,7 +32,7 @@ pub enum Said {
     Refused(u32),
 }
 
-#[derive(Drop)]
+#[derive(Clone, Copy)]
 pub struct RestStep {
     pub said: Said,
     pub value: Value,
@@ -38,7 +40,7 @@ pub struct RestStep {
 }
 
 // What a check of a step answers: the position or the value length that the step goes on with, or the number of a refusal.
-#[derive(Drop)]
+#[derive(Clone, Copy)]
 pub enum Offer {
     At(usize),
     Refused(u32),

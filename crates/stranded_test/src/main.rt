@@ -1,5 +1,7 @@
 // What the question `stranded` answers: in lobbies that load and steps give, of a side that is not there, and where tables are refused or the
 // state is not well formed; with lent lists of every length. Then the side in a refusal.
+#![tactic(auto)]
+
 mod calls; // load, a step and the question `stranded`
 mod changes; // states with one thing put anew
 mod lists; // lent lists that are too short, long enough and longer

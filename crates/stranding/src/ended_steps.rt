@@ -17,7 +17,7 @@ use sides::{Lobby, Rest, Rows, Sides};
 use wrappers::has_side;
 
 // Whether no record of a step breaks off, and the lobby of a side behind all steps; an empty one where one does.
-#[derive(Drop)]
+#[derive(Clone, Copy)]
 pub(crate) struct End {
     pub(crate) whole: bool,
     pub(crate) lobby: Lobby,

@@ -1,5 +1,7 @@
 // What is stranded after a load and a list of steps: the tables loaded, the steps made one after another from there, and the stranded
 // positions of a side put into a lent list.
+#![tactic(auto)]
+
 ghost use Rattle.std.specs.Prelude.{map, ◌≤◌};
 ghost use Rattle.wrappers.specs.Compositions.{composition};
 ghost use Rattle.stranding.specs.Stranding.{stranded_after, AfterIs};
@@ -14,7 +16,7 @@ mod ended_steps; // the steps of a list of words, and a side's lobby behind them
 
 // How many positions are put into the lent list; number, side and node of load's refusal; that the steps break off; or that the list is
 // too short, which is refusal 22.
-#[derive(Drop)]
+#[derive(Clone, Copy)]
 pub enum After {
     Count(usize),
     Unloaded(usize, u32, usize),

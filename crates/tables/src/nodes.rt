@@ -4,7 +4,7 @@ ghost use Rattle.model.specs.Table.{field, uses};
 ghost use Rattle.tables.specs.Nodes.{table, NodeIs};
 
 // A node: its kind, and its fields 1 to 4.
-#[derive(Drop)]
+#[derive(Clone, Copy)]
 pub struct Node {
     pub kind: usize,
     pub a: usize,

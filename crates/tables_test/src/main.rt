@@ -6,6 +6,8 @@
 // Output: the name, then `refused`, number and node; or `passed`, how many particles, boxes and new names node 0 unfolds to, how
 // many names are in force at the last node, and `used` where name 20 is free as a channel, tag or box name in the table, `free`
 // where not: what refusal 15 asks where that name is bound to a tuple.
+#![tactic(auto)]
+
 ghost use Rattle.tables.specs.Nodes.{table};
 ghost use Rattle.tables.specs.Checks.{Passes};
 
@@ -24,7 +26,7 @@ const POOL: u8 = 2;
 const NAME: u8 = 3;
 
 // What is being read: where words go, the number so far, and how many words there are of nodes and of the pool.
-#[derive(Drop)]
+#[derive(Clone, Copy)]
 struct Reading {
     mode: u8,
     digits: bool,

@@ -1,4 +1,6 @@
 // States with things put anew on a side, well formed or not: what a step of them answers, and whether two of them are the same.
+#![tactic(auto)]
+
 mod answers; // what a step of a state answers
 mod changes; // what is put anew, by its number
 mod in_rest; // what is put anew in counts, lobby and marks
@@ -12,7 +14,7 @@ use values::Value;
 
 // What is put anew on a side, by its number (changes.rt): how much or which; the box and the node of an input; the value, or else the
 // name that it is.
-#[derive(Drop)]
+#[derive(Clone, Copy)]
 pub struct Change {
     pub side: u32,
     pub what: usize,

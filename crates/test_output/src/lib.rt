@@ -1,4 +1,6 @@
 // Lines of output for test programs, and whether two states are equal.
+#![tactic(auto)]
+
 mod labels; // what a line says is put anew
 mod same; // whether two states are equal
 mod writing; // numbers, texts and values

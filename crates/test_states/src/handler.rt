@@ -7,7 +7,7 @@ use test_changes::{Change, entered_changed};
 use test_output::size;
 
 // The words of the nodes.
-#[derive(Drop)]
+#[derive(Clone, Copy)]
 struct Words {
     nodes: [u32; 225],
 }

@@ -1,4 +1,6 @@
 // The bench as a function of bytes: an input's lines are read, its tables loaded, its steps run, and the answers written.
+#![tactic(auto)]
+
 ghost use Rattle.std.specs.Prelude.{◌≡◌, [], map, ℕ, ◌*◌, ◌<◌, ◌≤◌, length, get_or, take, drop};
 ghost use Rattle.model.specs.Wrapper.{all_sides};
 ghost use Rattle.format.specs.Lines.{Input};
@@ -12,7 +14,7 @@ use sides::Sides;
 use writing::{AnswerWords, Page, answered, fault, refused};
 
 // How many bytes of output are written, or that the lent buffer is too short for them.
-#[derive(Drop)]
+#[derive(Clone, Copy)]
 pub enum Written {
     Bytes(usize),
     TooShort,

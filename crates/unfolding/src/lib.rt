@@ -1,4 +1,6 @@
 // Unfolding the term at a node straight into a side's words, by one recursive walk over the nodes.
+#![tactic(auto)]
+
 ghost use Rattle.std.specs.Prelude.{◌≡◌};
 ghost use Rattle.unfolding.specs.Unfolded.{put_counts};
 
@@ -10,7 +12,7 @@ mod walk; // the walk
 pub use walk::unfold_at;
 
 // How many particles, boxes and minted names a side has.
-#[derive(Drop)]
+#[derive(Clone, Copy)]
 pub struct Counts {
     pub particles: usize,
     pub boxes: usize,

@@ -1,4 +1,6 @@
 // Values and patterns as words: where one ends, and what a pattern takes of a value.
+#![tactic(auto)]
+
 ghost use Rattle.std.specs.Prelude.{◌≡◌, true, false, List, [], ◌∷◌, ◌++◌, ℕ, ◌≤◌, leb, length, take, drop};
 ghost use Rattle.model.specs.Basics.{has};
 ghost use Rattle.model.specs.Values.{is_tuple, is_minted, is_outside, matches, binders, distinct, at, is_value};
@@ -7,7 +9,7 @@ ghost use Rattle.values.specs.Match.{view_bound, part_of, fit_of, stored_after};
 ghost use Rattle.values.specs.Env.{view_value, Stores};
 
 // Which words are items by themselves: in a table's value, in a table's pattern, in a value that a step handles.
-#[derive(Drop)]
+#[derive(Clone, Copy)]
 pub enum Leaf {
     Public,
     Pattern,
@@ -15,14 +17,14 @@ pub enum Leaf {
 }
 
 // Where something ends or how many words it has, or that it is malformed.
-#[derive(Drop)]
+#[derive(Clone, Copy)]
 pub enum Span {
     At(usize),
     Bad,
 }
 
 // How many sides mint names.
-#[derive(Drop)]
+#[derive(Clone, Copy)]
 pub struct Minting;
 
 impl Minting {
@@ -195,21 +197,21 @@ pub fn distinct_in(s: &[u32]) -> bool
 }
 
 // A part of a value that a name is bound to: where it starts, and how many words it has.
-#[derive(Drop)]
+#[derive(Clone, Copy)]
 pub struct Part {
     pub start: usize,
     pub len: usize,
 }
 
 // The parts bound so far, in the order of the names.
-#[derive(Drop)]
+#[derive(Clone, Copy)]
 pub struct Bound {
     pub rows: [Part; Bound::MOST],
     pub n: usize,
 }
 
 // What matching gives: whether the pattern takes the value, the next places in both, and the parts bound.
-#[derive(Drop)]
+#[derive(Clone, Copy)]
 pub struct Matched {
     pub fits: bool,
     pub pattern: usize,
@@ -335,7 +337,7 @@ pub fn part_words(v: &[u32], p: Part) -> &[u32]
 }
 
 // A value of at most 16 words. A length of 17 says that the list which was to be stored is longer.
-#[derive(Drop)]
+#[derive(Clone, Copy)]
 pub struct Value {
     pub words: [u32; Value::LONGEST],
     pub len: usize,

@@ -1,4 +1,6 @@
 // Runs the functions of `values` on vectors that are just allowed and just refused, and prints what each gives.
+#![tactic(auto)]
+
 use libc::STDOUT_FILENO;
 use values::{Bound, Leaf, Span};
 

@@ -1,6 +1,8 @@
 // Whether a state by value is well formed for its tables: the test that every step and every question makes first.
 //
 // The array test comes first, for all sides: below it, every count is within its array. Sides go by their numbers, from 1 on.
+#![tactic(auto)]
+
 ghost use Rattle.std.specs.Prelude.{◌≡◌};
 
 mod boxes; // boxes

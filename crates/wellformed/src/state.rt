@@ -10,7 +10,7 @@ use crate::side::{side_fits, side_stands};
 use sides::{Sides, State};
 
 // How many names each side has minted, and how many values are on its shelf, from side 1 on.
-#[derive(Drop)]
+#[derive(Clone, Copy)]
 struct Counts {
     minted: [usize; Sides::COUNT],
     shelved: [usize; Sides::COUNT],

@@ -1,12 +1,14 @@
 // The wrappers by their numbers, 1 the filter, 2 the pipeline and 3 the logging wrapper: which sides they have, who takes from whose
 // shelf, and whether copies leave. The code asks this crate and nothing else about a wrapper.
+#![tactic(auto)]
+
 ghost use Rattle.std.specs.Prelude.{◌≡◌};
 ghost use Rattle.model.specs.Basics.{has};
 ghost use Rattle.model.specs.Wrapper.{is_wrapper, described, has_side, shelves, takes_any};
 ghost use Rattle.wrappers.specs.Routes.{source_for};
 
 // The side that another takes from, or that there is none.
-#[derive(Drop)]
+#[derive(Clone, Copy)]
 pub enum Source {
     Side(u32),
     Nowhere,

@@ -3,6 +3,8 @@
 // Each exported function answers how many bytes it wrote. Its contract says the whole buffer after the call: at its start the
 // bytes of a definition, behind them what was lent. It asks nothing of the caller. Each inner function writes at a place of the
 // buffer and answers the next place.
+#![tactic(auto)]
+
 mod lines; // the line of an answer
 mod numbers; // bytes, numbers and fields
 
@@ -14,7 +16,7 @@ use lines::put_line;
 use numbers::{put, put_field};
 
 // A page has room for any output: `ok` and 1,024 lines, and the bound that a line is written under.
-#[derive(Drop)]
+#[derive(Clone, Copy)]
 pub struct Page;
 
 impl Page {
@@ -22,7 +24,7 @@ impl Page {
 }
 
 // A run's answers in words.
-#[derive(Drop)]
+#[derive(Clone, Copy)]
 pub struct AnswerWords;
 
 impl AnswerWords {

@@ -4,7 +4,7 @@ ghost use Rattle.format.specs.Output.{decimal, fields};
 ghost use Rattle.writing.specs.Written.{Written};
 
 // A number's decimal digits.
-#[derive(Drop)]
+#[derive(Clone, Copy)]
 struct Digits;
 
 impl Digits {
