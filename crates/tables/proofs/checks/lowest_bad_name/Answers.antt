@@ -1,0 +1,32 @@
+-- `tables::checks::lowest_bad_name` meets its contract.
+use Rattle.tables.proofs.FieldLaws.{bad_here, bad_more, bad_none, bad_start, names_are}
+use Rattle.tables.specs.Nodes.{table}
+use mathlib.Core.Path.{refl, sym, ◌∙◌}
+use Prim.Native.Nat.{◌-◌}
+use Rattle.model.specs.Checks.{check4}
+use borrow.Author.Rules.{rules}
+use Rattle.tables.proofs.checks.lowest_bad_name.Goals as goal
+
+pub loop-n-init : goal.loop-n-init
+loop-n-init c = (refl, search rules, λ pool. bad_start _ _)
+
+pub loop-n-preserved : goal.loop-n-preserved
+loop-n-preserved c =
+    let l = c.loop-n in
+    let ns = c.args.nodes.now in (
+      l.invariant.0,
+      search rules,
+      λ pool. l.invariant.2 pool
+          ∙ bad_more (check4 (table ns pool)) _ l.n c.loop-n-test.true (sym (names_are ns pool l.n _ c.node_at-x.ensures) ∙ sym c.names_ok.ensures ∙ c.if-names_ok.true),
+    )
+
+pub returns-else-names_ok : goal.returns-else-names_ok
+returns-else-names_ok c =
+    let l = c.loop-n in
+    let ns = c.args.nodes.now in
+    λ pool. sym
+    (l.invariant.2 pool ∙ bad_here (check4 (table ns pool)) _ l.n c.loop-n-test.true
+    (sym (names_are ns pool l.n _ c.node_at-x.ensures) ∙ sym c.names_ok.ensures ∙ c.if-names_ok.false))
+
+pub returns : goal.returns
+returns c = λ pool. sym (c.loop-n.invariant.2 pool ∙ bad_none (check4 (table c.args.nodes.now pool)) _ c.loop-n.n c.loop-n-test.false)
