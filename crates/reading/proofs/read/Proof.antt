@@ -3,7 +3,7 @@ use mathlib.Core.Path.{◌≡◌, refl, sym, subst}
 use Prim.Native.Nat.{◌≤◌, ◌+◌, ◌-◌}
 use lib.ListN.{length}
 use Rattle.format.specs.Lines.{newline, pieces, Input, no_input}
-use Rattle.bytes.specs.Bytes.{slice}
+use Rattle.format.specs.Bytes.{slice}
 use Rattle.reading.specs.Lists.{lists, places_of, Inside, Holds}
 use Rattle.reading.proofs.ReadLaws.{SoFar, holds_none, too_long, before_lines, line_refused, line_taken, all_read}
 use borrow.Author.Tests.{not-true, not-false}

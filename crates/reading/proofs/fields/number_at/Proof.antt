@@ -2,7 +2,7 @@
 use mathlib.Core.Path.{◌≡◌, sym, ◌∙◌}
 use Prim.Native.Nat.{◌≤◌, ◌-◌}
 use Rattle.format.specs.Lines.{number}
-use Rattle.bytes.specs.Bytes.{slice}
+use Rattle.format.specs.Bytes.{slice}
 use Rattle.reading.proofs.NumberLaws.{number_from, empty, first, end, low, high, digit, large}
 use borrow.Author.Rules.{rules}
 use Rattle.reading.proofs.fields.number_at.Statement.{statement}

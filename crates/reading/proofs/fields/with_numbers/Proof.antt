@@ -5,7 +5,7 @@ use Prim.Native.Nat.{◌≤◌, ◌<◌, ◌-◌}
 use native.Mathlib.Omega.{arith}
 use lib.ListN.{length}
 use Rattle.format.specs.Lines.{tab, pieces, numbers}
-use Rattle.bytes.specs.Bytes.{slice}
+use Rattle.format.specs.Bytes.{slice}
 use Rattle.reading.specs.Fields.{number_of, line_in, short, line_with, line_end, ended}
 use Rattle.reading.proofs.EndLaws.{ended_yes, ended_no, ended_none}
 use Rattle.reading.proofs.LineLaws.{after, start_line, view_empty, push_either, inside, to_newline, to_tab, same_end, field_bad, field_last, field_next}
