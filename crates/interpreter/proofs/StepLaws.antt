@@ -47,6 +47,10 @@ use Rattle.interpreter.specs.declared.Stepped.{Stepped}
 use Rattle.interpreter.specs.Answered.{words_in, rests_in, left_in, shelved_in, AllLong, put_at, Answered, given_of, ResultIs, RefusedTen, StepAnswered}
 use Rattle.answers.specs.Answers.{said_of}
 
+-- the first k of a list are a part of each of the first k sides
+abbrev pub Filled : {B : Type 0} → (Side → B) → List Side → ℕ → List B → Type 0
+Filled f l k x = take k x ≡ map f (take k l)
+
 -- what a struct is as a state
 pub state_some : (s : State) → fits_arrays s ≡ true → state_of s ≡ some (view_state s)
 state_some s e = rw e

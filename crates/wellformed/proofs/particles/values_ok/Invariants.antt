@@ -1,0 +1,13 @@
+-- The values before k are held.
+use Prim.Native.Nat.{◌-◌, ◌≤◌}
+use Rattle.model.specs.WellFormed.{wf_value}
+use Rattle.sides.specs.Layout.{row_at}
+use Rattle.environments.specs.Inputs.{values_of}
+use Rattle.wellformed.proofs.TestLaws.{Passed}
+use Rattle.wellformed.proofs.particles.values_ok.Given as goal
+
+abbrev pub invariant-loop-k : goal.invariant-loop-k
+invariant-loop-k l = (l.k ≤ l.n) × Passed (λ j v. wf_value l.counts v) (values_of (row_at l.words l.i)) l.k
+
+abbrev pub decreases-loop-k : goal.decreases-loop-k
+decreases-loop-k l = l.n - l.k
