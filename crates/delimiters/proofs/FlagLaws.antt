@@ -4,7 +4,7 @@ use Prim.Native.Nat.{ℕ, zero, suc, ◌+◌, ◌*◌, ◌/◌, ◌%◌, ◌<◌
 use native.Mathlib.Nat.{mod-lt, div-add-mod'}
 use native.Mathlib.Omega.{arith}
 use lib.Bits.{bit_and, bit_xor, and_block, xor_block, and_zero_r, and_lt, xor_lt}
-use Rattle.delimiters.specs.Delimiters.{flag, flagged}
+use Rattle.delimiters.specs.Delimiters.{flagged}
 use Rattle.delimiters.proofs.ByteLaws.{byte_test, byte_test_lem, sum_below}
 
 -- n bytes that are all c

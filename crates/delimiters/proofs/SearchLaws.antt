@@ -9,7 +9,7 @@ use borrow.Author.Tests.{eq-eqb, ne_eqb}
 use lib.Count.{count_trailing_zeros, trailing_of_zero}
 use lib.ListN.{length, get_or, take, drop, take-append-drop}
 use lib.Seq.{drop-drop, length-slice}
-use Rattle.bytes.specs.Bytes.{slice}
+use Rattle.format.specs.Bytes.{slice}
 use Rattle.model.specs.Basics.{◌or◌, choose}
 use Rattle.format.specs.Lines.{tab, newline}
 use Rattle.delimiters.specs.Delimiters.{is_delimiter, delimiter_from, word, flagged}

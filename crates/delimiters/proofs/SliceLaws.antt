@@ -5,7 +5,7 @@ use Prim.Native.Nat.{ℕ, zero, suc, ◌+◌, ◌<◌}
 use native.Mathlib.Nat.{zero-add, suc-add}
 use lib.ListN.{get_or, take, drop}
 use lib.Seq.{take-nil, drop-nil, get_or-drop, get_or-take}
-use Rattle.bytes.specs.Bytes.{slice}
+use Rattle.format.specs.Bytes.{slice}
 
 pub take_of_drop : (f k : ℕ) (l : List ℕ) → take k (drop f l) ≡ drop f (take (f + k) l)
 take_of_drop zero k l = rw zero-add

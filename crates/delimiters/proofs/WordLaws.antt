@@ -7,7 +7,7 @@ use native.Mathlib.Omega.{arith}
 use lib.Arith.{digits_lt}
 use lib.ListN.{length, get_or}
 use lib.Seq.{slice_empty, slice-cons}
-use Rattle.bytes.specs.Bytes.{slice}
+use Rattle.format.specs.Bytes.{slice}
 use Rattle.delimiters.specs.Delimiters.{word}
 
 -- each element is a byte

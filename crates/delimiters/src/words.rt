@@ -1,6 +1,6 @@
 // Eight bytes as one word, and which of them are a tab or a newline.
 ghost use Rattle.std.specs.Prelude.{◌≡◌, ◌+◌, ◌≤◌, length};
-ghost use Rattle.bytes.specs.Bytes.{slice};
+ghost use Rattle.format.specs.Bytes.{slice};
 ghost use Rattle.delimiters.specs.Delimiters.{word, flagged};
 
 // The eight bytes from a place on as one word, the first of them lowest.

@@ -11,7 +11,7 @@ use borrow.Author.Tests.{lt-ltb, le-ltb, eqb-true, eqb-false}
 use lib.Dec.{ltb, eqb}
 use lib.ListN.{length, get_or, take, drop, length-drop}
 use lib.Seq.{take_all, drop-drop, get_or-drop, length-slice}
-use Rattle.bytes.specs.Bytes.{slice, index_of, index_after}
+use Rattle.format.specs.Bytes.{slice, index_of, index_after}
 use Rattle.model.specs.Basics.{◌or◌, choose}
 use Rattle.format.specs.Lines.{tab, newline, Line}
 use Rattle.delimiters.specs.Delimiters.{is_delimiter, delimiter_from}

@@ -13,7 +13,7 @@ use lib.ListN.{length, get_or, take, set, length-append, length-set, length-take
 use lib.Seq.{take-suc-set, slice-cons, length-slice}
 use Rattle.model.specs.Basics.{choose}
 use Rattle.format.specs.Lines.{tab, pieces, number, numbers, Line, line_of}
-use Rattle.bytes.specs.Bytes.{slice, index_of}
+use Rattle.format.specs.Bytes.{slice, index_of}
 use Rattle.reading.proofs.PieceLaws.{last, next, first}
 use Rattle.reading.proofs.EndLaws.{end_up, end_fits, end_behind, field_end, field_fits, at_newline, before_newline}
 use Rattle.reading.specs.Fields.{line_in, short_line, short, pushed, line_with, line_end, ended}

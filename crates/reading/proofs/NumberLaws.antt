@@ -12,7 +12,7 @@ use lib.Seq.{slice-cons, slice_empty, length-slice}
 use Rattle.model.specs.Basics.{◌&◌, choose, every}
 use Rattle.format.specs.Lines.{is_digit, decimal_value, number}
 use Rattle.reading.proofs.TestLaws.{second_fails}
-use Rattle.bytes.specs.Bytes.{slice}
+use Rattle.format.specs.Bytes.{slice}
 
 -- the number that some digits and then others make, where the first make v
 unfoldable pub number_from : ℕ → List ℕ → Option ℕ

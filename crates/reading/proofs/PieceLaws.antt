@@ -10,7 +10,7 @@ use lib.ListN.{length, take, drop}
 use lib.Seq.{take-take, take_all, drop-drop, length-slice}
 use Rattle.model.specs.Basics.{choose}
 use Rattle.format.specs.Lines.{to_first, pieces}
-use Rattle.bytes.specs.Bytes.{slice, index_of, index_after}
+use Rattle.format.specs.Bytes.{slice, index_of, index_after}
 use Rattle.delimiters.proofs.SliceLaws.{take_of_drop}
 
 -- a number that is nowhere in the list parts nothing

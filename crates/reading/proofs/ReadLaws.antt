@@ -15,7 +15,7 @@ use Rattle.model.specs.Basics.{◌&◌, choose}
 use Rattle.model.proofs.Basics.Tests.{no_some}
 use Rattle.model.specs.Wrapper.{all_sides}
 use Rattle.format.specs.Lines.{newline, to_first, pieces, line_of, Input, no_input, with_line, fault, whole, read_from, reading, so_far, read_so_far}
-use Rattle.bytes.specs.Bytes.{slice, index_of}
+use Rattle.format.specs.Bytes.{slice, index_of}
 use Rattle.reading.specs.declared.Places.{Places}
 use Rattle.reading.specs.declared.Verdict.{Verdict}
 use Rattle.reading.specs.declared.Verdict.TheVariants.{Fault, Whole}

@@ -3,7 +3,7 @@ use Rattle.std.specs.Prelude.{List, [], ◌∷◌, ◌++◌, Bool, ℕ, ◌+◌,
 use Rattle.std.proofs.Math.Option.{Option, none, some}
 use Rattle.model.specs.Basics.{◌&◌, choose}
 use Rattle.model.specs.Wrapper.{all_sides}
-use Rattle.bytes.specs.Bytes.{slice, index_of}
+use Rattle.format.specs.Bytes.{slice, index_of}
 use Rattle.format.specs.Lines.{newline, Line, Input, between, on_line}
 use Rattle.reading.specs.declared.fields.Number.{Number}
 use Rattle.reading.specs.declared.fields.Number.TheVariants.{Word, Bad}

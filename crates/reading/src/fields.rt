@@ -1,7 +1,7 @@
 // A line's fields: its letter, and its numbers.
 ghost use Rattle.std.specs.Prelude.{◌≡◌, ◌⊎◌, [], ◌≤◌, length};
 ghost use Rattle.std.proofs.Math.Option.{none, some};
-ghost use Rattle.bytes.specs.Bytes.{slice};
+ghost use Rattle.format.specs.Bytes.{slice};
 ghost use Rattle.format.specs.Lines.{tab, number, pieces, numbers, line_of};
 ghost use Rattle.reading.specs.Fields.{number_of, view_line, short, line_with, line_end, ended};
 

@@ -1,10 +1,10 @@
 -- Laws of numbers behind tabs.
 use mathlib.Core.Path.{◌≡◌, refl, sym, ◌∙◌, ap}
 use mathlib.Core.List.{List, [], ◌∷◌, ◌++◌, append_assoc, append-nil}
-use Prim.Native.Nat.{ℕ, ◌+◌, ◌≤◌, ◌<◌}
+use Prim.Native.Nat.{ℕ, ◌+◌, ◌<◌}
 use native.Mathlib.Numerals.{add-one}
 use lib.ListN.{length, take, get_or}
-use lib.Seq.{take-suc, take_all}
+use lib.Seq.{take-suc}
 use Rattle.format.specs.Lines.{tab}
 use Rattle.format.specs.Output.{decimal, fields}
 
@@ -22,7 +22,3 @@ pub fields_more : (words : List ℕ) (i n : ℕ) → n ≡ get_or words i 0 → 
 fields_more words i n e h =
     let step : take i words ++ (n ∷ []) ≡ take (i + 1) words = rw (e, add-one, take-suc words i 0) in
     fields_joined (take i words) (n ∷ []) ∙ ap fields step
-
--- all words
-pub fields_all : (words : List ℕ) (i : ℕ) → length words ≤ i → fields (take i words) ≡ fields words
-fields_all words i h = ap fields (take_all i words h)

@@ -1,11 +1,10 @@
 -- What the words of an answer say, case by case, and its line.
-use mathlib.Core.Path.{◌≡◌, ◌∙◌, ap}
+use mathlib.Core.Path.{◌≡◌}
 use mathlib.Core.List.{List, [], ◌∷◌, ◌++◌, append_assoc}
-use Prim.Native.Nat.{ℕ, ◌+◌, ◌-◌, ◌≤◌, min}
+use Prim.Native.Nat.{ℕ, ◌+◌, ◌-◌, min}
 use native.Mathlib.Omega.{arith}
 use borrow.Author.Tests.{eq-eqb, ne_eqb}
-use lib.ListN.{length, take, drop, get_or, length-drop}
-use lib.Seq.{length-take-le}
+use lib.ListN.{take, drop, get_or}
 use Rattle.format.specs.Lines.{tab, newline}
 use Rattle.format.specs.Output.{decimal, fields, word_in, word_out, word_log, word_tau, word_no}
 use Rattle.writing.specs.Words.{value_in, saying_in, line_in}
@@ -43,10 +42,6 @@ pub part_at : (answers : List ℕ) (from : ℕ) → take (from + 20 - from) (dro
 part_at answers from =
     let e : from + 20 - from ≡ 20 = omega arith in
     rw e
-
--- these are 20
-pub part_length : (answers : List ℕ) (from : ℕ) → from + 20 ≤ length answers → length (take (from + 20 - from) (drop from answers)) ≡ 20
-part_length answers from h = ap length (part_at answers from) ∙ length-take-le 20 (drop from answers) (omega (arith, length-drop from answers))
 
 -- the parts of a line joined
 pub line_in_lem : (k : ℕ) (ws vs : List ℕ) → vs ≡ ws → ((decimal k ++ (tab ∷ [])) ++ saying_in vs) ++ (newline ∷ []) ≡ line_in k ws

@@ -4,9 +4,9 @@ use mathlib.Core.List.{List, [], ◌∷◌, ◌++◌, append_assoc}
 use Prim.Native.Nat.{ℕ, suc, ◌+◌, ◌≤◌}
 use native.Mathlib.Nat.{add-zero, add-suc, suc-add}
 use native.Mathlib.Omega.{arith}
-use lib.ListN.{length, take, drop, set, length-append, length-drop, take-append-drop}
-use lib.Seq.{sets, sets-eq, take_at, take-length, drop-append-le, drop-drop}
-use borrow.Rule.Slice.PartMut.{mid_of, put_mid}
+use lib.ListN.{length, take, drop, set, length-append, length-drop}
+use lib.Seq.{sets, sets-eq, take_at, drop-drop}
+use borrow.Rule.Slice.PartMut.{put_mid}
 use Rattle.format.specs.Words.{onto}
 use Rattle.writing.specs.Written.{Written, PageIs}
 
@@ -23,19 +23,11 @@ stored_first ws l h =
     let i : 0 + length ws ≡ length ws = omega arith in
     sets-eq ws l 0 (omega arith) ∙ ap (λ (k : ℕ). ws ++ drop k l) i
 
--- a text copied to the start of a part that is lent
-pub copied : (old text part : List ℕ) (at k : ℕ) → at + length text ≤ length old → length text ≤ length (mid_of at k old) → part ≡ take (length text) text ++ drop (length text) (mid_of at k old) → put_mid at k old part ≡ sets old at text
+-- a text in place of a part that is as long
+pub copied : (old text part : List ℕ) (at k : ℕ) → at + length text ≤ length old → k ≡ length text → part ≡ text → put_mid at k old part ≡ sets old at text
 copied old text part at k h m e =
-    let p = take at old in
-    let n = length text in
-    let rest = drop at old in
-    let whole : part ≡ text ++ drop n (take k rest) = e ∙ ap (λ (l : List ℕ). l ++ drop n (take k rest)) (take-length text) in
-    let behind : drop n (take k rest) ++ drop k rest ≡ drop (at + n) old = sym (drop-append-le n (take k rest) (drop k rest) m) ∙ ap (drop n) (take-append-drop k rest) ∙ drop-drop n at old in
-    ap (put_mid at k old) whole
-    ∙ ap (λ (l : List ℕ). p ++ l) (append_assoc text (drop n (take k rest)) (drop k rest))
-    ∙ ap (λ (l : List ℕ). p ++ (text ++ l)) behind
-    ∙ sym (append_assoc p text (drop (at + n) old))
-    ∙ sym (sets-eq text old at h)
+    let behind : drop k (drop at old) ≡ drop (at + length text) old = ap (λ (n : ℕ). drop n (drop at old)) m ∙ drop-drop (length text) at old in
+    rw (e, behind) (sym (sets-eq text old at h ∙ append_assoc (take at old) text (drop (at + length text) old)))
 
 -- a text and another behind it are one text
 pub joined : {old mid new xs ys : List ℕ} {a b c : ℕ} → Written old a xs b mid → Written mid b ys c new → Written old a (xs ++ ys) c new

@@ -1,0 +1,11 @@
+-- The words up to a place have neither a tab nor a newline.
+use mathlib.Core.Path.{◌≡◌}
+use Prim.Native.Nat.{◌-◌}
+use Rattle.delimiters.specs.Delimiters.{delimiter_from}
+use Rattle.delimiters.proofs.next_delimiter.Given as goal
+
+abbrev pub invariant-loop-at : goal.invariant-loop-at
+invariant-loop-at l = delimiter_from l.start l.s ≡ delimiter_from l.at l.s
+
+abbrev pub decreases-loop-at : goal.decreases-loop-at
+decreases-loop-at l = l.end - l.at
