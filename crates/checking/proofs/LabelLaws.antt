@@ -1,7 +1,7 @@
 -- The claimed labels beside those that come out.
 use mathlib.Core.Path.{◌≡◌, refl, sym, ap, ap₂, ◌∙◌}
 use mathlib.Core.Bool.{Bool, true, false, cond}
-use mathlib.Core.List.{List, [], ◌∷◌}
+use mathlib.Core.List.{List, [], ◌∷◌, ◌++◌}
 use mathlib.Core.Option.{none, some}
 use Prim.Native.Nat.{ℕ, zero, suc, ◌+◌, ◌<◌, ◌≤◌}
 use native.Mathlib.Omega.{arith}
@@ -154,3 +154,13 @@ shown_is said.Out n v = refl
 shown_is said.Log n v = refl
 shown_is said.Silent n v = refl
 shown_is (said.Refused k) n v = refl
+
+-- WHAT AN ANSWER SHOWS, by whether it is visible
+pub shown_when : (a : Said) (side : ℕ) (v : List ℕ) (t : Bool) → is_visible a ≡ t → shown a side v ≡ cond t ((channel_of a ∷ side ∷ length v ∷ v) ∷ []) []
+shown_when a side v t e = shown_is a side v ∙ ap (λ (y : Bool). cond y ((channel_of a ∷ side ∷ length v ∷ v) ∷ []) []) e
+
+-- the fault from a label that is shown on, where nothing has parted
+pub shown_first : (l : List ℕ) (g : Agreed) (a : Said) (side : ℕ) (v : List ℕ) → g.parted ≡ false → is_visible a ≡ true → (vs : List (List ℕ)) →
+    fault_from l g (shown a side v ++ vs) ≡ label_fault g.count ((channel_of a ∷ side ∷ length v ∷ v) ∷ vs) (records_past 2 (drop g.at l) 0)
+shown_first l g a side v e f vs =
+    ap (λ (s : List (List ℕ)). fault_from l g (s ++ vs)) (shown_when a side v true f) ∙ fault_whole l g ((channel_of a ∷ side ∷ length v ∷ v) ∷ vs) e
