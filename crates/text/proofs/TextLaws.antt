@@ -1,5 +1,5 @@
 -- From lines to a run, and from a run to lines.
-use mathlib.Core.Path.{◌≡◌, refl, sym, ap, subst, ◌∙◌}
+use mathlib.Core.Path.{◌≡◌, refl, sym, ap, ap₂, subst, ◌∙◌}
 use mathlib.Core.Bool.{Bool, true, false}
 use mathlib.Core.List.{List, [], ◌∷◌, ◌++◌, map}
 use mathlib.Core.Logic.{◌⊎◌, inl, inr}
@@ -267,11 +267,11 @@ module _ {o lent page : List ℕ} {n : ℕ} (h : PageIs o lent page n) where
         most = omega (arith, h.count, h.few);
       }
 
-  pub text_written : (out : List ℕ) → n ≤ length out → (after : List ℕ) → after ≡ take (length (take n page)) (take n page) ++ drop (length (take n page)) out → TextIs o out after (Bytes n)
+  pub text_written : (out : List ℕ) → n ≤ length out → (after : List ℕ) → after ≡ take n page ++ drop n out → TextIs o out after (Bytes n)
   unfolding buffer_after choose
   text_written out le after w =
       let t : has_room o out ≡ true = le-leb (length o) (length out) (omega (arith, h.count)) in
-      let copied = ap (λ (z : List ℕ). take (length z) z ++ drop (length z) out) (page_start h) ∙ ap (λ (z : List ℕ). z ++ drop (length o) out) (take-length o) in
+      let copied = ap₂ (λ (z : List ℕ) (k : ℕ). z ++ drop k out) (page_start h) h.count in
       record {
         answer = ap some h.count ∙ ap (λ (b : Bool). when b (length o)) (sym t);
         buffer = w ∙ copied ∙ ap (λ (b : Bool). choose b (onto o out) out) (sym t);

@@ -93,6 +93,6 @@ pub fn text(input: &[u8], out: &mut [u8]) -> Written
     if out.len() < n {
         return Written::TooShort;
     }
-    bytes::copy(&page[..n], out);
+    out[..n].copy_from_slice(&page[..n]);
     Written::Bytes(n)
 }
