@@ -1,20 +1,22 @@
 // Runs the functions of `values` on vectors that are just allowed and just refused, and prints what each gives.
 #![tactic(auto)]
 
-use libc::STDOUT_FILENO;
 use values::{Bound, Leaf, Span};
 
+// The descriptor of standard output.
+const STDOUT: i32 = 1;
+
 fn text(s: &[u8]) {
-    io::write_all(STDOUT_FILENO, s);
+    io::write_all(STDOUT, s);
 }
 
 fn number(n: usize) {
-    io::print_decimal(STDOUT_FILENO, n as u64);
+    io::print_decimal(STDOUT, n as u64);
 }
 
 fn word(w: u32) {
     text(b" ");
-    io::print_decimal(STDOUT_FILENO, w as u64);
+    io::print_decimal(STDOUT, w as u64);
 }
 
 fn yes_or_no(b: bool) {
