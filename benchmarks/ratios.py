@@ -1,7 +1,7 @@
 #!/usr/bin/env python3
 """What a whole run of bench costs, beside the separate implementation.
 
-Makes the largest inputs that the format allows, runs the compiled program target/bin/bench (made by `rt check bench`) and
+Makes the largest inputs that the format allows, runs the compiled program crates/bench/out/bench (made by `rt run` in crates/bench) and
 the separate implementation in reference/ (built here with cargo) on each under `valgrind --tool=callgrind`, which counts
 instructions and not seconds, and prints Markdown tables: both counts and their ratio, how they grow with steps, nodes and
 particles, in which functions bench's instructions fall, and the peaks of its stack and of its resident memory. Two outputs
@@ -29,7 +29,7 @@ import tempfile
 
 HERE = os.path.dirname(os.path.abspath(__file__))
 TOP = os.path.dirname(HERE)
-BENCH = os.path.join(TOP, "target", "bin", "bench")
+BENCH = os.path.join(TOP, "crates", "bench", "out", "bench")
 REFERENCE = os.path.join(TOP, "reference", "target", "release", "reference")
 
 BYTES = 65536
@@ -539,7 +539,7 @@ def main():
                 target.write(data)
         return
     if not os.path.exists(BENCH):
-        sys.exit("no %s: run `rt check bench` first" % os.path.relpath(BENCH))
+        sys.exit("no %s: run `rt run` in crates/bench first" % os.path.relpath(BENCH))
     subprocess.run(["cargo", "build", "--release", "--quiet"], cwd=os.path.join(TOP, "reference"), check=True)
 
     inputs = largest()

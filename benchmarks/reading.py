@@ -3,7 +3,7 @@
 
     python3 benchmarks/reading.py BEFORE [AFTER]
 
-BEFORE and AFTER are compiled programs; AFTER is target/bin/bench where it is not given. Instructions are counted by
+BEFORE and AFTER are compiled programs; AFTER is crates/bench/out/bench where it is not given. Instructions are counted by
 callgrind, and CPU time is taken, as in ratios.py, in one run for both. The first table is of inputs that differ in their
 length alone, none of which runs a step: the difference of two counts, by the bytes that one input is longer, is what a byte
 takes. The second is of whole inputs, those among them. Two outputs that differ are an error.

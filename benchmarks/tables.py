@@ -1,7 +1,7 @@
 #!/usr/bin/env python3
 """What checking a table costs, in instructions, as tables grow.
 
-Feeds tables of growing size to the compiled test program target/bin/tables_test (made by `rt check tables_test`) under
+Feeds tables of growing size to the compiled test program crates/tables_test/out/tables_test (made by `rt run` in crates/tables_test) under
 `valgrind --tool=callgrind`, which counts instructions and not seconds. The cost of one table is the difference between a
 run on eleven copies and a run on one, over ten; so it includes reading the table's text, which grows with its words.
 """
@@ -11,7 +11,7 @@ import subprocess
 import sys
 import tempfile
 
-PROGRAM = os.path.join(os.path.dirname(os.path.abspath(__file__)), "..", "target", "bin", "tables_test")
+PROGRAM = os.path.join(os.path.dirname(os.path.abspath(__file__)), "..", "crates", "tables_test", "out", "tables_test")
 
 
 def spine(n):

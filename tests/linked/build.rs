@@ -1,4 +1,4 @@
-//! Links libembed.a from `$EMBED_LIB_DIR`, or else from target/staticlib of the repository, and sets the
+//! Links libembed.a from `$EMBED_LIB_DIR`, or else from crates/embed/out of the repository, and sets the
 //! cfg `library` if it is there. Without it all but the linked functions is built.
 
 use std::env;
@@ -6,7 +6,7 @@ use std::path::PathBuf;
 
 fn main() {
     let package = PathBuf::from(env::var_os("CARGO_MANIFEST_DIR").expect("set by cargo"));
-    let usual = package.join("../../target/staticlib");
+    let usual = package.join("../../crates/embed/out");
     let folder = env::var_os("EMBED_LIB_DIR").map_or(usual, PathBuf::from);
     let library = folder.join("libembed.a");
     println!("cargo:rerun-if-env-changed=EMBED_LIB_DIR");

@@ -12,7 +12,7 @@ use Rattle.model.specs.Basics.{◌&◌, Res, refuse, done}
 use Rattle.model.specs.Table.{Table}
 use Rattle.model.specs.Side.{Side, State, side, put_side}
 use Rattle.model.specs.Wrapper.{all_sides, has_side}
-use Rattle.model.specs.Load.{Composition, wrapper_of, setting, load}
+use Rattle.model.specs.Load.{Composition, wrapper_of, setting}
 use Rattle.model.specs.Load.{table as table_of}
 use Rattle.model.specs.WellFormed.{counts, wf_core, wf_side, shelf_of, ready}
 use Rattle.model.specs.Step.{Step, Moved, settled, local, known, refusal, answer_of, side_after, Result, step}

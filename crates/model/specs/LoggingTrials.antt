@@ -2,7 +2,7 @@
 use Rattle.std.specs.Prelude.{◌≡◌, List, [], ◌∷◌, ◌++◌, map, ℕ}
 use Rattle.std.proofs.Math.Option.{none}
 use Rattle.model.specs.Load.{Composition, load}
-use Rattle.model.specs.Step.{Step, Answer, labelled, logs}
+use Rattle.model.specs.Step.{Answer, labelled, logs}
 use Rattle.model.specs.Trials.{Trial, outcome, node, filter, pipeline, ask, entering, tau, inward, outward, no, expect, nothing_at_all, copier, times}
 use Rattle.model.specs.MoreTrials.{LoadRow, saying, refusal_of}
 

@@ -1,5 +1,5 @@
 -- Trials of names brought from outside (document 02, request 2.3): which enter, what they may be, where they come out, and two runs with them.
-use Rattle.std.specs.Prelude.{◌≡◌, true, List, [], ◌∷◌, ◌++◌, map, ℕ}
+use Rattle.std.specs.Prelude.{◌≡◌, true, List, [], ◌∷◌, map, ℕ}
 use Rattle.model.specs.Side.{State, side}
 use Rattle.model.specs.Load.{Composition, load, ok}
 use Rattle.model.specs.WellFormed.{clear}

@@ -10,7 +10,7 @@ use lib.Dec.{leb, eqb}
 use lib.ListN.{length, get_or, drop, set, length-append, length-drop, length-set, drop_of_length-le}
 use lib.Seq.{drop-length, drop-cons, drop-set-lt, get_or-set_same, drop-append-add}
 use Rattle.model.specs.Values.{binders, is_public}
-use Rattle.model.specs.Table.{Table, count, kind, field, child_times, bound, scope_up}
+use Rattle.model.specs.Table.{Table, field, child_times, bound, scope_up}
 use Rattle.model.proofs.Basics.Checked.{up_acc}
 use Rattle.tables.specs.declared.nodes.Node.{Node}
 use Rattle.tables.specs.Nodes.{table, NodeIs, pattern_names}

@@ -8,7 +8,6 @@ use borrow.Author.Tests.{leb-true, le-leb, ltb-false, eqb-true, eqb-false, ne_eq
 use lib.Dec.{leb, ltb, eqb}
 use lib.ListN.{length, length-append}
 use Rattle.model.specs.Basics.{Res, refuse, done, is_done, choose}
-use Rattle.model.specs.Values.{at}
 use Rattle.model.specs.Table.{Table, count, kind, field, child_times, Term, build, term, bound, scope_up, scope}
 use Rattle.model.specs.Checks.{Fault, fault, check1, check2, check3, times_child, over, over_all}
 use Rattle.model.proofs.Basics.Tests.{choose_done, fst, snd, alt}

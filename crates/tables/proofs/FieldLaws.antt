@@ -11,8 +11,7 @@ use lib.Dec.{leb, ltb, eqb}
 use lib.ListN.{length, get_or, set, length-set, get_or-eq_default}
 use lib.Seq.{get_or-set_same, get_or-set_other}
 use Rattle.model.specs.Basics.{◌&◌, ◌or◌, refuse, done, implies}
-use Rattle.model.specs.Values.{at}
-use Rattle.model.specs.Table.{count, kind, field, uses, field_uses, child_fields, child_times}
+use Rattle.model.specs.Table.{count, field, uses, field_uses, child_fields, child_times}
 use Rattle.model.specs.Checks.{every_field, fields_ok, times_child, first_bad, check2, check3, check4, check5}
 use Rattle.tables.specs.declared.nodes.Node.{Node}
 use Rattle.tables.specs.Nodes.{table, NodeIs}

@@ -4,7 +4,7 @@ use mathlib.Core.List.{List}
 use Prim.Native.Nat.{ℕ, zero, suc, ◌+◌, ◌-◌, ◌*◌, ◌<◌, ◌≤◌}
 use native.Mathlib.Omega.{arith}
 use lib.ListN.{get_or}
-use Rattle.model.specs.Table.{Table, count, kind, field, Term, build, term}
+use Rattle.model.specs.Table.{Table, count, field, Term, build, term}
 use Rattle.model.proofs.Basics.Terms.{Child, left, right, in_box, in_new, in_body, term_at_lem}
 use Rattle.tables.specs.declared.nodes.Node.{Node}
 use Rattle.tables.specs.Nodes.{table, NodeIs}

@@ -10,7 +10,7 @@ use native.Mathlib.Omega.{arith}
 use borrow.Author.Tests.{le-ltb, le-leb, lt-leb, eqb-true, eqb-false}
 use lib.Dec.{eqb}
 use lib.ListN.{length, get_or, set, take, drop, length-map}
-use lib.Seq.{sets, length-sets, length-take-le, take-length, take_at, ext_get_or, get_or-set_same, get_or-set_other}
+use lib.Seq.{sets, length-sets, length-take-le, take_at, ext_get_or, get_or-set_same, get_or-set_other}
 use Rattle.model.specs.Basics.{choose}
 use Rattle.model.specs.Side.{State}
 use Rattle.model.specs.Table.{Table}

@@ -44,6 +44,6 @@ fn read_options() -> Option<(u64, u64)> {
 
 #[cfg(not(library))]
 fn main() -> std::process::ExitCode {
-    eprintln!("linked: libembed.a was missing when this was built; `rt staticlib embed` makes it");
+    eprintln!("linked: libembed.a was missing when this was built; `rt lib` in crates/embed makes it");
     std::process::ExitCode::from(2)
 }

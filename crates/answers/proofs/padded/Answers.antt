@@ -1,5 +1,4 @@
 use mathlib.Core.Path.{◌≡◌, refl}
-use Prim.Native.Nat.{◌-◌}
 use lib.ListN.{length}
 use Rattle.answers.proofs.AnswerLaws.{copied, padded_is}
 use native.Mathlib.Omega.{arith}

@@ -16,34 +16,34 @@ pub returns-in-Done : goal.returns-in-Done
 returns-in-Done c =
     let after : List ℕ = c.run-ran.new.out in
     let lent-run : let a = c.args in RunIs (run_of (lent_composition a.wrapper a.tables.now a.lengths.now) a.steps.now (length a.out.now)) a.out.now after c.run-ran.result =
-        let a = c.args in
-        let e = lent_parts a.wrapper _ _ a.tables.now a.lengths.now c.parts-nodes.ensures c.parts-pools.ensures in
-        subst (λ (b : Composition). RunIs (run_of b a.steps.now (length a.out.now)) a.out.now after c.run-ran.result) e c.run-ran.ensures in
+    let a = c.args in
+    let e = lent_parts a.wrapper _ _ a.tables.now a.lengths.now c.parts-nodes.ensures c.parts-pools.ensures in
+    subst (λ (b : Composition). RunIs (run_of b a.steps.now (length a.out.now)) a.out.now after c.run-ran.result) e c.run-ran.ensures in
     run_done lent-run _ c.in-Done.is
 
 pub returns-in-Refused : goal.returns-in-Refused
 returns-in-Refused c =
     let after : List ℕ = c.run-ran.new.out in
     let lent-run : let a = c.args in RunIs (run_of (lent_composition a.wrapper a.tables.now a.lengths.now) a.steps.now (length a.out.now)) a.out.now after c.run-ran.result =
-        let a = c.args in
-        let e = lent_parts a.wrapper _ _ a.tables.now a.lengths.now c.parts-nodes.ensures c.parts-pools.ensures in
-        subst (λ (b : Composition). RunIs (run_of b a.steps.now (length a.out.now)) a.out.now after c.run-ran.result) e c.run-ran.ensures in
+    let a = c.args in
+    let e = lent_parts a.wrapper _ _ a.tables.now a.lengths.now c.parts-nodes.ensures c.parts-pools.ensures in
+    subst (λ (b : Composition). RunIs (run_of b a.steps.now (length a.out.now)) a.out.now after c.run-ran.result) e c.run-ran.ensures in
     run_told lent-run (ran.Refused _ _ _) c.in-Refused.is
 
 pub returns-in-BrokenOff : goal.returns-in-BrokenOff
 returns-in-BrokenOff c =
     let after : List ℕ = c.run-ran.new.out in
     let lent-run : let a = c.args in RunIs (run_of (lent_composition a.wrapper a.tables.now a.lengths.now) a.steps.now (length a.out.now)) a.out.now after c.run-ran.result =
-        let a = c.args in
-        let e = lent_parts a.wrapper _ _ a.tables.now a.lengths.now c.parts-nodes.ensures c.parts-pools.ensures in
-        subst (λ (b : Composition). RunIs (run_of b a.steps.now (length a.out.now)) a.out.now after c.run-ran.result) e c.run-ran.ensures in
+    let a = c.args in
+    let e = lent_parts a.wrapper _ _ a.tables.now a.lengths.now c.parts-nodes.ensures c.parts-pools.ensures in
+    subst (λ (b : Composition). RunIs (run_of b a.steps.now (length a.out.now)) a.out.now after c.run-ran.result) e c.run-ran.ensures in
     run_told lent-run ran.BrokenOff c.in-BrokenOff.is
 
 pub returns-in-TooShort : goal.returns-in-TooShort
 returns-in-TooShort c =
     let after : List ℕ = c.run-ran.new.out in
     let lent-run : let a = c.args in RunIs (run_of (lent_composition a.wrapper a.tables.now a.lengths.now) a.steps.now (length a.out.now)) a.out.now after c.run-ran.result =
-        let a = c.args in
-        let e = lent_parts a.wrapper _ _ a.tables.now a.lengths.now c.parts-nodes.ensures c.parts-pools.ensures in
-        subst (λ (b : Composition). RunIs (run_of b a.steps.now (length a.out.now)) a.out.now after c.run-ran.result) e c.run-ran.ensures in
+    let a = c.args in
+    let e = lent_parts a.wrapper _ _ a.tables.now a.lengths.now c.parts-nodes.ensures c.parts-pools.ensures in
+    subst (λ (b : Composition). RunIs (run_of b a.steps.now (length a.out.now)) a.out.now after c.run-ran.result) e c.run-ran.ensures in
     run_told lent-run ran.TooShort c.in-TooShort.is

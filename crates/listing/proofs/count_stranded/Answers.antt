@@ -1,5 +1,4 @@
 use mathlib.Core.Path.{◌≡◌, ap, ◌∙◌}
-use Prim.Native.Nat.{◌-◌}
 use native.Mathlib.Omega.{arith}
 use lib.ListN.{length}
 use Rattle.values.proofs.Lists.{unmap}
@@ -31,19 +30,19 @@ returns c =
     at.invariant.2 ∙ ap (λ k. length (front l k)) all
 
 pub offset_bounds-l-k : goal.offset_bounds-l-k
-offset_bounds-l-k c =  omega arith
+offset_bounds-l-k c = omega arith
 
 pub bounds-l-k : goal.bounds-l-k
-bounds-l-k c =  omega arith
+bounds-l-k c = omega arith
 
 pub overflow_add-k : goal.overflow_add-k
-overflow_add-k c =  omega arith
+overflow_add-k c = omega arith
 
 pub overflow_add-count : goal.overflow_add-count
-overflow_add-count c =  omega arith
+overflow_add-count c = omega arith
 
 pub loop-k-smaller-then-is_stranded : goal.loop-k-smaller-then-is_stranded
-loop-k-smaller-then-is_stranded c =  omega arith
+loop-k-smaller-then-is_stranded c = omega arith
 
 pub loop-k-smaller : goal.loop-k-smaller
-loop-k-smaller c =  omega arith
+loop-k-smaller c = omega arith

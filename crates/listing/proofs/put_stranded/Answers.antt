@@ -1,5 +1,5 @@
 use mathlib.Core.Path.{◌≡◌}
-use Prim.Native.Nat.{◌-◌, ◌<◌}
+use Prim.Native.Nat.{◌<◌}
 use native.Mathlib.Omega.{arith}
 use lib.ListN.{length}
 use Rattle.values.proofs.Lists.{unmap}
@@ -13,9 +13,9 @@ pub bounds-out-count : goal.bounds-out-count
 bounds-out-count c =
     let full : length c.args.l.msgs ≡ 16 = search unmap in
     let room : c.loop-k.count < length c.args.out.now =
-        let at = c.loop-k in
-        let s = c.is_stranded in
-        filled_room c.args.l full c.requires.0 _ c.requires.1 at.k _ _ at.invariant.1 c.loop-k-test.true _ s.result s.ensures c.if-is_stranded.true in
+    let at = c.loop-k in
+    let s = c.is_stranded in
+    filled_room c.args.l full c.requires.0 _ c.requires.1 at.k _ _ at.invariant.1 c.loop-k-test.true _ s.result s.ensures c.if-is_stranded.true in
     let at = c.loop-k in
     let same = filled_length c.args.l full c.requires.0 _ c.requires.1 at.k _ _ at.invariant.1 at.invariant.0 in
     omega (arith, room, same)

@@ -26,16 +26,16 @@ room_offer-f-requires c =
     let table_at : Table = table c.args.nodes.now c.args.pool.now in
     let words_at : List ℕ = c.join_offer-a.new.e in
     let joined : let a = c.args in Joined table_at a.side a.rows.now a.o a.i a.j words_at c.in-At.d (eqb c.node_at-x.result.kind 6) c.rows_left-left.result c.node_at-x.result.d =
-        let a = c.args in
-        let w = c.join_offer-a in
-        let node = c.wide.ensures ∙ c.word_at.ensures in
-        record {
-          given = c.requires;
-          joins = joined_at table_at a.rows.now a.i a.j words_at w.result w.ensures c.in-At.is;
-          again = replicated_is a.nodes.now a.pool.now node c.node_at-x.ensures;
-          rows = c.rows_left-left.ensures;
-          body = c.node_at-x.ensures.f4 ∙ ap (λ (k : ℕ). field table_at k 4) node;
-        } in
+    let a = c.args in
+    let w = c.join_offer-a in
+    let node = c.wide.ensures ∙ c.word_at.ensures in
+    record {
+      given = c.requires;
+      joins = joined_at table_at a.rows.now a.i a.j words_at w.result w.ensures c.in-At.is;
+      again = replicated_is a.nodes.now a.pool.now node c.node_at-x.ensures;
+      rows = c.rows_left-left.ensures;
+      body = c.node_at-x.ensures.f4 ∙ ap (λ (k : ℕ). field table_at k 4) node;
+    } in
     room_asks joined
 
 pub returns-in_default-f : goal.returns-in_default-f
@@ -44,16 +44,16 @@ returns-in_default-f c =
     let setting_at : Setting = with_table c.args.side table_at in
     let words_at : List ℕ = c.join_offer-a.new.e in
     let joined : let a = c.args in Joined table_at a.side a.rows.now a.o a.i a.j words_at c.in-At.d (eqb c.node_at-x.result.kind 6) c.rows_left-left.result c.node_at-x.result.d =
-        let a = c.args in
-        let w = c.join_offer-a in
-        let node = c.wide.ensures ∙ c.word_at.ensures in
-        record {
-          given = c.requires;
-          joins = joined_at table_at a.rows.now a.i a.j words_at w.result w.ensures c.in-At.is;
-          again = replicated_is a.nodes.now a.pool.now node c.node_at-x.ensures;
-          rows = c.rows_left-left.ensures;
-          body = c.node_at-x.ensures.f4 ∙ ap (λ (k : ℕ). field table_at k 4) node;
-        } in
+    let a = c.args in
+    let w = c.join_offer-a in
+    let node = c.wide.ensures ∙ c.word_at.ensures in
+    record {
+      given = c.requires;
+      joins = joined_at table_at a.rows.now a.i a.j words_at w.result w.ensures c.in-At.is;
+      again = replicated_is a.nodes.now a.pool.now node c.node_at-x.ensures;
+      rows = c.rows_left-left.ensures;
+      body = c.node_at-x.ensures.f4 ∙ ap (λ (k : ℕ). field table_at k 4) node;
+    } in
     let w = c.room_offer-f in
     pair_full joined w.result w.ensures c.in_default-f.is c.number-in_default-f.ensures c.plain-in_default-f.ensures setting_at refl
 
@@ -71,16 +71,16 @@ slice_bounds-unfold_at-end c =
     let table_at : Table = table c.args.nodes.now c.args.pool.now in
     let words_at : List ℕ = c.join_offer-a.new.e in
     let joined : let a = c.args in Joined table_at a.side a.rows.now a.o a.i a.j words_at c.in-At.d (eqb c.node_at-x.result.kind 6) c.rows_left-left.result c.node_at-x.result.d =
-        let a = c.args in
-        let w = c.join_offer-a in
-        let node = c.wide.ensures ∙ c.word_at.ensures in
-        record {
-          given = c.requires;
-          joins = joined_at table_at a.rows.now a.i a.j words_at w.result w.ensures c.in-At.is;
-          again = replicated_is a.nodes.now a.pool.now node c.node_at-x.ensures;
-          rows = c.rows_left-left.ensures;
-          body = c.node_at-x.ensures.f4 ∙ ap (λ (k : ℕ). field table_at k 4) node;
-        } in
+    let a = c.args in
+    let w = c.join_offer-a in
+    let node = c.wide.ensures ∙ c.word_at.ensures in
+    record {
+      given = c.requires;
+      joins = joined_at table_at a.rows.now a.i a.j words_at w.result w.ensures c.in-At.is;
+      again = replicated_is a.nodes.now a.pool.now node c.node_at-x.ensures;
+      rows = c.rows_left-left.ensures;
+      body = c.node_at-x.ensures.f4 ∙ ap (λ (k : ℕ). field table_at k 4) node;
+    } in
     sym joined.joins.words.long
 
 pub unfold_at-u-requires : goal.unfold_at-u-requires
@@ -88,16 +88,16 @@ unfold_at-u-requires c =
     let table_at : Table = table c.args.nodes.now c.args.pool.now in
     let words_at : List ℕ = c.join_offer-a.new.e in
     let joined : let a = c.args in Joined table_at a.side a.rows.now a.o a.i a.j words_at c.in-At.d (eqb c.node_at-x.result.kind 6) c.rows_left-left.result c.node_at-x.result.d =
-        let a = c.args in
-        let w = c.join_offer-a in
-        let node = c.wide.ensures ∙ c.word_at.ensures in
-        record {
-          given = c.requires;
-          joins = joined_at table_at a.rows.now a.i a.j words_at w.result w.ensures c.in-At.is;
-          again = replicated_is a.nodes.now a.pool.now node c.node_at-x.ensures;
-          rows = c.rows_left-left.ensures;
-          body = c.node_at-x.ensures.f4 ∙ ap (λ (k : ℕ). field table_at k 4) node;
-        } in
+    let a = c.args in
+    let w = c.join_offer-a in
+    let node = c.wide.ensures ∙ c.word_at.ensures in
+    record {
+      given = c.requires;
+      joins = joined_at table_at a.rows.now a.i a.j words_at w.result w.ensures c.in-At.is;
+      again = replicated_is a.nodes.now a.pool.now node c.node_at-x.ensures;
+      rows = c.rows_left-left.ensures;
+      body = c.node_at-x.ensures.f4 ∙ ap (λ (k : ℕ). field table_at k 4) node;
+    } in
     let w = c.room_offer-f in
     let box = c.wide-b.ensures ∙ c.word_at-2.ensures in
     body_can joined w.result w.ensures c.in-At-f.is c.remove_pair.ensures box
@@ -108,16 +108,16 @@ returns c =
     let setting_at : Setting = with_table c.args.side table_at in
     let words_at : List ℕ = c.join_offer-a.new.e in
     let joined : let a = c.args in Joined table_at a.side a.rows.now a.o a.i a.j words_at c.in-At.d (eqb c.node_at-x.result.kind 6) c.rows_left-left.result c.node_at-x.result.d =
-        let a = c.args in
-        let w = c.join_offer-a in
-        let node = c.wide.ensures ∙ c.word_at.ensures in
-        record {
-          given = c.requires;
-          joins = joined_at table_at a.rows.now a.i a.j words_at w.result w.ensures c.in-At.is;
-          again = replicated_is a.nodes.now a.pool.now node c.node_at-x.ensures;
-          rows = c.rows_left-left.ensures;
-          body = c.node_at-x.ensures.f4 ∙ ap (λ (k : ℕ). field table_at k 4) node;
-        } in
+    let a = c.args in
+    let w = c.join_offer-a in
+    let node = c.wide.ensures ∙ c.word_at.ensures in
+    record {
+      given = c.requires;
+      joins = joined_at table_at a.rows.now a.i a.j words_at w.result w.ensures c.in-At.is;
+      again = replicated_is a.nodes.now a.pool.now node c.node_at-x.ensures;
+      rows = c.rows_left-left.ensures;
+      body = c.node_at-x.ensures.f4 ∙ ap (λ (k : ℕ). field table_at k 4) node;
+    } in
     let w = c.room_offer-f in
     let box = c.wide-b.ensures ∙ c.word_at-2.ensures in
     pair_did joined w.result w.ensures c.in-At-f.is c.remove_pair.ensures box c.unfold_at-u.ensures setting_at refl refl

@@ -1,12 +1,12 @@
 -- Names by their numbers: where minted names and those from outside lie, and what it is to be held.
 use mathlib.Core.Path.{◌≡◌}
 use mathlib.Core.Bool.{Bool, true}
-use mathlib.Core.Logic.{◌⊎◌, ⊎_elim}
+use mathlib.Core.Logic.{⊎_elim}
 use Prim.Native.Nat.{ℕ, ◌≤◌, ◌<◌}
 use native.Mathlib.Omega.{arith}
 use borrow.Author.Tests.{leb-true}
 use lib.Dec.{leb, ltb}
-use Rattle.model.specs.Basics.{◌&◌, ◌or◌}
+use Rattle.model.specs.Basics.{◌&◌}
 use Rattle.model.specs.Values.{is_public, is_minted, is_outside, is_name, side_of, serial}
 use Rattle.model.specs.WellFormed.{Counts, count_of, held}
 use Rattle.model.proofs.Basics.Tests.{fst, snd, alt, alt_left, alt_right}

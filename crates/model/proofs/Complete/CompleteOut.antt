@@ -18,7 +18,7 @@ use Rattle.calculus.specs.Parallel.{parallel}
 use Rattle.calculus.specs.Tree.{Item, select}
 use Rattle.calculus.specs.Tree.{process}
 use Rattle.model.specs.Basics.{◌or◌, done, need, choose, has, remove}
-use Rattle.model.specs.Values.{items, is_value, shaped}
+use Rattle.model.specs.Values.{is_value, shaped}
 use Rattle.model.specs.Wrapper.{Wrapper, has_side}
 use Rattle.model.specs.Side.{State, side, Message, Core, down, arrived, leaving, Status as SPlace}
 use Rattle.model.specs.Load.{Composition, wrapper_of, Setting}

@@ -21,7 +21,7 @@ use Rattle.model.specs.Side.{State, side, Box, Message, Particle, output, Core, 
 use Rattle.model.specs.Load.{Composition, wrapper_of, Setting}
 use Rattle.model.specs.WellFormed.{counts, wf_particle, shelf_of, ready}
 use Rattle.model.specs.Step.{short, Step, local, inner, up, up_particle, up_from, known, silently, with_contents, with_lobby, with_particles}
-use Rattle.model.specs.Process.{Mark, part, lobby, own_name, site_of, val_of, conf_of, new_of, place_of}
+use Rattle.model.specs.Process.{Mark, part, own_name, site_of, val_of, conf_of, new_of, place_of}
 use Rattle.model.specs.Agreement.{shelves?, At, enter, go_down, go_up, descend, meet, pass, leave, take, by_17, up_full, shelf_full, parts_of}
 use Rattle.calculus.proofs.FreeNames.{eqb_sym}
 use Rattle.calculus.proofs.Trees.{Has, wf_has}

@@ -24,7 +24,7 @@ use Rattle.model.specs.Side.{State, side, Box, Particle, output, input, Core, li
 use Rattle.model.specs.Load.{Composition, wrapper_of}
 use Rattle.model.specs.WellFormed.{Counts, counts, wf_particle, env_at, shelf_of, ready}
 use Rattle.model.specs.Step.{short, Result, Step, Moved, silent, Answer, labelled, refusal, settled, local, step, known, silently}
-use Rattle.model.specs.Process.{Mark, part, boxed, lobby, own_name, site_of, val_of, code_of, env_of, tag_out, conf_as, conf_of, new_of, is_gone, part_item, shelf_item, shelf_items, enters, passes}
+use Rattle.model.specs.Process.{Mark, part, boxed, own_name, site_of, val_of, code_of, env_of, tag_out, conf_as, conf_of, new_of, is_gone, part_item, shelf_item, shelf_items, enters, passes}
 use Rattle.model.specs.Process.{takes, forwarders, place_of, places_of, all_places}
 use Rattle.model.specs.Agreement.{plainly, At, asks_tau, Says, says_tau, Met, Excused, answer_side}
 use Rattle.calculus.proofs.Trees.{Has, here, there}

@@ -22,7 +22,7 @@ use Rattle.model.specs.Basics.{◌&◌, every, has}
 use Rattle.model.specs.Wrapper.{Wrapper, Route, described, has_side, shelves}
 use Rattle.model.specs.Load.{Composition, wrapper_of, table, setting}
 use Rattle.model.specs.WellFormed.{counts, wf_particle, ready}
-use Rattle.model.specs.Process.{Mark, part, lobby, shelf, enterer, passer, inert, own_name, site_of, code_of, env_of, numbered, by_side, is_gone, places_of, all_places, conf_as}
+use Rattle.model.specs.Process.{Mark, part, enterer, passer, inert, own_name, site_of, code_of, env_of, numbered, by_side, is_gone, places_of, all_places, conf_as}
 use Rattle.model.specs.Process.{part_item, msg_proc, msg_item, shelf_item, shelf_items, side_items, enters, passes, takes, forwarders}
 use Rattle.calculus.proofs.Trees.{Wf, Behind, Reach}
 use Rattle.calculus.proofs.Moves.{Rooted}

@@ -20,7 +20,7 @@ use Rattle.model.specs.Table.{Table}
 use Rattle.model.specs.Side.{Particle, output, input, Message, down, arrived, leaving, Core, Status as SPlace}
 use Rattle.model.specs.Wrapper.{Wrapper}
 use Rattle.model.specs.Step.{copied}
-use Rattle.model.specs.Process.{Mark, lobby, inert, leaves_as, val_of, numbered, part_item, msg_proc, msg_item, side_items}
+use Rattle.model.specs.Process.{Mark, inert, leaves_as, val_of, numbered, part_item, msg_proc, msg_item, side_items}
 use Rattle.calculus.proofs.Trees.{Wf, Reach, Has}
 use Rattle.calculus.proofs.Moves.{Rooted}
 use Rattle.calculus.proofs.Parallels.{recv_of}

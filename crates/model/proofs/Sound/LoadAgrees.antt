@@ -6,7 +6,7 @@ use mathlib.Core.Logic.{inr}
 use Prim.Native.Nat.{ℕ, ◌<◌, ◌≤◌}
 use native.Mathlib.Omega.{arith}
 use borrow.Author.Tests.{leb-true, ltb-true, ne_eqb}
-use lib.Dec.{ltb, eqb, T}
+use lib.Dec.{ltb, eqb}
 use Rattle.calculus.specs.Syntax.{Val, nm, var, Proc, AllN, ren, closed, remark, under, the_bound}
 use Rattle.calculus.specs.Syntax.{nil as pnil, par as ppar}
 use Rattle.calculus.specs.Congruence.{◌≋◌, rfl, symm, trans, in_par, in_box, in_new, par_nil}

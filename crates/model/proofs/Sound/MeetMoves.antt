@@ -48,7 +48,6 @@ use Rattle.model.proofs.Sound.Substitutions.{name_word, tag_words}
 use Rattle.model.proofs.Sound.Matching.{Bound, bound, env_pat}
 use Rattle.model.proofs.Sound.BoxOrder.{Orient}
 use Rattle.model.proofs.Sound.ParticlePairs.{leaves, go_meet}
-use Rattle.model.proofs.Sound.UnfoldingGrows.{mt}
 use Rattle.model.proofs.Sound.MeetTargets.{fit_comp, grown_goes}
 
 -- an input's two ends, by mode

@@ -10,7 +10,7 @@ use lib.Dec.{eqb}
 use lib.ListN.{length, get_or, length-map}
 use Rattle.calculus.specs.Syntax.{Proc, remark, comp, received_child}
 use Rattle.calculus.specs.Congruence.{◌≋◌, rfl, symm, trans}
-use Rattle.calculus.specs.Transitions.{In, restrict, tau, Participants, names}
+use Rattle.calculus.specs.Transitions.{In, restrict, tau, Participants}
 use Rattle.calculus.specs.Transitions.{Step as Trans}
 use Rattle.calculus.specs.Tree.{fill}
 use Rattle.calculus.specs.Tree.{Item, select, Conf}
@@ -18,7 +18,7 @@ use Rattle.calculus.proofs.Unfolding.{unfold'}
 use Rattle.calculus.specs.Tree.{process}
 use Rattle.calculus.specs.Named.{proc}
 use Rattle.model.specs.Basics.{every, has}
-use Rattle.model.specs.Values.{items, Env}
+use Rattle.model.specs.Values.{Env}
 use Rattle.model.specs.Table.{Table, Term}
 use Rattle.model.specs.Side.{Particle, output, input, Message, Contents, Core, State, side as side_in, Tag as STag, within, to_parent, from_parent, to_child, from_child}
 use Rattle.model.specs.Unfolding.{defined, unfolds}

@@ -6,7 +6,7 @@ use mathlib.Core.Option.{some}
 use Prim.Native.Nat.{ℕ, ◌<◌}
 use native.Mathlib.Omega.{arith}
 use borrow.Author.Tests.{lt-ltb, le-ltb, ltb-true, ltb-false}
-use lib.Dec.{ltb, T}
+use lib.Dec.{ltb}
 use lib.ListN.{get_elem?}
 use Rattle.calculus.specs.Syntax.{Val, Proc, Tag, comp, remark}
 use Rattle.calculus.specs.Syntax.{nil as pnil, par as ppar}

@@ -20,7 +20,7 @@ use Rattle.model.specs.Side.{Particle, output, input, Box, Message, down, arrive
 use Rattle.model.specs.Load.{Setting}
 use Rattle.model.specs.Step.{Moved, silent, enters, leaving_on, copied, enter, go_down, is_down, up_from, up_particle, up, descend_particle, descend, pass, leave, is_arrived, is_leaving, is_to_parent, is_to_child}
 use Rattle.model.specs.Wrapper.{Wrapper, shelves}
-use Rattle.model.specs.Process.{Mark, part, boxed, lobby, shelf, enterer, passer, own_name, leaves_as, site_of, val_of, part_item, msg_proc, side_items, place_of, enters as entering, passes as passing}
+use Rattle.model.specs.Process.{Mark, part, boxed, lobby, enterer, passer, own_name, leaves_as, site_of, val_of, part_item, msg_proc, side_items, place_of, enters as entering, passes as passing}
 use Rattle.calculus.proofs.Trees.{Wf, Reach, Has}
 use Rattle.calculus.proofs.Moves.{Rooted}
 use Rattle.calculus.proofs.Bags.{item, Bag, bag_app, bag_refl, bag_eq, bag_trans, bag_sym, bag_cons, bag_mid, ritems, ritems_app}

@@ -14,13 +14,13 @@ use Rattle.calculus.specs.Syntax.{parent as iparent}
 use Rattle.calculus.specs.Transitions.{Label, tau, send, recv, Participants, lone, joint}
 use Rattle.calculus.specs.Tree.{Item}
 use Rattle.model.specs.Basics.{◌or◌, done, has, remove}
-use Rattle.model.specs.Values.{is_value, items}
+use Rattle.model.specs.Values.{is_value}
 use Rattle.model.specs.Side.{Message, Core, State, down, leaving, limits}
 use Rattle.model.specs.Wrapper.{Route}
 use Rattle.model.specs.Load.{Composition, Setting, wrapper_of}
 use Rattle.model.specs.WellFormed.{counts, shelf_of, wf_message, wf_value, ready}
 use Rattle.model.specs.Step.{Step, Moved, silent, leaves, logs, leaving_on, is_leaving, copied, labelled, marks, mark_all, known, local, route_to, takes, inner, meet, enter}
-use Rattle.model.specs.Process.{Mark, part, boxed, lobby, shelf, enterer, passer, inert, leaves_as, is_gone, val_of, conf_of}
+use Rattle.model.specs.Process.{Mark, part, boxed, lobby, enterer, passer, inert, leaves_as, is_gone, val_of, conf_of}
 use Rattle.model.specs.Agreement.{At, Asks, asks_in, asks_out, asks_tau}
 use Rattle.calculus.proofs.Trees.{Reach}
 use Rattle.calculus.proofs.Bags.{bag_eq}

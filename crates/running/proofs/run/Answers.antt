@@ -28,8 +28,8 @@ run_loaded-requires c =
     let loads : Composition = composition c.args.wrapper (map (λ c. c.now) c.args.nodes) (map (λ c. c.now) c.args.pools) in
     let steps-counted : count_of (steps_of c.args.steps.now) ≡ some c.in-Steps.n = sym c.count_steps-counted.ensures ∙ ap counted_of c.in-Steps.is in
     let load_ok : is_ok (load loads) ≡ true =
-        let v = c.load_verdict-o in
-        ok_loads (load loads) v.result v.ensures c.in-Ok.is in
+    let v = c.load_verdict-o in
+    ok_loads (load loads) v.result v.ensures c.in-Ok.is in
     let counted = steps-counted in
     (load_ok, record { count = counted; room = has_room _ _ c.if-out-n.false })
 
@@ -49,8 +49,8 @@ returns-in-Ok c =
     let loads : Composition = composition c.args.wrapper (map (λ c. c.now) c.args.nodes) (map (λ c. c.now) c.args.pools) in
     let steps-counted : count_of (steps_of c.args.steps.now) ≡ some c.in-Steps.n = sym c.count_steps-counted.ensures ∙ ap counted_of c.in-Steps.is in
     let load_ok : is_ok (load loads) ≡ true =
-        let v = c.load_verdict-o in
-        ok_loads (load loads) v.result v.ensures c.in-Ok.is in
+    let v = c.load_verdict-o in
+    ok_loads (load loads) v.result v.ensures c.in-Ok.is in
     let l = c.args.steps.now in
     let h = has_steps (steps_of l) _ steps-counted in
     let room = c.if-out-n.false in

@@ -17,7 +17,7 @@ pub returns-in-Ok : goal.returns-in-Ok
 returns-in-Ok c =
     let loads : Composition = composition c.args.wrapper (map (λ c. c.now) c.args.nodes) (map (λ c. c.now) c.args.pools) in
     let taken : is_ok (load loads) ≡ true =
-        let v = c.load_verdict-o in
-        ok_loads (load loads) v.result v.ensures c.in-Ok.is in
+    let v = c.load_verdict-o in
+    ok_loads (load loads) v.result v.ensures c.in-Ok.is in
     let end = c.end_loaded in
     after_ended loads _ _ _ taken end.result end.ensures _ _ c.told_end.ensures

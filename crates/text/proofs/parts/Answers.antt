@@ -1,7 +1,7 @@
 -- The parts of the sides below k stand in the array.
 use mathlib.Core.Path.{◌≡◌, refl, sym, ap, ◌∙◌}
 use mathlib.Core.List.{List, [], map}
-use Prim.Native.Nat.{ℕ, ◌-◌, ◌*◌}
+use Prim.Native.Nat.{ℕ, ◌*◌}
 use lib.ListN.{length, get_or, set, take, drop, length-map, length-set}
 use Rattle.sides.proofs.Lists.{map_set}
 use Rattle.text.proofs.TextLaws.{part_inside, part_size, part_more}

@@ -1,6 +1,5 @@
 -- The mutual pair that matches an item of a pattern and the remaining parts of a tuple. What is left of the pattern falls.
 use mathlib.Core.Path.{◌≡◌, sym, ◌∙◌}
-use Prim.Native.Nat.{◌-◌}
 use native.Mathlib.Omega.{arith}
 use borrow.Author.Rules.{rules}
 use borrow.Author.Tests.{leb-true}

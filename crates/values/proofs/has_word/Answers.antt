@@ -1,7 +1,5 @@
 -- The loop has not met w among the words passed.
 use mathlib.Core.Path.{refl}
-use mathlib.Core.Bool.{false}
-use Prim.Native.Nat.{◌-◌}
 use Rattle.values.proofs.Names.{has_here, has_more, has_none}
 use borrow.Author.Rules.{rules}
 use Rattle.values.proofs.has_word.Goals as goal

@@ -1,6 +1,5 @@
 -- The item at place i ends where the n items from place j on end. At least as many words are left as items are still to come.
 use mathlib.Core.Path.{◌≡◌, sym, ◌∙◌}
-use Prim.Native.Nat.{◌-◌}
 use native.Mathlib.Omega.{arith}
 use borrow.Author.Tests.{leb-true}
 use Rattle.model.proofs.Basics.Tests.{fst}

@@ -3,7 +3,7 @@ use mathlib.Core.Path.{◌≡◌, sym, ap, ◌∙◌}
 use mathlib.Core.Bool.{true, false}
 use mathlib.Core.List.{List, map, ◌++◌}
 use mathlib.Core.Option.{some}
-use Prim.Native.Nat.{ℕ, ◌+◌, ◌-◌, ◌<◌, ◌≤◌}
+use Prim.Native.Nat.{ℕ, ◌<◌, ◌≤◌}
 use native.Mathlib.Omega.{arith}
 use lib.ListN.{length}
 use Rattle.model.specs.Load.{Composition}
@@ -40,19 +40,19 @@ side_at-side-requires c =
 pub bounds-rests-i : goal.bounds-rests-i
 bounds-rests-i c =
     let within : c.place_asked-i.result < 2 =
-        omega (arith, c.place_asked-i.ensures, place_within c.args.wrapper c.side_at-side.result) in
+    omega (arith, c.place_asked-i.ensures, place_within c.args.wrapper c.side_at-side.result) in
     omega (arith, within, c.loop-p.invariant.3.lent.rests)
 
 pub bounds-nodes-i : goal.bounds-nodes-i
 bounds-nodes-i c =
     let within : c.place_asked-i.result < 2 =
-        omega (arith, c.place_asked-i.ensures, place_within c.args.wrapper c.side_at-side.result) in
+    omega (arith, c.place_asked-i.ensures, place_within c.args.wrapper c.side_at-side.result) in
     within
 
 pub bounds-pools-i : goal.bounds-pools-i
 bounds-pools-i c =
     let within : c.place_asked-i.result < 2 =
-        omega (arith, c.place_asked-i.ensures, place_within c.args.wrapper c.side_at-side.result) in
+    omega (arith, c.place_asked-i.ensures, place_within c.args.wrapper c.side_at-side.result) in
     within
 
 pub step_at-d-requires : goal.step_at-d-requires
@@ -73,12 +73,12 @@ returns-then-is_refused c =
     let found : record_end 4 c.args.steps.now c.loop-p.p ≡ some c.in-At.e = sym c.record_end-end.ensures ∙ ap end_of c.in-At.is in
     let loads : Composition = composition c.args.wrapper (map (λ c. c.now) c.args.nodes) (map (λ c. c.now) c.args.pools) in
     let answer : Answer =
-        let l = c.loop-p in
-        (step loads (state_in l.rows l.rests l.marks) (step_at c.args.steps.now l.p)).answer in
+    let l = c.loop-p in
+    (step loads (state_in l.rows l.rests l.marks) (step_at c.args.steps.now l.p)).answer in
     let answered : (given_for c.step_at-d.result.said c.side_at-side.result (view_value c.step_at-d.result.value) ≡ given answer) × (c.step_at-d.result.value.len ≤ 16) =
-        let l = c.loop-p in
-        let made = makes (λ c. c.now) _ c.args.nodes c.args.pools l.invariant.3 nodes-long pools-long _ _ c.place_asked-i.ensures _ _ _ _ c.side_at-side.ensures _ _ _ c.step_at-d.ensures in
-        (made.answer, made.short) in
+    let l = c.loop-p in
+    let made = makes (λ c. c.now) _ c.args.nodes c.args.pools l.invariant.3 nodes-long pools-long _ _ c.place_asked-i.ensures _ _ _ _ c.side_at-side.ensures _ _ _ c.step_at-d.ensures in
+    (made.answer, made.short) in
     let l = c.loop-p in
     let illegal = label_by answer c.step_at-d.result.said _ (view_value c.step_at-d.result.value) answered.0 true (sym c.is_refused.ensures ∙ c.if-is_refused.true) in
     step_illegal l.invariant.4 _ found illegal
@@ -86,7 +86,7 @@ returns-then-is_refused c =
 pub bounds-rests-i-in-loop-p : goal.bounds-rests-i-in-loop-p
 bounds-rests-i-in-loop-p c =
     let within : c.place_asked-i.result < 2 =
-        omega (arith, c.place_asked-i.ensures, place_within c.args.wrapper c.side_at-side.result) in
+    omega (arith, c.place_asked-i.ensures, place_within c.args.wrapper c.side_at-side.result) in
     omega (arith, within, c.loop-p.invariant.3.lent.rests)
 
 pub agreed_past-agreed-requires : goal.agreed_past-agreed-requires
@@ -95,12 +95,12 @@ agreed_past-agreed-requires c =
     let pools-long : length c.args.pools ≡ 2 = search (rules, c.well_formed) in
     let loads : Composition = composition c.args.wrapper (map (λ c. c.now) c.args.nodes) (map (λ c. c.now) c.args.pools) in
     let answer : Answer =
-        let l = c.loop-p in
-        (step loads (state_in l.rows l.rests l.marks) (step_at c.args.steps.now l.p)).answer in
+    let l = c.loop-p in
+    (step loads (state_in l.rows l.rests l.marks) (step_at c.args.steps.now l.p)).answer in
     let answered : (given_for c.step_at-d.result.said c.side_at-side.result (view_value c.step_at-d.result.value) ≡ given answer) × (c.step_at-d.result.value.len ≤ 16) =
-        let l = c.loop-p in
-        let made = makes (λ c. c.now) _ c.args.nodes c.args.pools l.invariant.3 nodes-long pools-long _ _ c.place_asked-i.ensures _ _ _ _ c.side_at-side.ensures _ _ _ c.step_at-d.ensures in
-        (made.answer, made.short) in
+    let l = c.loop-p in
+    let made = makes (λ c. c.now) _ c.args.nodes c.args.pools l.invariant.3 nodes-long pools-long _ _ c.place_asked-i.ensures _ _ _ _ c.side_at-side.ensures _ _ _ c.step_at-d.ensures in
+    (made.answer, made.short) in
     (c.loop-p.invariant.2, answered.1)
 
 -- the count stays below the place, which is a number of the machine's
@@ -123,12 +123,12 @@ loop-p-preserved c =
     let found : record_end 4 c.args.steps.now c.loop-p.p ≡ some c.in-At.e = sym c.record_end-end.ensures ∙ ap end_of c.in-At.is in
     let loads : Composition = composition c.args.wrapper (map (λ c. c.now) c.args.nodes) (map (λ c. c.now) c.args.pools) in
     let answer : Answer =
-        let l = c.loop-p in
-        (step loads (state_in l.rows l.rests l.marks) (step_at c.args.steps.now l.p)).answer in
+    let l = c.loop-p in
+    (step loads (state_in l.rows l.rests l.marks) (step_at c.args.steps.now l.p)).answer in
     let answered : (given_for c.step_at-d.result.said c.side_at-side.result (view_value c.step_at-d.result.value) ≡ given answer) × (c.step_at-d.result.value.len ≤ 16) =
-        let l = c.loop-p in
-        let made = makes (λ c. c.now) _ c.args.nodes c.args.pools l.invariant.3 nodes-long pools-long _ _ c.place_asked-i.ensures _ _ _ _ c.side_at-side.ensures _ _ _ c.step_at-d.ensures in
-        (made.answer, made.short) in
+    let l = c.loop-p in
+    let made = makes (λ c. c.now) _ c.args.nodes c.args.pools l.invariant.3 nodes-long pools-long _ _ c.place_asked-i.ensures _ _ _ _ c.side_at-side.ensures _ _ _ c.step_at-d.ensures in
+    (made.answer, made.short) in
     let l = c.loop-p in
     let f = found in
     let at = found_end _ _ _ _ f in

@@ -1,16 +1,16 @@
 use mathlib.Core.Path.{◌≡◌, sym, ap, ◌∙◌}
-use mathlib.Core.Bool.{Bool, true, false, cond}
-use mathlib.Core.List.{List, [], ◌∷◌, ◌++◌}
+use mathlib.Core.Bool.{true, false}
+use mathlib.Core.List.{List, ◌∷◌, ◌++◌}
 use mathlib.Core.Option.{some}
 use Prim.Native.Nat.{ℕ, ◌+◌}
 use native.Mathlib.Omega.{arith}
 use borrow.Author.Tests.{not-true, not-false}
 use lib.ListN.{length, get_or, take, drop}
-use Rattle.claims.specs.Claims.{records_past, same_words, label_fault}
+use Rattle.claims.specs.Claims.{same_words}
 use Rattle.values.specs.Env.{view_value}
 use Rattle.execution.specs.Execution.{record_end, end_of}
 use Rattle.execution.proofs.RecordEnds.{found_end}
-use Rattle.checking.specs.Checking.{is_visible, channel_of, shown, fault_from}
+use Rattle.checking.specs.Checking.{is_visible, channel_of, fault_from}
 use Rattle.checking.proofs.LabelLaws.{missing, agrees, parts, fault_parted, shown_when, shown_first}
 use Rattle.checking.proofs.claimed_labels.agreed_past.Goals as goal
 
@@ -38,9 +38,9 @@ returns-then-is_label c =
     let seen : is_visible c.args.said ≡ true = sym c.is_visible.ensures ∙ not-false _ c.if-not-is_visible.false-raw in
     let found : record_end 2 c.args.labels.now c.args.a.at ≡ some c.in-At.e = sym c.record_end-end.ensures ∙ ap end_of c.in-At.is in
     let compared : c.is_label.result ≡ same_words label (take (3 + get_or c.args.labels.now (c.args.a.at + 2) 0) (drop c.args.a.at c.args.labels.now)) =
-        let v = view_value c.args.v in
-        let there : List ℕ = take (3 + get_or c.args.labels.now (c.args.a.at + 2) 0) (drop c.args.a.at c.args.labels.now) in
-        c.is_label.ensures ∙ ap (λ (n : ℕ). same_words (n ∷ c.args.side ∷ length v ∷ v) there) c.channel.ensures in
+    let v = view_value c.args.v in
+    let there : List ℕ = take (3 + get_or c.args.labels.now (c.args.a.at + 2) 0) (drop c.args.a.at c.args.labels.now) in
+    c.is_label.ensures ∙ ap (λ (n : ℕ). same_words (n ∷ c.args.side ∷ length v ∷ v) there) c.channel.ensures in
     let f = found in
     let at = found_end _ _ _ _ f in
     let same = sym c.if-is_label.true ∙ compared in (
@@ -55,9 +55,9 @@ returns-else-is_label c =
     let seen : is_visible c.args.said ≡ true = sym c.is_visible.ensures ∙ not-false _ c.if-not-is_visible.false-raw in
     let found : record_end 2 c.args.labels.now c.args.a.at ≡ some c.in-At.e = sym c.record_end-end.ensures ∙ ap end_of c.in-At.is in
     let compared : c.is_label.result ≡ same_words label (take (3 + get_or c.args.labels.now (c.args.a.at + 2) 0) (drop c.args.a.at c.args.labels.now)) =
-        let v = view_value c.args.v in
-        let there : List ℕ = take (3 + get_or c.args.labels.now (c.args.a.at + 2) 0) (drop c.args.a.at c.args.labels.now) in
-        c.is_label.ensures ∙ ap (λ (n : ℕ). same_words (n ∷ c.args.side ∷ length v ∷ v) there) c.channel.ensures in
+    let v = view_value c.args.v in
+    let there : List ℕ = take (3 + get_or c.args.labels.now (c.args.a.at + 2) 0) (drop c.args.a.at c.args.labels.now) in
+    c.is_label.ensures ∙ ap (λ (n : ℕ). same_words (n ∷ c.args.side ∷ length v ∷ v) there) c.channel.ensures in
     let differ = sym c.if-is_label.false ∙ compared in (
       record { few = c.requires.0.few; within = c.requires.0.within },
       λ vs. parts c.args.labels.now c.args.a.at c.args.a.count label vs _ found differ ∙ sym (shown_first c.args.labels.now c.args.a c.args.said c.args.side (view_value c.args.v) whole seen vs),

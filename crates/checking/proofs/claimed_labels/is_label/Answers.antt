@@ -22,8 +22,8 @@ returns-then-labels-at-2 c =
 pub returns-then-wide-v : goal.returns-then-wide-v
 returns-then-wide-v c =
     let value_long : length (view_value c.args.v) ≡ c.args.v.len =
-        let all : length c.args.v.words ≡ 16 = search (rules, c.well_formed) in
-        length-take-le c.args.v.len c.args.v.words (omega (arith, all, c.requires.1)) in
+    let all : length c.args.v.words ≡ 16 = search (rules, c.well_formed) in
+    length-take-le c.args.v.len c.args.v.words (omega (arith, all, c.requires.1)) in
     let a = c.args in
     let channel = c.if-labels-at.false in
     let side = c.if-labels-at-2.false in
@@ -38,8 +38,8 @@ same_words-requires c =
 pub returns : goal.returns
 returns c =
     let value_long : length (view_value c.args.v) ≡ c.args.v.len =
-        let all : length c.args.v.words ≡ 16 = search (rules, c.well_formed) in
-        length-take-le c.args.v.len c.args.v.words (omega (arith, all, c.requires.1)) in
+    let all : length c.args.v.words ≡ 16 = search (rules, c.well_formed) in
+    length-take-le c.args.v.len c.args.v.words (omega (arith, all, c.requires.1)) in
     let counts : get_or c.args.labels.now (c.args.at + 2) 0 ≡ c.args.v.len = sym c.wide.ensures ∙ c.if-wide-v.false in
     let a = c.args in
     let l = a.labels.now in

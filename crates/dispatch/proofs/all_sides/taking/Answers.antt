@@ -49,64 +49,64 @@ returns-in_default-f c =
 pub offset_bounds-rows-p : goal.offset_bounds-rows-p
 offset_bounds-rows-p c =
     let source : let a = c.args in (route.Side (c.in-At-f.p + 1) ≡ source_for (described a.wrapper) a.side a.j) × (c.in-At-f.p + 1 ≤ length all_sides) =
-        let a = c.args in
-        let r = c.route_offer-f in
-        let from = route_at (described a.wrapper) a.side a.j r.result r.ensures _ c.in-At-f.is in
-        (from, (source_in a.wrapper a.side a.j _ from).1) in
+    let a = c.args in
+    let r = c.route_offer-f in
+    let from = route_at (described a.wrapper) a.side a.j r.result r.ensures _ c.in-At-f.is in
+    (from, (source_in a.wrapper a.side a.j _ from).1) in
     omega (arith, source.1)
 
 pub bounds-rows-p : goal.bounds-rows-p
 bounds-rows-p c =
     let source : let a = c.args in (route.Side (c.in-At-f.p + 1) ≡ source_for (described a.wrapper) a.side a.j) × (c.in-At-f.p + 1 ≤ length all_sides) =
-        let a = c.args in
-        let r = c.route_offer-f in
-        let from = route_at (described a.wrapper) a.side a.j r.result r.ensures _ c.in-At-f.is in
-        (from, (source_in a.wrapper a.side a.j _ from).1) in
+    let a = c.args in
+    let r = c.route_offer-f in
+    let from = route_at (described a.wrapper) a.side a.j r.result r.ensures _ c.in-At-f.is in
+    (from, (source_in a.wrapper a.side a.j _ from).1) in
     omega (arith, source.1, c.requires.0)
 
 pub offset_bounds-shelved-p : goal.offset_bounds-shelved-p
 offset_bounds-shelved-p c =
     let source : let a = c.args in (route.Side (c.in-At-f.p + 1) ≡ source_for (described a.wrapper) a.side a.j) × (c.in-At-f.p + 1 ≤ length all_sides) =
-        let a = c.args in
-        let r = c.route_offer-f in
-        let from = route_at (described a.wrapper) a.side a.j r.result r.ensures _ c.in-At-f.is in
-        (from, (source_in a.wrapper a.side a.j _ from).1) in
+    let a = c.args in
+    let r = c.route_offer-f in
+    let from = route_at (described a.wrapper) a.side a.j r.result r.ensures _ c.in-At-f.is in
+    (from, (source_in a.wrapper a.side a.j _ from).1) in
     omega (arith, source.1)
 
 pub bounds-shelved-p : goal.bounds-shelved-p
 bounds-shelved-p c =
     let source : let a = c.args in (route.Side (c.in-At-f.p + 1) ≡ source_for (described a.wrapper) a.side a.j) × (c.in-At-f.p + 1 ≤ length all_sides) =
-        let a = c.args in
-        let r = c.route_offer-f in
-        let from = route_at (described a.wrapper) a.side a.j r.result r.ensures _ c.in-At-f.is in
-        (from, (source_in a.wrapper a.side a.j _ from).1) in
+    let a = c.args in
+    let r = c.route_offer-f in
+    let from = route_at (described a.wrapper) a.side a.j r.result r.ensures _ c.in-At-f.is in
+    (from, (source_in a.wrapper a.side a.j _ from).1) in
     omega (arith, source.1)
 
 pub overflow_add-p : goal.overflow_add-p
 overflow_add-p c =
     let source : let a = c.args in (route.Side (c.in-At-f.p + 1) ≡ source_for (described a.wrapper) a.side a.j) × (c.in-At-f.p + 1 ≤ length all_sides) =
-        let a = c.args in
-        let r = c.route_offer-f in
-        let from = route_at (described a.wrapper) a.side a.j r.result r.ensures _ c.in-At-f.is in
-        (from, (source_in a.wrapper a.side a.j _ from).1) in
+    let a = c.args in
+    let r = c.route_offer-f in
+    let from = route_at (described a.wrapper) a.side a.j r.result r.ensures _ c.in-At-f.is in
+    (from, (source_in a.wrapper a.side a.j _ from).1) in
     omega (arith, source.1)
 
 pub take-requires : goal.take-requires
 take-requires c =
     let source : let a = c.args in (route.Side (c.in-At-f.p + 1) ≡ source_for (described a.wrapper) a.side a.j) × (c.in-At-f.p + 1 ≤ length all_sides) =
-        let a = c.args in
-        let r = c.route_offer-f in
-        let from = route_at (described a.wrapper) a.side a.j r.result r.ensures _ c.in-At-f.is in
-        (from, (source_in a.wrapper a.side a.j _ from).1) in
+    let a = c.args in
+    let r = c.route_offer-f in
+    let from = route_at (described a.wrapper) a.side a.j r.result r.ensures _ c.in-At-f.is in
+    (from, (source_in a.wrapper a.side a.j _ from).1) in
     (c.requires.2, source_is c.args.rows.now c.args.shelved _ c.requires.3 source.1)
 
 pub returns : goal.returns
 returns c =
     let source : let a = c.args in (route.Side (c.in-At-f.p + 1) ≡ source_for (described a.wrapper) a.side a.j) × (c.in-At-f.p + 1 ≤ length all_sides) =
-        let a = c.args in
-        let r = c.route_offer-f in
-        let from = route_at (described a.wrapper) a.side a.j r.result r.ensures _ c.in-At-f.is in
-        (from, (source_in a.wrapper a.side a.j _ from).1) in
+    let a = c.args in
+    let r = c.route_offer-f in
+    let from = route_at (described a.wrapper) a.side a.j r.result r.ensures _ c.in-At-f.is in
+    (from, (source_in a.wrapper a.side a.j _ from).1) in
     λ nodes pool ms n.
     let ls = c.args.rows.now in
     let ns = c.args.shelved in

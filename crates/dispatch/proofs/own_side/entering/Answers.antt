@@ -25,17 +25,17 @@ returns-in_default c =
 pub slice_bounds-enter-end : goal.slice_bounds-enter-end
 slice_bounds-enter-end c =
     let found : (c.in-At.n ≡ length c.args.words.now) × ((c.args.i ≡ 0) × (c.args.j ≡ 0)) =
-        let a = c.args in
-        let w = c.no_place_offer-a in
-        if_at ((a.i ≡ 0) × (a.j ≡ 0)) (length a.words.now) 10 w.result w.ensures _ c.in-At.is in
+    let a = c.args in
+    let w = c.no_place_offer-a in
+    if_at ((a.i ≡ 0) × (a.j ≡ 0)) (length a.words.now) 10 w.result w.ensures _ c.in-At.is in
     sym (length-take-le _ c.args.words.now (omega (arith, found.0)))
 
 pub returns : goal.returns
 returns c =
     let found : (c.in-At.n ≡ length c.args.words.now) × ((c.args.i ≡ 0) × (c.args.j ≡ 0)) =
-        let a = c.args in
-        let w = c.no_place_offer-a in
-        if_at ((a.i ≡ 0) × (a.j ≡ 0)) (length a.words.now) 10 w.result w.ensures _ c.in-At.is in
+    let a = c.args in
+    let w = c.no_place_offer-a in
+    if_at ((a.i ≡ 0) × (a.j ≡ 0)) (length a.words.now) 10 w.result w.ensures _ c.in-At.is in
     λ side ns ps sh n.
     let a = c.args in
     let l = a.rows.now in

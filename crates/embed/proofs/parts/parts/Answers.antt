@@ -1,7 +1,7 @@
 -- The parts of the sides below k stand in the array.
 use mathlib.Core.Path.{◌≡◌, refl, sym, ap, ◌∙◌}
 use mathlib.Core.List.{List, [], map}
-use Prim.Native.Nat.{ℕ, ◌+◌, ◌-◌, ◌*◌}
+use Prim.Native.Nat.{ℕ, ◌+◌, ◌*◌}
 use lib.ListN.{length, get_or, set, length-map, length-set}
 use Rattle.model.specs.Wrapper.{all_sides}
 use Rattle.sides.proofs.Lists.{map_set}

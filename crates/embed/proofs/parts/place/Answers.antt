@@ -1,6 +1,5 @@
 -- `at` is the sum of the first i lengths, and inside the words.
 use mathlib.Core.Path.{sym}
-use Prim.Native.Nat.{◌-◌}
 use lib.ListN.{length}
 use Rattle.embed.proofs.PartLaws.{total_none, total_more, no_length_left, past_the_end, all_added}
 use native.Mathlib.Omega.{arith}

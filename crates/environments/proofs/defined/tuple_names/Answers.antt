@@ -1,7 +1,7 @@
 -- Each slot's name is put into the set or taken out in turn; a number past 63 leaves the set as it is.
 use mathlib.Core.Path.{◌≡◌, sym, ap, ap₂, ◌∙◌}
 use mathlib.Core.Bool.{Bool, false}
-use Prim.Native.Nat.{ℕ, ◌-◌}
+use Prim.Native.Nat.{ℕ}
 use lib.ListN.{length, set, length-set, replicate, get_or, get_or-replicate}
 use lib.Seq.{set_out}
 use Rattle.values.specs.Env.{tuple_of}

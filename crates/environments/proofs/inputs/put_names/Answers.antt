@@ -1,5 +1,4 @@
 use mathlib.Core.Path.{◌≡◌, refl}
-use Prim.Native.Nat.{◌-◌}
 use lib.ListN.{length}
 use Rattle.environments.proofs.Waiting.{name_turn, names_count, names_done}
 use borrow.Author.Rules.{rules}

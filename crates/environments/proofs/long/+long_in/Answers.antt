@@ -1,7 +1,6 @@
 use Rattle.values.specs.Span.{leaf_of}
 use Rattle.tables.proofs.WalkLaws.{on_left, on_right, on_box, on_new}
 use Rattle.environments.proofs.LongWalk.{left_yes, left_no, box_is, new_is, out_is, rest_is}
-use Prim.Native.Nat.{◌-◌}
 use Rattle.environments.proofs.long.+long_in.Goals as goal
 
 pub long_in-requires : goal.long_in-requires

@@ -1,5 +1,4 @@
 use mathlib.Core.Path.{sym, ◌∙◌}
-use Prim.Native.Nat.{◌-◌}
 use borrow.Author.Tests.{not-true, not-false, leb-true, leb-false}
 use Rattle.environments.proofs.Sizes.{size_none, size_next, size_over, size_all}
 use borrow.Author.Rules.{rules}

@@ -1,6 +1,6 @@
 -- Each slot's name has its value's size in turn; a number past 63 leaves the sizes as they are.
 use mathlib.Core.Path.{◌≡◌, sym, ap, ap₂, ◌∙◌}
-use Prim.Native.Nat.{ℕ, ◌-◌}
+use Prim.Native.Nat.{ℕ}
 use lib.ListN.{length, set, length-set, replicate, get_or, get_or-replicate}
 use lib.Seq.{set_out}
 use Rattle.environments.proofs.Slots.{placed, names_none, names_next, names_all, size_short, size_is}

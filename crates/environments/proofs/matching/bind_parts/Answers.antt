@@ -1,5 +1,4 @@
 use mathlib.Core.Path.{◌≡◌, ap, ◌∙◌}
-use Prim.Native.Nat.{◌-◌}
 use lib.ListN.{length, length-take, length-drop}
 use Rattle.values.proofs.Lists.{unmap}
 use Rattle.environments.proofs.Bindings.{grown_none, grown_length, grown_other, grown_room, grown_name, grown_all}

@@ -1,6 +1,6 @@
 use mathlib.Core.Path.{◌≡◌, refl}
 use mathlib.Core.List.{map}
-use Prim.Native.Nat.{◌-◌, ◌<◌}
+use Prim.Native.Nat.{◌<◌}
 use lib.ListN.{length}
 use Rattle.model.specs.Load.{Composition}
 use Rattle.wrappers.specs.Compositions.{composition}
@@ -19,11 +19,11 @@ pub begin-r-requires : goal.begin-r-requires
 begin-r-requires c =
     let loads : Composition = composition c.args.wrapper (map (λ c. c.now) c.args.nodes) (map (λ c. c.now) c.args.pools) in
     let in-nodes : c.loop-k.k < length c.args.nodes =
-        let long : length c.args.nodes ≡ 2 = search (rules, c.well_formed) in
-        omega (arith, c.loop-k-test.true, long) in
+    let long : length c.args.nodes ≡ 2 = search (rules, c.well_formed) in
+    omega (arith, c.loop-k-test.true, long) in
     let in-pools : c.loop-k.k < length c.args.pools =
-        let long : length c.args.pools ≡ 2 = search (rules, c.well_formed) in
-        omega (arith, c.loop-k-test.true, long) in
+    let long : length c.args.pools ≡ 2 = search (rules, c.well_formed) in
+    omega (arith, c.loop-k-test.true, long) in
     let can = can_begin (λ c. c.now) _ c.args.nodes c.args.pools _ _ c.number_of.ensures in-nodes in-pools _ _ (ok_taken loads c.requires.0) in
     (can, c.loop-k.invariant.1.long _ c.loop-k-test.true)
 
@@ -31,11 +31,11 @@ pub loop-k-preserved : goal.loop-k-preserved
 loop-k-preserved c =
     let loads : Composition = composition c.args.wrapper (map (λ c. c.now) c.args.nodes) (map (λ c. c.now) c.args.pools) in
     let in-nodes : c.loop-k.k < length c.args.nodes =
-        let long : length c.args.nodes ≡ 2 = search (rules, c.well_formed) in
-        omega (arith, c.loop-k-test.true, long) in
+    let long : length c.args.nodes ≡ 2 = search (rules, c.well_formed) in
+    omega (arith, c.loop-k-test.true, long) in
     let in-pools : c.loop-k.k < length c.args.pools =
-        let long : length c.args.pools ≡ 2 = search (rules, c.well_formed) in
-        omega (arith, c.loop-k-test.true, long) in
+    let long : length c.args.pools ≡ 2 = search (rules, c.well_formed) in
+    omega (arith, c.loop-k-test.true, long) in
     let is = begins_at (λ c. c.now) c.args.wrapper c.args.nodes c.args.pools _ _ c.number_of.ensures in-nodes in-pools _ _ _ _ c.begin-r.ensures in
     (search rules, begins_more loads _ _ _ _ c.loop-k.invariant.1 c.loop-k-test.true _ _ is)
 

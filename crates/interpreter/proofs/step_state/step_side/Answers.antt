@@ -1,5 +1,5 @@
 use mathlib.Core.Path.{◌≡◌, refl, ap, ◌∙◌}
-use Prim.Native.Nat.{◌-◌, ◌<◌}
+use Prim.Native.Nat.{◌<◌}
 use lib.ListN.{length, length-map}
 use Rattle.values.proofs.Lists.{unmap}
 use Rattle.sides.specs.declared.Side.{Side}

@@ -1,11 +1,11 @@
 use mathlib.Core.Path.{◌≡◌, refl, ap, ◌∙◌}
 use mathlib.Core.Bool.{Bool}
-use mathlib.Core.List.{List, map}
-use Prim.Native.Nat.{ℕ, ◌-◌, ◌≤◌, ◌<◌, ◌+◌}
+use mathlib.Core.List.{List}
+use Prim.Native.Nat.{ℕ, ◌≤◌, ◌<◌, ◌+◌}
 use lib.ListN.{length, take, length-set}
 use Rattle.values.proofs.Lists.{unmap}
 use Rattle.sides.specs.declared.Side.{Side}
-use Rattle.interpreter.proofs.StepLaws.{Filled, fill_more, fill_all, long_none, long_more, long_all}
+use Rattle.interpreter.proofs.StepLaws.{fill_more, fill_all, long_none, long_more, long_all}
 use borrow.Author.Rules.{rules}
 use native.Mathlib.Omega.{arith}
 use Rattle.interpreter.proofs.step_state.take_out.Goals as goal

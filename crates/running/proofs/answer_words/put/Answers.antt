@@ -1,5 +1,5 @@
 use mathlib.Core.Path.{◌≡◌, refl}
-use Prim.Native.Nat.{◌-◌, ◌*◌}
+use Prim.Native.Nat.{◌*◌}
 use lib.ListN.{length}
 use lib.Seq.{paste-zero}
 use Rattle.running.proofs.RunLaws.{copy_next, copy_all}

@@ -1,5 +1,4 @@
 use mathlib.Core.Path.{◌≡◌, refl}
-use Prim.Native.Nat.{◌-◌}
 use lib.ListN.{length}
 use lib.Seq.{paste-zero}
 use Rattle.running.proofs.RunLaws.{head_of, copy_next, copy_all, words_made}

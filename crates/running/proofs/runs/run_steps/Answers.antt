@@ -1,6 +1,6 @@
 -- The words written so far are those of the steps before; the state is what is lent.
 use mathlib.Core.Path.{◌≡◌, ap}
-use Prim.Native.Nat.{◌-◌, ◌<◌}
+use Prim.Native.Nat.{◌<◌}
 use lib.ListN.{length}
 use Rattle.format.specs.Words.{given_words}
 use Rattle.execution.proofs.StepsMade.{may_step, makes, place_within}
@@ -37,8 +37,7 @@ step_at-d-requires c =
     let nodes-long : length c.args.nodes ≡ 2 = search (rules, c.well_formed) in
     let pools-long : length c.args.pools ≡ 2 = search (rules, c.well_formed) in
     let l = c.loop-k in
-    let lt = c.loop-k-test.true in
-    (
+    let lt = c.loop-k-test.true in (
       may_step (λ c. c.now) _ c.args.nodes c.args.pools l.invariant.1 nodes-long pools-long _ _ c.place_asked-i.ensures _ _ _,
       record { head = next_head l.invariant.2 lt; fits = next_fits l.invariant.2 lt },
     )

@@ -1,6 +1,6 @@
 use mathlib.Core.Path.{ap, ◌∙◌}
 use mathlib.Core.List.{List}
-use Prim.Native.Nat.{ℕ, ◌-◌}
+use Prim.Native.Nat.{ℕ}
 use Rattle.model.specs.Values.{binders}
 use Rattle.values.specs.Span.{leaf_of}
 use Rattle.tables.proofs.WalkLaws.{on_left, on_right, on_box, on_new, on_body}

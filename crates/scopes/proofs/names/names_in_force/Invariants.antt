@@ -1,6 +1,6 @@
 -- `scopes::names::names_in_force` meets its contract.
 use mathlib.Core.Path.{◌≡◌}
-use Prim.Native.Nat.{◌≤◌, ◌-◌}
+use Prim.Native.Nat.{◌≤◌}
 use lib.ListN.{length}
 use Rattle.model.specs.Table.{scope, scope_up}
 use Rattle.tables.specs.Nodes.{table}

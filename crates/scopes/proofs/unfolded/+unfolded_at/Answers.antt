@@ -1,4 +1,3 @@
-use Prim.Native.Nat.{◌-◌}
 use native.Mathlib.Omega.{arith}
 use Rattle.scopes.proofs.UnfoldedLaws.{small, to_left, to_right, to_box_lem, to_new, par_is, box_is, new_is, particle_is, nil_is}
 use Rattle.scopes.proofs.unfolded.+unfolded_at.Goals as goal

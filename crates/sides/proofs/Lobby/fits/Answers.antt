@@ -1,10 +1,8 @@
 use mathlib.Core.Path.{◌≡◌, refl, sym, ◌∙◌}
 use lib.ListN.{length}
-use Prim.Native.Nat.{◌-◌}
 use borrow.Author.Tests.{not-true, not-false, leb-true}
 use Rattle.sides.proofs.Lists.{stops, fits_fails, fits_all, every_more}
 use Rattle.sides.specs.Views.{fits_message}
-use mathlib.Core.Bool.{true}
 use native.Mathlib.Omega.{arith}
 use Rattle.values.proofs.Lists.{unmap}
 use Rattle.sides.proofs.Lobby.fits.Goals as goal

@@ -1,5 +1,5 @@
 use mathlib.Core.Path.{◌≡◌}
-use Prim.Native.Nat.{◌-◌, ◌≤◌}
+use Prim.Native.Nat.{◌≤◌}
 use Rattle.sides.specs.Environments.{last_of}
 use Rattle.sides.proofs.environment.slot_of.Given as goal
 

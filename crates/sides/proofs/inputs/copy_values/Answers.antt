@@ -1,5 +1,4 @@
 use mathlib.Core.Path.{refl}
-use Prim.Native.Nat.{◌-◌}
 use Rattle.sides.proofs.Storing.{part_turn, values_stored}
 use borrow.Author.Rules.{rules}
 use native.Mathlib.Omega.{arith}

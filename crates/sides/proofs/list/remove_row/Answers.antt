@@ -1,5 +1,5 @@
 use mathlib.Core.Path.{refl}
-use Prim.Native.Nat.{◌-◌, ◌*◌}
+use Prim.Native.Nat.{◌*◌}
 use lib.ListN.{length-set}
 use Rattle.sides.proofs.Storing.{gap_turn, gap_closed}
 use borrow.Author.Rules.{rules}

@@ -1,7 +1,6 @@
 use mathlib.Core.Path.{refl, sym, ap, ◌∙◌}
-use mathlib.Core.Bool.{true}
 use mathlib.Core.List.{[]}
-use Prim.Native.Nat.{◌-◌, ◌<◌}
+use Prim.Native.Nat.{◌<◌}
 use borrow.Author.Tests.{not-true, not-false, leb-true}
 use Rattle.sides.proofs.Lists.{every_more, stops, fits_fails, fits_all}
 use Rattle.sides.specs.Layout.{rows_of, fits_row}

@@ -1,5 +1,5 @@
 use mathlib.Core.Path.{refl}
-use Prim.Native.Nat.{◌+◌, ◌-◌}
+use Prim.Native.Nat.{◌+◌}
 use Rattle.sides.proofs.Sets.{sets_turn}
 use Rattle.sides.proofs.Storing.{all_stored}
 use borrow.Author.Rules.{rules}

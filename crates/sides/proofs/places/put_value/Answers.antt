@@ -1,5 +1,4 @@
 use mathlib.Core.Path.{◌≡◌, refl}
-use Prim.Native.Nat.{◌-◌}
 use lib.ListN.{length, set}
 use Rattle.sides.proofs.Sets.{sets_turn}
 use Rattle.sides.proofs.Storing.{value_stored}

@@ -1,7 +1,4 @@
 use mathlib.Core.Path.{refl}
-use mathlib.Core.Bool.{true}
-use Prim.Native.Nat.{◌-◌}
-use Rattle.steps.specs.Asked.{may_enter}
 use Rattle.steps.proofs.EnterSteps.{may_more, may_fails, may_all}
 use borrow.Author.Rules.{rules}
 use Rattle.steps.proofs.enter_step.all_may_enter.Goals as goal

@@ -22,18 +22,18 @@ returns-in_default c =
 pub offset_bounds-l-k : goal.offset_bounds-l-k
 offset_bounds-l-k c =
     let found : (c.in-At.k ≡ c.args.i) × DownAt c.args.o c.in-At.k =
-        let a = c.args in
-        let w = c.down_offer-a in
-        offer_at (settled (go_down (core_of a.rows.now a.o) a.i)) a.i (DownAt a.o) w.result w.ensures _ c.in-At.is in
+    let a = c.args in
+    let w = c.down_offer-a in
+    offer_at (settled (go_down (core_of a.rows.now a.o) a.i)) a.i (DownAt a.o) w.result w.ensures _ c.in-At.is in
     let in-lobby : (c.in-At.k < c.args.o.lobby.len) × (c.args.o.lobby.len ≤ 16) = (found.1.held, lobby_cap c.args.rows.now c.args.o c.requires) in
     let h = in-lobby in omega (arith, h.0, h.1)
 
 pub bounds-l-k : goal.bounds-l-k
 bounds-l-k c =
     let found : (c.in-At.k ≡ c.args.i) × DownAt c.args.o c.in-At.k =
-        let a = c.args in
-        let w = c.down_offer-a in
-        offer_at (settled (go_down (core_of a.rows.now a.o) a.i)) a.i (DownAt a.o) w.result w.ensures _ c.in-At.is in
+    let a = c.args in
+    let w = c.down_offer-a in
+    offer_at (settled (go_down (core_of a.rows.now a.o) a.i)) a.i (DownAt a.o) w.result w.ensures _ c.in-At.is in
     let in-lobby : (c.in-At.k < c.args.o.lobby.len) × (c.args.o.lobby.len ≤ 16) = (found.1.held, lobby_cap c.args.rows.now c.args.o c.requires) in
     let h = in-lobby in omega (arith, h.0, h.1)
 
@@ -41,18 +41,18 @@ pub add_output-n-requires : goal.add_output-n-requires
 add_output-n-requires c =
     let full : Full c.args.o = record { msgs = search unmap } in
     let found : (c.in-At.k ≡ c.args.i) × DownAt c.args.o c.in-At.k =
-        let a = c.args in
-        let w = c.down_offer-a in
-        offer_at (settled (go_down (core_of a.rows.now a.o) a.i)) a.i (DownAt a.o) w.result w.ensures _ c.in-At.is in
+    let a = c.args in
+    let w = c.down_offer-a in
+    offer_at (settled (go_down (core_of a.rows.now a.o) a.i)) a.i (DownAt a.o) w.result w.ensures _ c.in-At.is in
     let a = found.1 in
     (c.requires.long, a.room, search rules, message_short c.args.rows.now c.args.o c.requires full _ _ a.held)
 
 pub without-requires : goal.without-requires
 without-requires c =
     let found : (c.in-At.k ≡ c.args.i) × DownAt c.args.o c.in-At.k =
-        let a = c.args in
-        let w = c.down_offer-a in
-        offer_at (settled (go_down (core_of a.rows.now a.o) a.i)) a.i (DownAt a.o) w.result w.ensures _ c.in-At.is in
+    let a = c.args in
+    let w = c.down_offer-a in
+    offer_at (settled (go_down (core_of a.rows.now a.o) a.i)) a.i (DownAt a.o) w.result w.ensures _ c.in-At.is in
     let in-lobby : (c.in-At.k < c.args.o.lobby.len) × (c.args.o.lobby.len ≤ 16) = (found.1.held, lobby_cap c.args.rows.now c.args.o c.requires) in
     in-lobby
 
@@ -61,9 +61,9 @@ returns c =
     let lobby = c.well_formed.1.0.1.1.1.1.1.1.0 in
     let full : Full c.args.o = record { msgs = search lobby } in
     let found : (c.in-At.k ≡ c.args.i) × DownAt c.args.o c.in-At.k =
-        let a = c.args in
-        let w = c.down_offer-a in
-        offer_at (settled (go_down (core_of a.rows.now a.o) a.i)) a.i (DownAt a.o) w.result w.ensures _ c.in-At.is in
+    let a = c.args in
+    let w = c.down_offer-a in
+    offer_at (settled (go_down (core_of a.rows.now a.o) a.i)) a.i (DownAt a.o) w.result w.ensures _ c.in-At.is in
     down_did c.args.rows.now c.args.o c.args.i _ found.0 c.requires full _ _ _ c.add_output-n.result _ c.without.result
     c.with_particles.result c.with_lobby.result found.1 c.add_output-n.ensures c.with_particles.ensures
     c.without.ensures c.with_lobby.ensures c.plain-2.ensures

@@ -21,27 +21,27 @@ returns-in_default c =
 pub offset_bounds-l-k : goal.offset_bounds-l-k
 offset_bounds-l-k c =
     let found : (c.in-At.k ≡ c.args.i) × LeaveAt c.args.o c.in-At.k =
-        let a = c.args in
-        let w = c.leave_offer-a in
-        offer_at (settled (leave (core_of a.rows.now a.o) a.i)) a.i (LeaveAt a.o) w.result w.ensures _ c.in-At.is in
+    let a = c.args in
+    let w = c.leave_offer-a in
+    offer_at (settled (leave (core_of a.rows.now a.o) a.i)) a.i (LeaveAt a.o) w.result w.ensures _ c.in-At.is in
     let in-lobby : (c.in-At.k < c.args.o.lobby.len) × (c.args.o.lobby.len ≤ 16) = (found.1.held, lobby_cap c.args.rows.now c.args.o c.requires) in
     let h = in-lobby in omega (arith, h.0, h.1)
 
 pub bounds-l-k : goal.bounds-l-k
 bounds-l-k c =
     let found : (c.in-At.k ≡ c.args.i) × LeaveAt c.args.o c.in-At.k =
-        let a = c.args in
-        let w = c.leave_offer-a in
-        offer_at (settled (leave (core_of a.rows.now a.o) a.i)) a.i (LeaveAt a.o) w.result w.ensures _ c.in-At.is in
+    let a = c.args in
+    let w = c.leave_offer-a in
+    offer_at (settled (leave (core_of a.rows.now a.o) a.i)) a.i (LeaveAt a.o) w.result w.ensures _ c.in-At.is in
     let in-lobby : (c.in-At.k < c.args.o.lobby.len) × (c.args.o.lobby.len ≤ 16) = (found.1.held, lobby_cap c.args.rows.now c.args.o c.requires) in
     let h = in-lobby in omega (arith, h.0, h.1)
 
 pub without-requires : goal.without-requires
 without-requires c =
     let found : (c.in-At.k ≡ c.args.i) × LeaveAt c.args.o c.in-At.k =
-        let a = c.args in
-        let w = c.leave_offer-a in
-        offer_at (settled (leave (core_of a.rows.now a.o) a.i)) a.i (LeaveAt a.o) w.result w.ensures _ c.in-At.is in
+    let a = c.args in
+    let w = c.leave_offer-a in
+    offer_at (settled (leave (core_of a.rows.now a.o) a.i)) a.i (LeaveAt a.o) w.result w.ensures _ c.in-At.is in
     let in-lobby : (c.in-At.k < c.args.o.lobby.len) × (c.args.o.lobby.len ≤ 16) = (found.1.held, lobby_cap c.args.rows.now c.args.o c.requires) in
     in-lobby
 
@@ -49,8 +49,8 @@ pub returns : goal.returns
 returns c =
     let full : Full c.args.o = record { msgs = search unmap } in
     let found : (c.in-At.k ≡ c.args.i) × LeaveAt c.args.o c.in-At.k =
-        let a = c.args in
-        let w = c.leave_offer-a in
-        offer_at (settled (leave (core_of a.rows.now a.o) a.i)) a.i (LeaveAt a.o) w.result w.ensures _ c.in-At.is in
+    let a = c.args in
+    let w = c.leave_offer-a in
+    offer_at (settled (leave (core_of a.rows.now a.o) a.i)) a.i (LeaveAt a.o) w.result w.ensures _ c.in-At.is in
     leave_did c.args.rows.now c.args.o c.args.i _ found.0 c.requires full _ _ c.leaving_on-said.result c.without.result c.with_lobby-rest.result _
     found.1 c.leaving_on-said.ensures c.without.ensures c.with_lobby-rest.ensures refl

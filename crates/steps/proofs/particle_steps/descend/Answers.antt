@@ -20,9 +20,9 @@ returns-in_default c =
 pub move_output-requires : goal.move_output-requires
 move_output-requires c =
     let found : (c.in-At.k ≡ c.args.i) × DescendAt c.args.rows.now c.args.o c.args.j c.in-At.k =
-        let a = c.args in
-        let w = c.descend_offer-a in
-        offer_at (settled (descend (core_of a.rows.now a.o) a.i a.j)) a.i (DescendAt a.rows.now a.o a.j) w.result w.ensures _ c.in-At.is in
+    let a = c.args in
+    let w = c.descend_offer-a in
+    offer_at (settled (descend (core_of a.rows.now a.o) a.i a.j)) a.i (DescendAt a.rows.now a.o a.j) w.result w.ensures _ c.in-At.is in
     let l = c.args.rows.now in
     let o = c.args.o in
     (c.requires.long, omega (arith, found.1.held, rows_cap l o c.requires), omega (arith, found.1.box, boxes_cap l o c.requires))
@@ -30,7 +30,7 @@ move_output-requires c =
 pub returns : goal.returns
 returns c =
     let found : (c.in-At.k ≡ c.args.i) × DescendAt c.args.rows.now c.args.o c.args.j c.in-At.k =
-        let a = c.args in
-        let w = c.descend_offer-a in
-        offer_at (settled (descend (core_of a.rows.now a.o) a.i a.j)) a.i (DescendAt a.rows.now a.o a.j) w.result w.ensures _ c.in-At.is in
+    let a = c.args in
+    let w = c.descend_offer-a in
+    offer_at (settled (descend (core_of a.rows.now a.o) a.i a.j)) a.i (DescendAt a.rows.now a.o a.j) w.result w.ensures _ c.in-At.is in
     descend_did c.args.rows.now c.args.o c.args.i _ c.args.j found.0 c.requires _ _ found.1 c.move_output.ensures c.plain-2.ensures

@@ -29,11 +29,11 @@ returns-in_default c =
 pub word_at-ch-requires : goal.word_at-ch-requires
 word_at-ch-requires c =
     let found : (c.in-At.k ≡ c.args.i) × (c.args.o.lobby.len < 16) =
-        let a = c.args in
-        let n = a.o.lobby.len in
-        let w = c.lobby_offer-a in
-        let r = if_at (n + 1 ≤ 16) a.i 17 w.result w.ensures _ c.in-At.is in
-        (r.0, omega (arith, r.1)) in
+    let a = c.args in
+    let n = a.o.lobby.len in
+    let w = c.lobby_offer-a in
+    let r = if_at (n + 1 ≤ 16) a.i 17 w.result w.ensures _ c.in-At.is in
+    (r.0, omega (arith, r.1)) in
     let held : c.in-At.k < c.args.o.particles = omega (arith, found.0, c.requires.1) in
     let in_rows : c.in-At.k < 32 = omega (arith, held, rows_cap c.args.rows.now c.args.o c.requires.0) in
     (c.requires.0.long, in_rows, search rules)
@@ -41,11 +41,11 @@ word_at-ch-requires c =
 pub value_at-requires : goal.value_at-requires
 value_at-requires c =
     let found : (c.in-At.k ≡ c.args.i) × (c.args.o.lobby.len < 16) =
-        let a = c.args in
-        let n = a.o.lobby.len in
-        let w = c.lobby_offer-a in
-        let r = if_at (n + 1 ≤ 16) a.i 17 w.result w.ensures _ c.in-At.is in
-        (r.0, omega (arith, r.1)) in
+    let a = c.args in
+    let n = a.o.lobby.len in
+    let w = c.lobby_offer-a in
+    let r = if_at (n + 1 ≤ 16) a.i 17 w.result w.ensures _ c.in-At.is in
+    (r.0, omega (arith, r.1)) in
     let held : c.in-At.k < c.args.o.particles = omega (arith, found.0, c.requires.1) in
     let is-output : get_or (row_at c.args.rows.now c.in-At.k) 0 0 ≡ 1 = ap (λ (k : ℕ). get_or (row_at c.args.rows.now k) 0 0) found.0 ∙ c.requires.2 in
     let in_rows : c.in-At.k < 32 = omega (arith, held, rows_cap c.args.rows.now c.args.o c.requires.0) in
@@ -54,22 +54,22 @@ value_at-requires c =
 pub remove_row-n-requires : goal.remove_row-n-requires
 remove_row-n-requires c =
     let found : (c.in-At.k ≡ c.args.i) × (c.args.o.lobby.len < 16) =
-        let a = c.args in
-        let n = a.o.lobby.len in
-        let w = c.lobby_offer-a in
-        let r = if_at (n + 1 ≤ 16) a.i 17 w.result w.ensures _ c.in-At.is in
-        (r.0, omega (arith, r.1)) in
+    let a = c.args in
+    let n = a.o.lobby.len in
+    let w = c.lobby_offer-a in
+    let r = if_at (n + 1 ≤ 16) a.i 17 w.result w.ensures _ c.in-At.is in
+    (r.0, omega (arith, r.1)) in
     let held : c.in-At.k < c.args.o.particles = omega (arith, found.0, c.requires.1) in
     (c.requires.0.long, held, rows_cap c.args.rows.now c.args.o c.requires.0)
 
 pub with-requires : goal.with-requires
 with-requires c =
     let found : (c.in-At.k ≡ c.args.i) × (c.args.o.lobby.len < 16) =
-        let a = c.args in
-        let n = a.o.lobby.len in
-        let w = c.lobby_offer-a in
-        let r = if_at (n + 1 ≤ 16) a.i 17 w.result w.ensures _ c.in-At.is in
-        (r.0, omega (arith, r.1)) in
+    let a = c.args in
+    let n = a.o.lobby.len in
+    let w = c.lobby_offer-a in
+    let r = if_at (n + 1 ≤ 16) a.i 17 w.result w.ensures _ c.in-At.is in
+    (r.0, omega (arith, r.1)) in
     found.1
 
 pub returns : goal.returns
@@ -77,11 +77,11 @@ returns c =
     let lobby = c.well_formed.1.0.1.1.1.1.1.1.0 in
     let full : Full c.args.o = record { msgs = search lobby } in
     let found : (c.in-At.k ≡ c.args.i) × (c.args.o.lobby.len < 16) =
-        let a = c.args in
-        let n = a.o.lobby.len in
-        let w = c.lobby_offer-a in
-        let r = if_at (n + 1 ≤ 16) a.i 17 w.result w.ensures _ c.in-At.is in
-        (r.0, omega (arith, r.1)) in
+    let a = c.args in
+    let n = a.o.lobby.len in
+    let w = c.lobby_offer-a in
+    let r = if_at (n + 1 ≤ 16) a.i 17 w.result w.ensures _ c.in-At.is in
+    (r.0, omega (arith, r.1)) in
     let held : c.in-At.k < c.args.o.particles = omega (arith, found.0, c.requires.1) in
     let is-output : get_or (row_at c.args.rows.now c.in-At.k) 0 0 ≡ 1 = ap (λ (k : ℕ). get_or (row_at c.args.rows.now k) 0 0) found.0 ∙ c.requires.2 in
     λ s e.

@@ -1,7 +1,7 @@
 -- The state behind all steps is that behind the steps from here on; the state is what is lent.
 use mathlib.Core.Path.{◌≡◌, refl, sym, ap, ◌∙◌}
 use mathlib.Core.Option.{some}
-use Prim.Native.Nat.{◌-◌, ◌<◌}
+use Prim.Native.Nat.{◌<◌}
 use native.Mathlib.Omega.{arith}
 use lib.ListN.{length}
 use Rattle.execution.specs.Execution.{record_end, end_of}
@@ -28,7 +28,7 @@ side_at-n-requires c =
 pub bounds-rests-i : goal.bounds-rests-i
 bounds-rests-i c =
     let within : c.place_asked-i.result < 2 =
-        omega (arith, c.place_asked-i.ensures, place_within c.args.wrapper c.side_at-n.result) in
+    omega (arith, c.place_asked-i.ensures, place_within c.args.wrapper c.side_at-n.result) in
     omega (arith, within, c.loop-p.invariant.1.lent.rests)
 
 pub step_at-d-requires : goal.step_at-d-requires
@@ -45,7 +45,7 @@ step_at-d-requires c =
 pub bounds-rests-i-in-loop-p : goal.bounds-rests-i-in-loop-p
 bounds-rests-i-in-loop-p c =
     let within : c.place_asked-i.result < 2 =
-        omega (arith, c.place_asked-i.ensures, place_within c.args.wrapper c.side_at-n.result) in
+    omega (arith, c.place_asked-i.ensures, place_within c.args.wrapper c.side_at-n.result) in
     omega (arith, within, c.loop-p.invariant.1.lent.rests)
 
 pub loop-p-smaller : goal.loop-p-smaller

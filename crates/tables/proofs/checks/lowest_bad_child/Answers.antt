@@ -2,7 +2,6 @@
 use Rattle.tables.proofs.FieldLaws.{bad_here, bad_more, bad_none, bad_start, tree_is}
 use Rattle.tables.specs.Nodes.{table}
 use mathlib.Core.Path.{refl, sym, ◌∙◌}
-use Prim.Native.Nat.{◌-◌}
 use lib.ListN.{get_or}
 use Rattle.model.specs.Checks.{check3}
 use borrow.Author.Rules.{rules}

@@ -2,7 +2,6 @@
 use Rattle.tables.proofs.FieldLaws.{bad_here, bad_more, bad_none, bad_start, names_are}
 use Rattle.tables.specs.Nodes.{table}
 use mathlib.Core.Path.{refl, sym, ◌∙◌}
-use Prim.Native.Nat.{◌-◌}
 use Rattle.model.specs.Checks.{check4}
 use borrow.Author.Rules.{rules}
 use Rattle.tables.proofs.checks.lowest_bad_name.Goals as goal

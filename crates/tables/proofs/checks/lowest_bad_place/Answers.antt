@@ -2,7 +2,6 @@
 use Rattle.tables.proofs.FieldLaws.{bad_here, bad_more, bad_none, bad_start, places_are}
 use Rattle.tables.specs.Nodes.{table}
 use mathlib.Core.Path.{refl, sym, ◌∙◌}
-use Prim.Native.Nat.{◌-◌}
 use Rattle.model.specs.Checks.{check5}
 use borrow.Author.Rules.{rules}
 use Rattle.tables.proofs.checks.lowest_bad_place.Goals as goal

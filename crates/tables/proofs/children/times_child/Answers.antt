@@ -1,6 +1,5 @@
 -- `tables::children::times_child` meets its contract.
 use mathlib.Core.Path.{refl, ◌∙◌}
-use Prim.Native.Nat.{◌-◌}
 use lib.ListN.{get_or-replicate}
 use Rattle.tables.proofs.FieldLaws.{times_none, times_more, times_all}
 use borrow.Author.Rules.{rules}

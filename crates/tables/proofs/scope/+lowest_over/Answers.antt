@@ -4,7 +4,7 @@ use Rattle.tables.proofs.WalkLaws.{on_body, on_box, on_left, on_new, on_right}
 use Rattle.tables.specs.Nodes.{table}
 use Rattle.tables.specs.Scope.{over_at}
 use mathlib.Core.Path.{sym, ap, ap₂, ◌∙◌}
-use Prim.Native.Nat.{◌-◌, ◌+◌, min}
+use Prim.Native.Nat.{◌+◌, min}
 use native.Mathlib.Omega.{arith}
 use Prim.Native.Nat.{ℕ}
 use Rattle.tables.proofs.scope.+lowest_over.Goals as goal

@@ -1,6 +1,5 @@
 use mathlib.Core.Path.{refl, sym, ◌∙◌}
 use mathlib.Core.Bool.{false}
-use Prim.Native.Nat.{◌-◌}
 use Rattle.test_output.specs.Same.{same_mark}
 use Rattle.test_output.proofs.SameLaws.{same_further, same_not, same_end, same_lengths}
 use borrow.Author.Rules.{rules}

@@ -1,5 +1,4 @@
 use mathlib.Core.Path.{refl, sym, ◌∙◌}
-use Prim.Native.Nat.{◌-◌}
 use lib.Dec.{eqb}
 use Rattle.test_output.proofs.SameLaws.{same_further, same_not, same_end, same_lengths}
 use borrow.Author.Rules.{rules}

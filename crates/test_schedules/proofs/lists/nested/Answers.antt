@@ -1,5 +1,5 @@
 -- `test_schedules::lists::nested` meets its contract. The loop's invariant: the nodes that are left, stored from here on, make the whole.
-use Rattle.std.proofs.Common.{◌≡◌, ℕ, ◌-◌, ◌*◌, [], ◌∷◌, sym, refl, ap, ◌∙◌, rules}
+use Rattle.std.proofs.Common.{◌≡◌, ℕ, ◌*◌, [], ◌∷◌, sym, refl, ap, ◌∙◌, rules}
 use lib.Seq.{sets}
 use Rattle.test_schedules.specs.Lists.{nested_node}
 use Rattle.test_schedules.proofs.ListLaws.{next_node, last_node}

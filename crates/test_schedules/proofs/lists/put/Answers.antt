@@ -1,5 +1,5 @@
 -- `test_schedules::lists::put` meets its contract. The loop's invariant: what is left, stored from here on, makes the whole.
-use Rattle.std.proofs.Common.{◌-◌, drop, sym, refl, ◌∙◌, arith, length-set, rules}
+use Rattle.std.proofs.Common.{drop, sym, refl, ◌∙◌, arith, length-set, rules}
 use Rattle.test_schedules.proofs.ListLaws.{past, stored, ended}
 use Rattle.test_schedules.proofs.lists.put.Goals as goal
 

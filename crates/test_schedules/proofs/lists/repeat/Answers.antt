@@ -1,5 +1,5 @@
 -- `test_schedules::lists::repeat` meets its contract. The loop's invariant: the words are there k times.
-use Rattle.std.proofs.Common.{◌≡◌, ℕ, ◌-◌, sym, ap, arith, rules}
+use Rattle.std.proofs.Common.{◌≡◌, ℕ, sym, ap, arith, rules}
 use Rattle.test_schedules.specs.Lists.{times}
 use Rattle.test_schedules.proofs.ListLaws.{begun, joined, spelled, no_times, more_times}
 use Rattle.test_schedules.proofs.lists.repeat.Goals as goal

@@ -1,5 +1,4 @@
 -- `test_states::handler::table` meets its contract: the loop copies 225 words.
-use Prim.Native.Nat.{◌-◌}
 use native.Mathlib.Omega.{arith}
 use lib.ListN.{length-set}
 use Rattle.test_states.proofs.handler.table.Goals as goal

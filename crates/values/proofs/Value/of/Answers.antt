@@ -1,7 +1,6 @@
 -- As many words as are stored, copied one by one; the length counted as far as 17.
 use mathlib.Core.Path.{◌≡◌, refl, sym, ◌∙◌}
-use mathlib.Core.Logic.{⊎_elim}
-use Prim.Native.Nat.{◌<◌, ◌-◌, min}
+use Prim.Native.Nat.{◌<◌, min}
 use borrow.Author.Tests.{leb-true, leb-false}
 use lib.ListN.{length}
 use Rattle.values.proofs.Storing.{copied_more, copied_all}
@@ -13,7 +12,7 @@ use Rattle.values.proofs.Value.of.Goals.{then-n-lt-LONGEST, else-n-lt-LONGEST}
 pub loop-i-init : goal.loop-i-init
 loop-i-init c =
     let few : c.if-n-lt-LONGEST.stored ≡ min (length c.args.s.now) 16 =
-        elim c.if-n-lt-LONGEST.branch [ then-n-lt-LONGEST w ↦ omega arith | else-n-lt-LONGEST w ↦ omega arith ] in
+    elim c.if-n-lt-LONGEST.branch [ then-n-lt-LONGEST w ↦ omega arith | else-n-lt-LONGEST w ↦ omega arith ] in
     (search rules, few, refl, refl)
 
 pub loop-i-preserved : goal.loop-i-preserved

@@ -1,6 +1,5 @@
 -- The words before k are held.
 use mathlib.Core.Path.{refl, sym, ◌∙◌}
-use Prim.Native.Nat.{◌-◌}
 use native.Mathlib.Omega.{arith}
 use Rattle.model.specs.WellFormed.{held_word}
 use Rattle.wellformed.proofs.TestLaws.{from_every, passed_more, passed_not, passed_all}

@@ -1,14 +1,13 @@
 -- The messages before k pass.
 use mathlib.Core.Path.{◌≡◌, refl, sym, ◌∙◌}
-use Prim.Native.Nat.{ℕ, ◌-◌, ◌<◌, ◌≤◌}
+use Prim.Native.Nat.{◌≤◌}
 use native.Mathlib.Omega.{arith}
 use borrow.Author.Tests.{leb-true}
-use lib.ListN.{length, get_or}
+use lib.ListN.{length}
 use Rattle.model.specs.WellFormed.{wf_message}
 use Rattle.values.proofs.Lists.{unmap}
 use Rattle.wrappers.specs.Copies.{log_if}
 use Rattle.sides.specs.Views.{view_message, fits_message}
-use Rattle.sides.specs.declared.Message.{Message}
 use Rattle.wellformed.proofs.TestLaws.{from_every, rows_more, rows_not, rows_all, fits_count, fits_at_lem}
 use Rattle.wellformed.proofs.lobby.lobby_ok.Goals as goal
 

@@ -1,7 +1,6 @@
 -- No mark before k.
 use mathlib.Core.Path.{refl, ap, ◌∙◌}
 use mathlib.Core.Bool.{false, not}
-use Prim.Native.Nat.{◌-◌}
 use native.Mathlib.Omega.{arith}
 use Rattle.wellformed.proofs.TestLaws.{from_every, passed_more, passed_not, passed_all}
 use Rattle.wellformed.proofs.marks.none_marked.Goals as goal

@@ -1,7 +1,6 @@
 -- The marks before k pass.
 use mathlib.Core.Path.{refl, sym, ◌∙◌}
 use mathlib.Core.Bool.{false}
-use Prim.Native.Nat.{◌-◌}
 use native.Mathlib.Omega.{arith}
 use Rattle.wellformed.specs.Clauses.{taken_at}
 use Rattle.wellformed.proofs.TestLaws.{passed_more, passed_not, passed_all}

@@ -1,19 +1,14 @@
 -- Test by test.
 use mathlib.Core.Path.{◌≡◌, sym, ◌∙◌}
-use mathlib.Core.Bool.{Bool}
-use lib.Dec.{leb}
 use lib.ListN.{length}
-use Rattle.model.specs.Basics.{◌&◌, every, has}
 use Rattle.model.proofs.Basics.Tests.{fst, snd}
-use Rattle.model.specs.Wrapper.{described, shelves}
-use Rattle.model.specs.WellFormed.{wf_message, wf_contents, wf_core}
 use Rattle.values.proofs.Lists.{unmap}
 use Rattle.tables.specs.Nodes.{table}
 use Rattle.wrappers.specs.Copies.{log_if}
 use Rattle.wrappers.proofs.Described.{copies_are}
 use Rattle.sides.proofs.Lists.{stops, goes_on}
 use Rattle.sides.specs.Sides.{core_of}
-use Rattle.wellformed.specs.Clauses.{shelf_allowed, setting_of}
+use Rattle.wellformed.specs.Clauses.{setting_of}
 use Rattle.wellformed.proofs.SideLaws.{within_arrays, core_is}
 use Rattle.wellformed.proofs.side.core_ok.Goals as goal
 

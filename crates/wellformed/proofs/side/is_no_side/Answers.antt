@@ -5,16 +5,13 @@ use Prim.Native.Nat.{ℕ, ◌*◌}
 use native.Mathlib.Omega.{arith}
 use borrow.Author.Rules.{rules}
 use lib.ListN.{length}
-use Rattle.model.specs.Basics.{◌&◌}
 use Rattle.model.specs.Wrapper.{all_sides}
-use Rattle.model.specs.WellFormed.{clear, is_no_side}
 use Rattle.values.proofs.Lists.{unmap}
 use Rattle.sides.specs.Views.{view_message}
 use Rattle.sides.proofs.Lists.{stops, goes_on}
 use Rattle.sides.specs.Layout.{rows_of, view_place, view_row, view_box, boxes_of, shelf_of}
 use Rattle.sides.specs.Sides.{side_of}
 use Rattle.sides.proofs.Reading.{rows_count, boxes_count, shelf_count}
-use Rattle.wellformed.specs.Clauses.{all_zero}
 use Rattle.wellformed.proofs.TestLaws.{no_rows}
 use Rattle.wellformed.proofs.SideLaws.{no_side_is}
 use Rattle.wellformed.proofs.side.is_no_side.Goals as goal
@@ -25,9 +22,9 @@ returns-then-none_marked c =
     let msgs : length o.lobby.msgs ≡ 16 = search unmap in
     let taken : length o.taken ≡ 32 * length all_sides = search rules in
     let tested = λ (words : List ℕ). no_side_is (side_of words o c.args.left.now) o.particles o.boxes o.lobby.len o.shelved
-        (no_rows view_row (rows_of words) o.particles (omega (arith, rows_count words))) (no_rows view_box (boxes_of words) o.boxes (omega (arith, boxes_count words)))
-        (no_rows view_message o.lobby.msgs o.lobby.len (omega (arith, msgs))) (no_rows view_place (shelf_of words) o.shelved (omega (arith, shelf_count words)))
-        c.requires taken in
+    (no_rows view_row (rows_of words) o.particles (omega (arith, rows_count words))) (no_rows view_box (boxes_of words) o.boxes (omega (arith, boxes_count words)))
+    (no_rows view_message o.lobby.msgs o.lobby.len (omega (arith, msgs))) (no_rows view_place (shelf_of words) o.shelved (omega (arith, shelf_count words)))
+    c.requires taken in
     let zero = sym c.all_zero.ensures ∙ c.if-all_zero.true in
     let left = sym c.none_marked.ensures ∙ c.if-none_marked.true in
     λ words. goes_on _ _ _ zero (goes_on _ _ _ left c.none_marked-then-none_marked.ensures) ∙ tested words
@@ -38,9 +35,9 @@ returns-then-all_zero c =
     let msgs : length o.lobby.msgs ≡ 16 = search unmap in
     let taken : length o.taken ≡ 32 * length all_sides = search rules in
     let tested = λ (words : List ℕ). no_side_is (side_of words o c.args.left.now) o.particles o.boxes o.lobby.len o.shelved
-        (no_rows view_row (rows_of words) o.particles (omega (arith, rows_count words))) (no_rows view_box (boxes_of words) o.boxes (omega (arith, boxes_count words)))
-        (no_rows view_message o.lobby.msgs o.lobby.len (omega (arith, msgs))) (no_rows view_place (shelf_of words) o.shelved (omega (arith, shelf_count words)))
-        c.requires taken in
+    (no_rows view_row (rows_of words) o.particles (omega (arith, rows_count words))) (no_rows view_box (boxes_of words) o.boxes (omega (arith, boxes_count words)))
+    (no_rows view_message o.lobby.msgs o.lobby.len (omega (arith, msgs))) (no_rows view_place (shelf_of words) o.shelved (omega (arith, shelf_count words)))
+    c.requires taken in
     let zero = sym c.all_zero.ensures ∙ c.if-all_zero.true in
     let left = sym c.none_marked.ensures ∙ c.if-none_marked.false in
     λ words. goes_on _ _ _ zero (stops _ _ left) ∙ tested words
@@ -51,7 +48,7 @@ returns c =
     let msgs : length o.lobby.msgs ≡ 16 = search unmap in
     let taken : length o.taken ≡ 32 * length all_sides = search rules in
     let tested = λ (words : List ℕ). no_side_is (side_of words o c.args.left.now) o.particles o.boxes o.lobby.len o.shelved
-        (no_rows view_row (rows_of words) o.particles (omega (arith, rows_count words))) (no_rows view_box (boxes_of words) o.boxes (omega (arith, boxes_count words)))
-        (no_rows view_message o.lobby.msgs o.lobby.len (omega (arith, msgs))) (no_rows view_place (shelf_of words) o.shelved (omega (arith, shelf_count words)))
-        c.requires taken in
+    (no_rows view_row (rows_of words) o.particles (omega (arith, rows_count words))) (no_rows view_box (boxes_of words) o.boxes (omega (arith, boxes_count words)))
+    (no_rows view_message o.lobby.msgs o.lobby.len (omega (arith, msgs))) (no_rows view_place (shelf_of words) o.shelved (omega (arith, shelf_count words)))
+    c.requires taken in
     λ words. stops _ _ (sym c.all_zero.ensures ∙ c.if-all_zero.false) ∙ tested words

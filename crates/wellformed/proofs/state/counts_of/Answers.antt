@@ -1,6 +1,5 @@
 -- The counts before k are those of the sides.
 use mathlib.Core.Path.{◌≡◌, refl, sym, ◌∙◌}
-use Prim.Native.Nat.{◌-◌}
 use native.Mathlib.Omega.{arith}
 use lib.ListN.{length, length-set, length-map}
 use Rattle.model.specs.Wrapper.{all_sides}

@@ -1,7 +1,6 @@
 -- The array test, then the sides: those before k stand.
 use mathlib.Core.Path.{refl, sym, ◌∙◌}
 use mathlib.Core.List.{map}
-use Prim.Native.Nat.{◌-◌}
 use Rattle.model.specs.Wrapper.{all_sides}
 use Rattle.model.specs.Load.{Composition}
 use Rattle.values.proofs.Lists.{unmap}

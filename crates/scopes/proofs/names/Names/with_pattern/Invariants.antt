@@ -1,7 +1,7 @@
 -- `scopes::names::Names::with_pattern` meets its contract.
 use mathlib.Core.Path.{◌≡◌}
 use mathlib.Core.List.{◌++◌}
-use Prim.Native.Nat.{◌≤◌, ◌-◌}
+use Prim.Native.Nat.{◌≤◌}
 use lib.ListN.{length, drop}
 use Rattle.model.specs.Values.{binders}
 use Rattle.scopes.specs.Names.{view_names, last_eight}
