@@ -5,12 +5,12 @@
 mod claim; // a claim and the verdict on it
 mod labels; // labels at fault
 mod more; // beyond the table
-mod steps; // steps at fault
+mod steps_at_fault; // steps at fault
 mod whole; // claims as a whole
 
 fn main() {
     whole::claims();
-    steps::claims();
+    steps_at_fault::claims();
     labels::claims();
     more::claims();
 }

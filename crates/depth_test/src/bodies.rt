@@ -1,9 +1,9 @@
 // A root !in^parent y, or !in^parent _, over a body that unfolds to its last node at a meeting.
+use crate::nodes::{news, output, outputs, spine, tree};
 use crate::rounds::rounds;
-use crate::tables::{news, output, outputs, spine, tree};
 use crate::tried::{ends, tried};
 use test_schedules::lists::{inputs, nested, node};
-use test_schedules::steps::{arrive, depart, enter, land, leave, meet, pass, send, up};
+use test_schedules::named_steps::{arrive, depart, enter, land, leave, meet, pass, send, up};
 
 // !in^parent y. (0 | (0 | .. y^parent y)), or the same to the left: the last node decides on 15.
 fn parallels(name: &[u8], left: bool) {

@@ -5,7 +5,7 @@
 mod bodies; // what unfolds at a meeting
 mod rounds; // the same steps many times
 mod starts; // what unfolds at the start
-mod tables; // nodes
+mod nodes; // nodes
 mod tried; // a run with the pool of all tables
 mod waiting; // inputs one in another
 

@@ -1,7 +1,7 @@
 // The same steps many times, added to a list of words; the place behind them is given back.
-use crate::tables::sum;
+use crate::nodes::sum;
 use test_schedules::lists::narrow;
-use test_schedules::steps::{arrive, depart};
+use test_schedules::named_steps::{arrive, depart};
 
 // A message enters, goes down to place k + 1, and meets the input at k.
 fn meeting(list: &mut [u32; 4400], at: usize, k: usize) -> usize {

@@ -1,8 +1,8 @@
 // Tables that unfold to their last node at the start.
-use crate::tables::{output, spine};
+use crate::nodes::{output, spine};
 use crate::tried::tried;
 use test_schedules::lists::{inputs, nested, node};
-use test_schedules::steps::{depart, descend, enter_word, send, up};
+use test_schedules::named_steps::{depart, descend, enter_word, send, up};
 
 // new n. (0 | (0 | .. out^parent n)), or the same to the left.
 fn parallels(name: &[u8], left: bool) {

@@ -2,7 +2,7 @@
 use crate::rounds::meetings;
 use crate::tried::ends;
 use test_schedules::lists::{inputs, node, repeat};
-use test_schedules::steps::{arrive, depart, meet, send};
+use test_schedules::named_steps::{arrive, depart, meet, send};
 
 // The nodes, all inputs of one kind.
 fn chain(nodes: &mut [u32; 4400], kind: u32) {

@@ -1,6 +1,6 @@
 // Beside the trials: lengths of entered values, 15 far below and behind an inner binder, descending, and a count of minted names for each side.
 use test_schedules::lists::{append, node, repeat};
-use test_schedules::steps::{arrive, depart, descend, enter_word, meet, up};
+use test_schedules::named_steps::{arrive, depart, descend, enter_word, meet, up};
 use test_schedules::tried::{filtered_list, filtered_lists, piped_list};
 
 // 16 words: a tuple of 15 names.

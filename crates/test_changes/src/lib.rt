@@ -1,7 +1,7 @@
 // States with things put anew on a side, well formed or not: what a step of them answers, and whether two of them are the same.
 #![tactic(auto)]
 
-mod answers; // what a step of a state answers
+mod answered; // what a step of a state answers
 mod changes; // what is put anew, by its number
 mod in_rest; // what is put anew in counts, lobby and marks
 mod in_words; // what is put anew in the words
@@ -9,7 +9,7 @@ mod lists; // lists that are well formed but for their count or their last row
 mod places; // a row, a box, a shelf value in the words
 mod puts; // a state with one thing put anew
 
-pub use answers::{compared, entered, entered_changed};
+pub use answered::{compared, entered, entered_changed};
 use values::Value;
 
 // What is put anew on a side, by its number (changes.rt): how much or which; the box and the node of an input; the value, or else the

@@ -4,5 +4,5 @@
 
 pub mod lists; // words one after another, and nodes of tables
 pub mod shown; // lines
-pub mod steps; // steps by name
+pub mod named_steps; // steps by name
 pub mod tried; // a run and its lines

@@ -1,6 +1,6 @@
 // Trials of the logging wrapper: where copies stand, what they fill, what they let out.
 use crate::rounds::enters;
-use test_schedules::steps::{down, enter_word, leave, meet, pass, take, up};
+use test_schedules::named_steps::{down, enter_word, leave, meet, pass, take, up};
 use test_schedules::tried::logged_list;
 
 // The copier's message down to its second arrival: the copy of what enters stands first.

@@ -1,7 +1,7 @@
 // The trials that are not starred: the shelf's 33rd message, 256 nodes and 8 names.
 use crate::rounds::{takes, threes, two};
 use test_schedules::lists::{inputs, nested, node};
-use test_schedules::steps::{take, up};
+use test_schedules::named_steps::{take, up};
 use test_schedules::tried::{filtered_lists, loaded, piped_lists};
 
 // !in^parent y. (mid^parent y | (mid^parent y | mid^parent y))

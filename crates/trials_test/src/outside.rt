@@ -1,6 +1,6 @@
 // Trials of names brought from outside: which enter, what they may be, where they come out, and two runs with them.
 use test_schedules::lists::node;
-use test_schedules::steps::{
+use test_schedules::named_steps::{
     arrive, depart, descend, down, enter, enter_word, land, leave, meet, pass, take, up,
 };
 use test_schedules::tried::{filtered_list, filtered_lists, loaded, logged_list, piped_list};

@@ -1,6 +1,6 @@
 // The same steps many times, added to a list of words; the place behind them is given back.
 use test_schedules::lists::narrow;
-use test_schedules::steps::{arrive, down, enter_word, take, up};
+use test_schedules::named_steps::{arrive, down, enter_word, take, up};
 
 // Shelf message k is taken, and goes down on side 2.
 fn taken(list: &mut [u32; 4400], at: usize, k: usize) -> usize {

@@ -1,6 +1,6 @@
 // The trials A to I.
 use test_schedules::lists::{node, repeat};
-use test_schedules::steps::{
+use test_schedules::named_steps::{
     arrive, depart, down, enter, enter_word, land, leave, meet, pass, take, up,
 };
 use test_schedules::tried::{filtered_list, filtered_lists, piped_list};

@@ -1,6 +1,6 @@
--- `depth_test::tables::spine` meets its contract.
+-- `depth_test::tables::outputs` meets its contract.
 use Rattle.std.proofs.Common.{◌-◌, ◌≤◌}
-use Rattle.depth_test.proofs.tables.spine.Given as goal
+use Rattle.depth_test.proofs.nodes.outputs.Given as goal
 
 abbrev pub invariant-loop-k : goal.invariant-loop-k
 invariant-loop-k l = l.k ≤ l.n

@@ -1,7 +1,7 @@
 -- `test_schedules::steps::enter` meets its contract.
 use Rattle.std.proofs.Common.{ℕ, ◌∷◌, ap}
 use Rattle.test_schedules.proofs.ListLaws.{joined, spelled}
-use Rattle.test_schedules.proofs.steps.enter.Goals as goal
+use Rattle.test_schedules.proofs.named_steps.enter.Goals as goal
 
 pub returns : goal.returns
 returns c =
