@@ -1,7 +1,7 @@
 /* The repeater bench for C and C++: a run as text, a run by words, the check of a maker's trace, and the
  * stranded messages after a run.
  *
- * The functions are in libembed.a (`rt staticlib embed` writes it to target/staticlib/), for x86-64.
+ * The functions are in libembed.a (`rt lib` in crates/embed writes it to crates/embed/out/), for x86-64.
  * They read what is lent to them and write only to `out`, `bytes`, `numbers` and `place`; they keep
  * nothing between two calls.
  *

@@ -108,7 +108,7 @@ pub data Row10 (b : Composition) (s : State) (x : Step) : Type 0 where
   tables : {r : Refused} → load b ≡ refused r → Row10 b s x
   state : wf_state b s ≡ false → Row10 b s x
   no_kind : (x.kind ≡ 0) ⊎ (8 < x.kind) → Row10 b s x
-  no_side_lem : has_side (wrapper_of b) x.side ≡ false → Row10 b s x
+  lacks_side : has_side (wrapper_of b) x.side ≡ false → Row10 b s x
   no_message : Kind (2 ∷ 6 ∷ 7 ∷ []) x → length (lobby_of s x) ≤ x.i → Row10 b s x
   no_particle_i : Kind (3 ∷ 4 ∷ 5 ∷ []) x → length (particles_of s x) ≤ x.i → Row10 b s x
   no_box_j : Kind (4 ∷ []) x → length (boxes_of s x) ≤ x.j → Row10 b s x

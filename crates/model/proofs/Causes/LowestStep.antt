@@ -13,7 +13,7 @@ use Rattle.model.specs.Load.{Composition, wrapper_of, setting, Loaded, load, is_
 use Rattle.model.specs.WellFormed.{shelf_of, ready}
 use Rattle.model.specs.Step.{Step, Label, Moved, labelled, refusal, answer_of, short, known, local, settled, step}
 use Rattle.model.specs.Agreement.{IsLabelled}
-use Rattle.model.specs.Causes.{Row10, tables, state, no_side_lem, Row17, StepCause, by_10, by_11, by_12, by_13, by_14, by_15, by_16, by_17, LowestStep}
+use Rattle.model.specs.Causes.{Row10, tables, state, lacks_side, Row17, StepCause, by_10, by_11, by_12, by_13, by_14, by_15, by_16, by_17, LowestStep}
 use Rattle.model.proofs.Basics.Tests.{fst, snd, one_fails}
 use Rattle.model.proofs.Causes.CauseTools.{Caused, need_c}
 use Rattle.model.proofs.Causes.StepCauses.{X, Low, Good, above_10, L, kind_1, kind_2, kind_3, kind_4, kind_6, kind_7, kind_8, no_such}
@@ -67,7 +67,7 @@ module _ (b : Composition) (s : State) (n i j : ℕ) (ws : List ℕ) (e : ready 
 
 not_ready : (b : Composition) (s : State) (x : Step) → ready b s & has_side (wrapper_of b) x.side ≡ false → Row10 b s x
 unfolding ready
-not_ready b s x q = ⊎_elim (λ z. ⊎_elim (λ y. not-ok (load b) refl y) (λ y. state y) (one_fails _ _ z)) (λ z. no_side_lem z) (one_fails _ _ q)
+not_ready b s x q = ⊎_elim (λ z. ⊎_elim (λ y. not-ok (load b) refl y) (λ y. state y) (one_fails _ _ z)) (λ z. lacks_side z) (one_fails _ _ q)
   where
     not-ok : (l : Loaded) → load b ≡ l → is_ok (load b) ≡ false → Row10 b s x
     not-ok (refused r) p y = tables p

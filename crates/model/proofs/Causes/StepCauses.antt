@@ -17,7 +17,7 @@ use Rattle.model.specs.Load.{Composition, wrapper_of, setting, load, is_ok, refu
 use Rattle.model.specs.WellFormed.{shelf_of, ready, counts, wf_particle, wf_message, wf_value}
 use Rattle.model.specs.Step.{Step, Moved, short, known, copied, with_lobby, with_contents, with_particles, is_down, is_arrived, is_leaving, is_to_parent, is_to_child, enter, go_down, up_from, up_particle, up}
 use Rattle.model.specs.Step.{descend_particle, descend, pass, leave, takes, route_to, inner, local}
-use Rattle.model.specs.Causes.{Kind, Can, can_enter, can_down, can_up, can_descend, can_meet, can_pass, can_leave, can_take, ToShelf, Row10, tables, state, no_kind, no_side_lem, no_message}
+use Rattle.model.specs.Causes.{Kind, Can, can_enter, can_down, can_up, can_descend, can_meet, can_pass, can_leave, can_take, ToShelf, Row10, tables, state, no_kind, lacks_side, no_message}
 use Rattle.model.specs.Causes.{no_particle_i, no_box_j, no_particle_j, no_shelf_place, unused_i, unused_j, value_words, kind_8_alone, kind_8_side_1, Row11, malformed, empty, over_16, bad_word}
 use Rattle.model.specs.Causes.{Alone, copy_count, Row17, particles_down, particles_meet, boxes, minted, lobby_enter, lobby_pass, lobby_take, lobby_up, shelf, StepCause, by_10, by_11, by_12, by_13, by_14, by_15, by_16, by_17}
 use Rattle.model.proofs.Basics.Tests.{fst, snd, both, alt, get_every, every_append, every_one, every_remove, every_set, some_inj, length_remove, one_fails}
@@ -86,7 +86,7 @@ module _ (b : Composition) (s : State) (n i j : ℕ) (ws : List ℕ) where
         let l = t.low in
         let u = t.high in
         ⊎_elim (λ z. omega arith) (λ z. omega arith) q
-    no_ten k t (no_side_lem q) = false≢true (sym q ∙ h)
+    no_ten k t (lacks_side q) = false≢true (sym q ∙ h)
     no_ten k t (no_message q l) = let z = t.message q in omega arith
     no_ten k t (no_particle_i q l) = let z = t.particle_i q in omega arith
     no_ten k t (no_box_j q l) = let z = t.box_j q in omega arith

@@ -145,7 +145,7 @@ module _ (b : Composition) (s : State) (n : ℕ) where
           record {
             loads = fst _ _ (fst _ _ q);
             formed = snd _ _ (fst _ _ q);
-            has_side_lem = snd _ _ q;
+            has_side = snd _ _ q;
             message = r.message;
             there = ap (get_elem? (side s n).core.lobby) (sym same) ∙ r.there;
             status = is.0;
@@ -155,7 +155,7 @@ module _ (b : Composition) (s : State) (n : ℕ) where
   pub so_strands : (i : ℕ) → Strands b s n i → has i (stranded_all b (some s) n) ≡ true
   unfolding ready
   so_strands i h =
-      let q = both _ _ (both _ _ h.loads h.formed) h.has_side_lem in
+      let q = both _ _ (both _ _ h.loads h.formed) h.has_side in
       let there = at_listed (side s n).core.lobby 0 i h.message h.there (is_stranded_lem h.message h.status h.channel) in
       let same : 0 + i ≡ i = omega arith in
       ap (λ (l : List Message). has i (stranded_from 0 l)) (asked_by true q) ∙ subst (λ (k : ℕ). has k (stranded_from 0 (side s n).core.lobby) ≡ true) same there

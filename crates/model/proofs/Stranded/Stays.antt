@@ -17,7 +17,7 @@ use Rattle.model.specs.WellFormed.{ready}
 use Rattle.model.specs.Step.{Step, is_arrived, refusal, step}
 use Rattle.model.specs.Stranded.{Strands, at_lobby, StrandedStays}
 use Rattle.model.specs.Causes.{Can, can_enter, can_down, can_up, can_descend, can_meet, can_pass, can_leave, can_take}
-use Rattle.model.specs.Causes.{Row10, tables, state, no_kind, no_side_lem, no_message, no_particle_i, no_box_j, no_particle_j, no_shelf_place, unused_i, unused_j, value_words, kind_8_alone, kind_8_side_1}
+use Rattle.model.specs.Causes.{Row10, tables, state, no_kind, lacks_side, no_message, no_particle_i, no_box_j, no_particle_j, no_shelf_place, unused_i, unused_j, value_words, kind_8_alone, kind_8_side_1}
 use Rattle.model.specs.Causes.{Row11, malformed, empty, over_16, bad_word, StepCause, by_10, by_11, by_12, by_13, by_14, by_15, by_16, by_17, LowestStep}
 use Rattle.model.proofs.Basics.Tests.{fst, snd, or_cases, some_inj}
 use Rattle.model.proofs.Basics.Splits.{get_length}
@@ -75,7 +75,7 @@ module _ (b : Composition) (s : State) (n i : ℕ) (e : ready b s ≡ true) (h :
     not_10 lt (tables {r} q) = false≢true (ap is_ok (sym q) ∙ fst _ _ e)
     not_10 lt (state q) = false≢true (sym q ∙ snd _ _ e)
     not_10 lt (no_kind q) = ⊎_elim (other_kind k 0 o refl) (λ z. ⊎_elim (λ y. omega arith) (λ y. ⊎_elim (λ x. omega arith) (λ x. omega arith) y) (of_lobby k o)) q
-    not_10 lt (no_side_lem q) = false≢true (sym q ∙ h)
+    not_10 lt (lacks_side q) = false≢true (sym q ∙ h)
     not_10 lt (no_message q le) = omega arith
     not_10 lt (no_particle_i q le) = other_kinds k (3 ∷ 4 ∷ 5 ∷ []) o refl refl refl q
     not_10 lt (no_box_j q le) = other_kinds k (4 ∷ []) o refl refl refl q
@@ -136,7 +136,7 @@ module _ (b : Composition) (s : State) (n i : ℕ) (e : ready b s ≡ true) (h :
             record {
               loads = fst _ _ e;
               formed = snd _ _ e;
-              has_side_lem = h;
+              has_side = h;
               message = m;
               there = there;
               status = st;

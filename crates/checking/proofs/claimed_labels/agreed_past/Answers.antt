@@ -4,7 +4,6 @@ use mathlib.Core.List.{List, ◌∷◌, ◌++◌}
 use mathlib.Core.Option.{some}
 use Prim.Native.Nat.{ℕ, ◌+◌}
 use native.Mathlib.Omega.{arith}
-use borrow.Author.Tests.{not-true, not-false}
 use lib.ListN.{length, get_or, take, drop}
 use Rattle.claims.specs.Claims.{same_words}
 use Rattle.values.specs.Env.{view_value}
@@ -22,7 +21,7 @@ returns-then-a c =
 
 pub returns-then-not-is_visible : goal.returns-then-not-is_visible
 returns-then-not-is_visible c =
-    let unseen = shown_when c.args.said c.args.side (view_value c.args.v) false (sym c.is_visible.ensures ∙ not-true _ c.if-not-is_visible.true-raw) in
+    let unseen = shown_when c.args.said c.args.side (view_value c.args.v) false (sym c.is_visible.ensures ∙ c.if-not-is_visible.true) in
     (c.requires.0, λ vs. ap (λ (s : List (List ℕ)). fault_from c.args.labels.now c.args.a (s ++ vs)) (sym unseen))
 
 pub is_label-requires : goal.is_label-requires
@@ -35,7 +34,7 @@ pub returns-then-is_label : goal.returns-then-is_label
 returns-then-is_label c =
     let label : List ℕ = channel_of c.args.said ∷ c.args.side ∷ length (view_value c.args.v) ∷ view_value c.args.v in
     let whole : c.args.a.parted ≡ false = c.if-a.false in
-    let seen : is_visible c.args.said ≡ true = sym c.is_visible.ensures ∙ not-false _ c.if-not-is_visible.false-raw in
+    let seen : is_visible c.args.said ≡ true = sym c.is_visible.ensures ∙ c.if-not-is_visible.false in
     let found : record_end 2 c.args.labels.now c.args.a.at ≡ some c.in-At.e = sym c.record_end-end.ensures ∙ ap end_of c.in-At.is in
     let compared : c.is_label.result ≡ same_words label (take (3 + get_or c.args.labels.now (c.args.a.at + 2) 0) (drop c.args.a.at c.args.labels.now)) =
     let v = view_value c.args.v in
@@ -52,7 +51,7 @@ pub returns-else-is_label : goal.returns-else-is_label
 returns-else-is_label c =
     let label : List ℕ = channel_of c.args.said ∷ c.args.side ∷ length (view_value c.args.v) ∷ view_value c.args.v in
     let whole : c.args.a.parted ≡ false = c.if-a.false in
-    let seen : is_visible c.args.said ≡ true = sym c.is_visible.ensures ∙ not-false _ c.if-not-is_visible.false-raw in
+    let seen : is_visible c.args.said ≡ true = sym c.is_visible.ensures ∙ c.if-not-is_visible.false in
     let found : record_end 2 c.args.labels.now c.args.a.at ≡ some c.in-At.e = sym c.record_end-end.ensures ∙ ap end_of c.in-At.is in
     let compared : c.is_label.result ≡ same_words label (take (3 + get_or c.args.labels.now (c.args.a.at + 2) 0) (drop c.args.a.at c.args.labels.now)) =
     let v = view_value c.args.v in
@@ -67,7 +66,7 @@ pub returns-in_default : goal.returns-in_default
 returns-in_default c =
     let label : List ℕ = channel_of c.args.said ∷ c.args.side ∷ length (view_value c.args.v) ∷ view_value c.args.v in
     let whole : c.args.a.parted ≡ false = c.if-a.false in
-    let seen : is_visible c.args.said ≡ true = sym c.is_visible.ensures ∙ not-false _ c.if-not-is_visible.false-raw in
+    let seen : is_visible c.args.said ≡ true = sym c.is_visible.ensures ∙ c.if-not-is_visible.false in
     let off = sym c.record_end-end.ensures ∙ ap end_of c.in_default.is in (
       record { few = c.requires.0.few; within = c.requires.0.within },
       λ vs. missing c.args.labels.now c.args.a.at c.args.a.count label vs off ∙ sym (shown_first c.args.labels.now c.args.a c.args.said c.args.side (view_value c.args.v) whole seen vs),

@@ -1,5 +1,5 @@
 use mathlib.Core.Path.{sym, ◌∙◌}
-use borrow.Author.Tests.{not-true, not-false, leb-true, leb-false}
+use borrow.Author.Tests.{leb-true, leb-false}
 use Rattle.environments.proofs.Sizes.{size_none, size_next, size_over, size_all}
 use borrow.Author.Rules.{rules}
 use Rattle.environments.proofs.long.over_long.Goals as goal
@@ -11,14 +11,14 @@ pub returns-then-not-length_within : goal.returns-then-not-length_within
 returns-then-not-length_within c =
     let l = c.loop-i in
     let a = c.args in
-    let over = leb-false _ 16 (sym c.length_within.ensures ∙ not-true _ c.if-not-length_within.true-raw) in
+    let over = leb-false _ 16 (sym c.length_within.ensures ∙ c.if-not-length_within.true) in
     size_over a.t.of a.s.now l.i l.n _ c.loop-i-test.true l.invariant.2 c.size_for-n.ensures.0 over
 
 pub loop-i-preserved : goal.loop-i-preserved
 loop-i-preserved c =
     let l = c.loop-i in
     let a = c.args in
-    let few = leb-true _ 16 (sym c.length_within.ensures ∙ not-false _ c.if-not-length_within.false-raw) in
+    let few = leb-true _ 16 (sym c.length_within.ensures ∙ c.if-not-length_within.false) in
     let sum = size_next a.t.of a.s.now l.i l.n _ c.loop-i-test.true l.invariant.2 c.size_for-n.ensures.0 in
     (search rules, few, sum)
 

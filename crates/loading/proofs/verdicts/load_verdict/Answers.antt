@@ -1,7 +1,6 @@
 use mathlib.Core.Path.{◌≡◌, sym, ◌∙◌}
 use mathlib.Core.List.{[], map}
 use Prim.Native.Nat.{ℕ, ◌+◌, ◌<◌}
-use borrow.Author.Tests.{not-true, not-false}
 use lib.ListN.{length, get_or, length-map}
 use Rattle.model.specs.Wrapper.{described}
 use Rattle.model.specs.Load.{Composition}
@@ -17,12 +16,12 @@ use Rattle.loading.proofs.verdicts.load_verdict.Goals as goal
 pub returns-then-not-is_wrapper : goal.returns-then-not-is_wrapper
 returns-then-not-is_wrapper c =
     let loads : Composition = composition c.args.wrapper (map (λ c. c.now) c.args.nodes) (map (λ c. c.now) c.args.pools) in
-    load_unknown loads (sym c.is_wrapper.ensures ∙ not-true _ c.if-not-is_wrapper.true-raw)
+    load_unknown loads (sym c.is_wrapper.ensures ∙ c.if-not-is_wrapper.true)
 
 pub loop-k-init : goal.loop-k-init
 loop-k-init c =
     let loads : Composition = composition c.args.wrapper (map (λ c. c.now) c.args.nodes) (map (λ c. c.now) c.args.pools) in
-    (search rules, load_known loads (sym c.is_wrapper.ensures ∙ not-false _ c.if-not-is_wrapper.false-raw))
+    (search rules, load_known loads (sym c.is_wrapper.ensures ∙ c.if-not-is_wrapper.false))
 
 pub returns-in_default : goal.returns-in_default
 returns-in_default c =

@@ -1,6 +1,5 @@
 use mathlib.Core.Path.{refl, sym, ◌∙◌}
 use mathlib.Core.Bool.{false≢true}
-use borrow.Author.Tests.{not-true, not-false}
 use Rattle.model.specs.Table.{term}
 use Rattle.tables.specs.Nodes.{table}
 use Rattle.meeting.proofs.Removing.{room_is}
@@ -14,11 +13,11 @@ returns-then-not-contents_within c =
     let a = c.args in
     let body = term (table a.nodes.now a.pool.now) a.n in
     let tested = room_is body a.particles a.boxes a.minted c.unfolded_at-u.result c.unfolded_at-u.ensures.1 _ c.contents_within.ensures in
-    (refl, λ y. false≢true (sym (not-true _ c.if-not-contents_within.true-raw) ∙ tested ∙ y))
+    (refl, λ y. false≢true (sym c.if-not-contents_within.true ∙ tested ∙ y))
 
 pub returns : goal.returns
 returns c =
     let a = c.args in
     let body = term (table a.nodes.now a.pool.now) a.n in
     let tested = room_is body a.particles a.boxes a.minted c.unfolded_at-u.result c.unfolded_at-u.ensures.1 _ c.contents_within.ensures in
-    (refl, sym tested ∙ not-false _ c.if-not-contents_within.false-raw)
+    (refl, sym tested ∙ c.if-not-contents_within.false)

@@ -2,7 +2,6 @@ use mathlib.Core.Path.{◌≡◌, refl, sym, ap, ◌∙◌}
 use mathlib.Core.Bool.{false≢true}
 use mathlib.Core.List.{List}
 use Prim.Native.Nat.{ℕ}
-use borrow.Author.Tests.{not-true, not-false}
 use Rattle.model.specs.Values.{word}
 use Rattle.model.specs.Unfolding.{tag_of}
 use Rattle.tables.specs.Nodes.{table}
@@ -45,7 +44,7 @@ tested p pool =
     (node, fits)
 
 pub returns-then-not-tags_fit : goal.returns-then-not-tags_fit
-returns-then-not-tags_fit c = λ pool. (refl, λ y. false≢true (sym (not-true _ c.if-not-tags_fit.true-raw) ∙ (tested (goal.at.returns-then-not-tags_fit c).After-tags_fit pool).1 ∙ y))
+returns-then-not-tags_fit c = λ pool. (refl, λ y. false≢true (sym c.if-not-tags_fit.true ∙ (tested (goal.at.returns-then-not-tags_fit c).After-tags_fit pool).1 ∙ y))
 
 pub returns : goal.returns
-returns c = λ pool. let w = tested (goal.at.returns c).After-tags_fit pool in (w.0, sym w.1 ∙ not-false _ c.if-not-tags_fit.false-raw)
+returns c = λ pool. let w = tested (goal.at.returns c).After-tags_fit pool in (w.0, sym w.1 ∙ c.if-not-tags_fit.false)

@@ -1,6 +1,6 @@
 use mathlib.Core.Path.{◌≡◌, refl, sym, ◌∙◌}
 use lib.ListN.{length}
-use borrow.Author.Tests.{not-true, not-false, leb-true}
+use borrow.Author.Tests.{leb-true}
 use Rattle.sides.proofs.Lists.{stops, fits_fails, fits_all, every_more}
 use Rattle.sides.specs.Views.{fits_message}
 use native.Mathlib.Omega.{arith}
@@ -8,10 +8,10 @@ use Rattle.values.proofs.Lists.{unmap}
 use Rattle.sides.proofs.Lobby.fits.Goals as goal
 
 pub returns-then-not-lobby_within : goal.returns-then-not-lobby_within
-returns-then-not-lobby_within c = stops _ _ (sym c.lobby_within.ensures ∙ not-true _ c.if-not-lobby_within.true-raw)
+returns-then-not-lobby_within c = stops _ _ (sym c.lobby_within.ensures ∙ c.if-not-lobby_within.true)
 
 pub loop-k-init : goal.loop-k-init
-loop-k-init c = (leb-true _ 16 (sym c.lobby_within.ensures ∙ not-false _ c.if-not-lobby_within.false-raw), omega arith, refl)
+loop-k-init c = (leb-true _ 16 (sym c.lobby_within.ensures ∙ c.if-not-lobby_within.false), omega arith, refl)
 
 pub loop-k-preserved : goal.loop-k-preserved
 loop-k-preserved c =

@@ -1,7 +1,7 @@
 use mathlib.Core.Path.{refl, sym, ap, ◌∙◌}
 use mathlib.Core.List.{[]}
 use Prim.Native.Nat.{◌<◌}
-use borrow.Author.Tests.{not-true, not-false, leb-true}
+use borrow.Author.Tests.{leb-true}
 use Rattle.sides.proofs.Lists.{every_more, stops, fits_fails, fits_all}
 use Rattle.sides.specs.Layout.{rows_of, fits_row}
 use Rattle.sides.proofs.Storing.{row_lent}
@@ -11,10 +11,10 @@ use native.Mathlib.Omega.{arith}
 use Rattle.sides.proofs.list.rows_fit.Goals as goal
 
 pub returns-then-not-particles_within : goal.returns-then-not-particles_within
-returns-then-not-particles_within c = stops _ _ (sym c.particles_within.ensures ∙ not-true _ c.if-not-particles_within.true-raw)
+returns-then-not-particles_within c = stops _ _ (sym c.particles_within.ensures ∙ c.if-not-particles_within.true)
 
 pub loop-k-init : goal.loop-k-init
-loop-k-init c = (leb-true _ 32 (sym c.particles_within.ensures ∙ not-false _ c.if-not-particles_within.false-raw), search rules, refl)
+loop-k-init c = (leb-true _ 32 (sym c.particles_within.ensures ∙ c.if-not-particles_within.false), search rules, refl)
 
 pub loop-k-preserved : goal.loop-k-preserved
 loop-k-preserved c =

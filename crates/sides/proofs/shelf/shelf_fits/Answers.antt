@@ -4,7 +4,7 @@ use mathlib.Core.List.{[]}
 use Prim.Native.Nat.{ℕ, ◌<◌}
 use lib.Dec.{leb}
 use Rattle.sides.proofs.Lists.{every_more, stops, fits_fails, fits_all}
-use borrow.Author.Tests.{not-true, not-false, leb-true}
+use borrow.Author.Tests.{leb-true}
 use Rattle.sides.specs.Layout.{shelf_of, fits_place}
 use Rattle.sides.proofs.Reading.{shelf_count, shelf_fits}
 use borrow.Author.Rules.{rules}
@@ -12,10 +12,10 @@ use native.Mathlib.Omega.{arith}
 use Rattle.sides.proofs.shelf.shelf_fits.Goals as goal
 
 pub returns-then-not-shelf_within : goal.returns-then-not-shelf_within
-returns-then-not-shelf_within c = stops _ _ (sym c.shelf_within.ensures ∙ not-true _ c.if-not-shelf_within.true-raw)
+returns-then-not-shelf_within c = stops _ _ (sym c.shelf_within.ensures ∙ c.if-not-shelf_within.true)
 
 pub loop-k-init : goal.loop-k-init
-loop-k-init c = (leb-true _ 32 (sym c.shelf_within.ensures ∙ not-false _ c.if-not-shelf_within.false-raw), search rules, refl)
+loop-k-init c = (leb-true _ 32 (sym c.shelf_within.ensures ∙ c.if-not-shelf_within.false), search rules, refl)
 
 pub loop-k-preserved : goal.loop-k-preserved
 loop-k-preserved c =

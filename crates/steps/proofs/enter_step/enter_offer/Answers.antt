@@ -1,5 +1,4 @@
 use mathlib.Core.Path.{sym, ◌∙◌}
-use borrow.Author.Tests.{not-true, not-false}
 use Rattle.values.proofs.Lists.{unmap}
 use Rattle.steps.proofs.Held.{Full, lobby_cap}
 use Rattle.steps.proofs.CopyLaws.{few_copies}
@@ -10,13 +9,13 @@ use Rattle.steps.proofs.enter_step.enter_offer.Goals as goal
 pub returns-then-not-is_value : goal.returns-then-not-is_value
 returns-then-not-is_value c =
     let a = c.args in
-    enter_no_value a.rows.now a.o a.logging a.marks.now a.words.now c.requires.0 (sym c.is_value.ensures ∙ not-true _ c.if-not-is_value.true-raw)
+    enter_no_value a.rows.now a.o a.logging a.marks.now a.words.now c.requires.0 (sym c.is_value.ensures ∙ c.if-not-is_value.true)
 
 pub returns-then-not-all_may_enter : goal.returns-then-not-all_may_enter
 returns-then-not-all_may_enter c =
     let a = c.args in
-    let value = sym c.is_value.ensures ∙ not-false _ c.if-not-is_value.false-raw in
-    enter_unknown a.rows.now a.o a.logging a.marks.now a.words.now c.requires.0 value (sym c.all_may_enter.ensures ∙ not-true _ c.if-not-all_may_enter.true-raw)
+    let value = sym c.is_value.ensures ∙ c.if-not-is_value.false in
+    enter_unknown a.rows.now a.o a.logging a.marks.now a.words.now c.requires.0 value (sym c.all_may_enter.ensures ∙ c.if-not-all_may_enter.true)
 
 pub overflow_add-copies : goal.overflow_add-copies
 overflow_add-copies c =
@@ -30,7 +29,7 @@ pub returns : goal.returns
 returns c =
     let full : Full c.args.o = record { msgs = search unmap } in
     let a = c.args in
-    let value = sym c.is_value.ensures ∙ not-false _ c.if-not-is_value.false-raw in
-    let names = sym c.all_may_enter.ensures ∙ not-false _ c.if-not-all_may_enter.false-raw in
+    let value = sym c.is_value.ensures ∙ c.if-not-is_value.false in
+    let names = sym c.all_may_enter.ensures ∙ c.if-not-all_may_enter.false in
     enter_last a.rows.now a.o a.logging a.marks.now a.words.now c.requires.0 full value names _ c.lobby_offer.result
     c.copies.ensures c.lobby_offer.ensures

@@ -1,5 +1,4 @@
 use mathlib.Core.Path.{refl, sym, ◌∙◌}
-use borrow.Author.Tests.{not-true, not-false}
 use Rattle.values.proofs.Lists.{unmap}
 use Rattle.steps.proofs.Held.{none_more, one_more}
 use Rattle.steps.proofs.Held.{Full, rows_cap, lobby_cap}
@@ -35,7 +34,7 @@ returns-then-not-is_down c =
     let l = c.args.rows.now in
     let o = c.args.o in
     let i = c.args.i in
-    down_not l o i c.requires full _ c.if-l-i.false (sym c.is_down.ensures ∙ not-true _ c.if-not-is_down.true-raw)
+    down_not l o i c.requires full _ c.if-l-i.false (sym c.is_down.ensures ∙ c.if-not-is_down.true)
 
 pub overflow_add-o : goal.overflow_add-o
 overflow_add-o c =
@@ -47,12 +46,12 @@ overflow_add-o c =
 pub returns-then-not-particles_within : goal.returns-then-not-particles_within
 returns-then-not-particles_within c =
     let full : Full c.args.o = record { msgs = search unmap } in
-    let is_down_lem = sym c.is_down.ensures ∙ not-false _ c.if-not-is_down.false-raw in
-    down_full c.args.rows.now c.args.o c.args.i c.requires full _ c.if-l-i.false is_down_lem (none_more _ 32 _ c.particles_within.ensures c.if-not-particles_within.true-raw)
+    let down = sym c.is_down.ensures ∙ c.if-not-is_down.false in
+    down_full c.args.rows.now c.args.o c.args.i c.requires full _ c.if-l-i.false down (none_more _ 32 _ c.particles_within.ensures c.if-not-particles_within.true-raw)
 
 pub returns : goal.returns
 returns c =
     let full : Full c.args.o = record { msgs = search unmap } in
-    let is_down_lem = sym c.is_down.ensures ∙ not-false _ c.if-not-is_down.false-raw in
+    let down = sym c.is_down.ensures ∙ c.if-not-is_down.false in
     let room = one_more _ 32 _ c.particles_within.ensures c.if-not-particles_within.false-raw in
-    (refl, down_may c.args.rows.now c.args.o c.args.i c.requires full _ c.if-l-i.false is_down_lem room)
+    (refl, down_may c.args.rows.now c.args.o c.args.i c.requires full _ c.if-l-i.false down room)

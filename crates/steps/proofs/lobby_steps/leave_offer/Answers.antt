@@ -1,5 +1,4 @@
 use mathlib.Core.Path.{refl, sym, ◌∙◌}
-use borrow.Author.Tests.{not-true, not-false}
 use Rattle.values.proofs.Lists.{unmap}
 use Rattle.steps.proofs.Held.{Full, lobby_cap}
 use Rattle.steps.proofs.LobbySteps.{leave_past, leave_not, leave_may}
@@ -34,7 +33,7 @@ returns-then-not-is_leaving c =
     let l = c.args.rows.now in
     let o = c.args.o in
     let i = c.args.i in
-    leave_not l o i c.requires full _ c.if-l-i.false (sym c.is_leaving.ensures ∙ not-true _ c.if-not-is_leaving.true-raw)
+    leave_not l o i c.requires full _ c.if-l-i.false (sym c.is_leaving.ensures ∙ c.if-not-is_leaving.true)
 
 pub returns : goal.returns
 returns c =
@@ -42,4 +41,4 @@ returns c =
     let l = c.args.rows.now in
     let o = c.args.o in
     let i = c.args.i in
-    (refl, leave_may l o i c.requires full _ c.if-l-i.false (sym c.is_leaving.ensures ∙ not-false _ c.if-not-is_leaving.false-raw))
+    (refl, leave_may l o i c.requires full _ c.if-l-i.false (sym c.is_leaving.ensures ∙ c.if-not-is_leaving.false))

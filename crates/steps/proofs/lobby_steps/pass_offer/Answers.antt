@@ -1,5 +1,4 @@
 use mathlib.Core.Path.{sym, ◌∙◌}
-use borrow.Author.Tests.{not-true, not-false}
 use Rattle.values.proofs.Lists.{unmap}
 use Rattle.steps.proofs.Held.{Full, lobby_cap}
 use Rattle.steps.proofs.CopyLaws.{few_copies}
@@ -35,7 +34,7 @@ returns-then-not-is_arrived c =
     let l = c.args.rows.now in
     let o = c.args.o in
     let i = c.args.i in
-    pass_not l o i c.requires full _ c.if-l-i.false c.args.logging (sym c.is_arrived.ensures ∙ not-true _ c.if-not-is_arrived.true-raw)
+    pass_not l o i c.requires full _ c.if-l-i.false c.args.logging (sym c.is_arrived.ensures ∙ c.if-not-is_arrived.true)
 
 pub returns-then-m-ne1 : goal.returns-then-m-ne1
 returns-then-m-ne1 c =
@@ -52,6 +51,6 @@ lobby_offer-requires c =
 pub returns : goal.returns
 returns c =
     let full : Full c.args.o = record { msgs = search unmap } in
-    let arrived = sym c.is_arrived.ensures ∙ not-false _ c.if-not-is_arrived.false-raw in
+    let arrived = sym c.is_arrived.ensures ∙ c.if-not-is_arrived.false in
     pass_last c.args.rows.now c.args.o c.args.i c.requires full _ c.if-l-i.false c.args.logging arrived c.if-m-ne1.false _ c.lobby_offer.result
     c.copies.ensures c.lobby_offer.ensures

@@ -1,6 +1,5 @@
 use mathlib.Core.Path.{refl, sym, ap₂, ◌∙◌}
 use Prim.Native.Nat.{ℕ}
-use borrow.Author.Tests.{not-true, not-false}
 use Rattle.model.specs.Side.{Tag}
 use Rattle.model.specs.Step.{is_to_child}
 use Rattle.steps.proofs.Held.{rows_cap, boxes_cap}
@@ -88,12 +87,12 @@ returns-then-not-is_to_child c =
     let is = sym c.word_at.ensures ∙ c.if-word_at-ne1.false in
     let tag = sym (ap₂ (λ (g : Tag) (n : ℕ). is_to_child g n) c.tag_at-g.ensures c.box_name.ensures) in
     descend_name c.args.rows.now c.args.o c.args.i c.requires c.if-o-i.false c.args.j c.if-o-j.false is
-    (tag ∙ sym c.is_to_child.ensures ∙ not-true _ c.if-not-is_to_child.true-raw)
+    (tag ∙ sym c.is_to_child.ensures ∙ c.if-not-is_to_child.true)
 
 pub returns : goal.returns
 returns c =
     let is = sym c.word_at.ensures ∙ c.if-word_at-ne1.false in
     let parent = sym c.box_parent.ensures.0 ∙ c.if-box_parent-wide.false ∙ c.wide.ensures ∙ c.word_at-2.ensures in
     let tag = sym (ap₂ (λ (g : Tag) (n : ℕ). is_to_child g n) c.tag_at-g.ensures c.box_name.ensures) in
-    let child = tag ∙ sym c.is_to_child.ensures ∙ not-false _ c.if-not-is_to_child.false-raw in
+    let child = tag ∙ sym c.is_to_child.ensures ∙ c.if-not-is_to_child.false in
     (refl, record { held = c.if-o-i.false; box = c.if-o-j.false; inner = c.if-j-eq0.false; is = is; parent = parent; tag = child })

@@ -1,5 +1,4 @@
 use mathlib.Core.Path.{refl, sym, ap, ◌∙◌}
-use borrow.Author.Tests.{not-true, not-false}
 use Rattle.model.specs.Step.{is_to_parent}
 use Rattle.steps.proofs.Held.{rows_cap}
 use Rattle.steps.proofs.ParticleSteps.{up_past, up_no_output, up_not}
@@ -41,12 +40,12 @@ pub returns-then-not-is_to_parent : goal.returns-then-not-is_to_parent
 returns-then-not-is_to_parent c =
     λ s.
     let is = sym c.word_at.ensures ∙ c.if-word_at-ne1.false in
-    let tag = ap is_to_parent (sym c.tag_at-g.ensures) ∙ sym c.is_to_parent.ensures ∙ not-true _ c.if-not-is_to_parent.true-raw in
+    let tag = ap is_to_parent (sym c.tag_at-g.ensures) ∙ sym c.is_to_parent.ensures ∙ c.if-not-is_to_parent.true in
     up_not c.args.rows.now c.args.o c.args.i c.requires c.if-o-i.false s is tag
 
 pub returns : goal.returns
 returns c =
     λ s.
     let is = sym c.word_at.ensures ∙ c.if-word_at-ne1.false in
-    let tag = ap is_to_parent (sym c.tag_at-g.ensures) ∙ sym c.is_to_parent.ensures ∙ not-false _ c.if-not-is_to_parent.false-raw in
+    let tag = ap is_to_parent (sym c.tag_at-g.ensures) ∙ sym c.is_to_parent.ensures ∙ c.if-not-is_to_parent.false in
     (refl, record { held = c.if-o-i.false; is = is; tag = tag })
