@@ -1,41 +1,20 @@
 -- A side's step as the answer that is given.
-use mathlib.Core.Path.{◌≡◌, refl, ap, ◌∙◌, sym}
-use mathlib.Core.List.{List, [], ◌∷◌, ◌++◌}
-use Prim.Native.Nat.{ℕ, zero, suc, ◌+◌, ◌-◌, ◌<◌}
+use mathlib.Core.Path.{◌≡◌, refl, ap}
+use mathlib.Core.List.{List, ◌++◌}
+use Prim.Native.Nat.{ℕ, ◌-◌}
 use native.Mathlib.Omega.{arith}
-use native.Mathlib.Numerals.{add-one}
-use lib.ListN.{length, take, get_or, set, replicate}
+use lib.ListN.{length, replicate}
 use Rattle.model.specs.Basics.{Res, refuse, done}
 use Rattle.model.specs.Step.{Label, silent, enters, leaves, logs, Moved, Answer, labelled, refusal, answer_of}
 use Rattle.model.specs.Answer.{Said as MSaid, label, said_by, side_by, value_by, Given, given}
-use Rattle.values.specs.declared.Value.{Value}
 use Rattle.values.specs.Env.{view_value}
-use Rattle.values.proofs.Lists.{take_count}
 use Rattle.sides.specs.declared.Rest.{Rest}
 use Rattle.steps.specs.declared.Said.{Said}
 use Rattle.steps.specs.declared.Said.TheVariants as said
 use Rattle.steps.specs.StepIs.{label_of}
 use Rattle.steps.specs.declared.RestStep.{RestStep}
 use Rattle.steps.specs.StepIs.{StepIs}
-use Rattle.answers.specs.Answers.{Padded, said_of, given_for}
-
--- ZEROS PAST THE LENGTH
-copy_more : (ws : List ℕ) (k m : ℕ) → k < length ws → set (take k ws ++ replicate (suc m) 0) k (get_or ws k 0) ≡ take (suc k) ws ++ replicate m 0
-copy_more [] k m h = absurd (omega arith)
-copy_more (w ∷ ws) zero m h = refl
-copy_more (w ∷ ws) (suc k) m h = ap (λ (l : List ℕ). w ∷ l) (copy_more ws k m (omega arith))
-
-pub copied : (ws l : List ℕ) (k : ℕ) → length ws ≡ 16 → k < 16 → l ≡ take k ws ++ replicate (16 - k) 0 → set l k (get_or ws k 0) ≡ take (k + 1) ws ++ replicate (16 - (k + 1)) 0
-copied ws l k e h p =
-    let q : 16 - k ≡ suc (16 - (k + 1)) = omega arith in
-    ap (λ (x : List ℕ). set x k (get_or ws k 0)) (p ∙ ap (λ (n : ℕ). take k ws ++ replicate n 0) q) ∙ copy_more ws k (16 - (k + 1)) (omega arith) ∙
-    ap (λ (n : ℕ). take n ws ++ replicate (16 - (k + 1)) 0) (sym (add-one k))
-
-pub padded_is : (v r : Value) (k : ℕ) → k ≡ length (view_value v) → r.words ≡ take k v.words ++ replicate (16 - k) 0 → r.len ≡ k → Padded (view_value v) r
-padded_is v r k e w l = record {
-  len = l ∙ e;
-  words = w ∙ ap (λ (x : ℕ). take x v.words ++ replicate (16 - x) 0) e ∙ ap (λ (x : List ℕ). x ++ replicate (16 - length (view_value v)) 0) (take_count v.len v.words);
-}
+use Rattle.answers.specs.Answers.{said_of, given_for}
 
 -- AN ANSWER AS IT IS GIVEN
 pub same_given : {a b : MSaid} {m n : ℕ} {i j : ℕ} {l r : List ℕ} → a ≡ b → m ≡ n → i ≡ j → l ≡ r → ◌≡◌ {A = Given} (record { said = a; side = m; len = i; words = l }) (record { said = b; side = n; len = j; words = r })

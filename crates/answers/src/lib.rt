@@ -12,10 +12,6 @@ pub fn padded(v: Value) -> Value
 {
     let n = v.count();
     let mut words = [0u32; Value::LONGEST];
-    let mut k: usize = 0;
-    while k < n {
-        words[k] = v.words[k];
-        k += 1;
-    }
+    words[..n].copy_from_slice(&v.words[..n]);
     Value { words, len: n }
 }

@@ -7,9 +7,11 @@ use Prim.Native.Nat.{ℕ, ◌+◌, ◌-◌, ◌<◌, ◌≤◌}
 use native.Mathlib.Omega.{arith}
 use lib.ListN.{length, get_or, take, drop, replicate}
 use lib.Seq.{take-append_seam}
+use Rattle.std.specs.Prelude.{Some, None, Ok}
+use Rattle.std.specs.declared.result.Result.{Result}
 use Rattle.model.specs.Basics.{choose}
 use Rattle.model.specs.Side.{State}
-use Rattle.model.specs.Load.{Composition, ok}
+use Rattle.model.specs.Load.{Composition, Loaded, ok}
 use Rattle.model.specs.Step.{Step, Answer, labelled, refusal, step}
 use Rattle.model.specs.Answer.{Given, given, said_by, side_by, value_by}
 use Rattle.model.specs.Answer.{Said as MSaid}
@@ -60,14 +62,14 @@ module _ (a : Answer) (s : Said) (n : ℕ) (v : List ℕ) (e : given_for s n v �
   shown_by = ap visible (answer_back a s n v e)
 
 -- THE PASS: what is at fault from the start on is at fault from place p on, where k steps are made
-pub record Checking (b : Composition) (s : State) (l ls : List ℕ) (p k : ℕ) (t : State) (a : Agreed) : Type 0 where
+pub record Checking (b : Composition) (s : State) (l ls : List ℕ) (p k : ℕ) (t : State) (a : Result Agreed ℕ) : Type 0 where
   pub steps : step_fault b s 0 (step_records l) ≡ step_fault b t k (records_past 4 (drop p l) 0)
   pub labels : label_fault 0 (trace_of b s (step_records l)) (label_records ls) ≡ fault_from ls a (trace_of b t (records_past 4 (drop p l) 0))
 
-pub check_start : (b : Composition) (s : State) (l ls : List ℕ) (a : Agreed) → (a.at ≡ 0) × (a.count ≡ 0) × (a.parted ≡ false) → Checking b s l ls 0 0 s a
-check_start b s l ls a e = record { steps = refl; labels = rw (e.0, e.1, e.2) refl }
+pub check_start : (b : Composition) (s : State) (l ls : List ℕ) → Checking b s l ls 0 0 s (Ok (record { at = 0; count = 0 }))
+check_start b s l ls = record { steps = refl; labels = refl }
 
-module _ {b : Composition} {s : State} {l ls : List ℕ} {p k : ℕ} {t : State} {a : Agreed} (h : Checking b s l ls p k t a) where
+module _ {b : Composition} {s : State} {l ls : List ℕ} {p k : ℕ} {t : State} {a : Result Agreed ℕ} (h : Checking b s l ls p k t a) where
   abbrev verdict : Verdict
   verdict = check_from b (step_records l) (label_records ls) (ok s)
 
@@ -75,12 +77,12 @@ module _ {b : Composition} {s : State} {l ls : List ℕ} {p k : ℕ} {t : State}
   by_step : step_fault b t k (records_past 4 (drop p l) 0) ≡ some k → step_at_fault k ≡ verdict
   by_step e = sym (ap (λ (o : Option ℕ). judged o (label_fault 0 (trace_of b s (step_records l)) (label_records ls))) (h.steps ∙ e))
 
-  pub step_breaks : p < length l → record_end 4 l p ≡ none → step_at_fault k ≡ verdict
+  pub step_breaks : p < length l → record_end 4 l p ≡ None → step_at_fault k ≡ verdict
   unfolding step_fault
   step_breaks lt e = by_step (ap (step_fault b t k) (records_broken 4 l p lt (found_none 4 l p e)))
 
   -- the record that is there
-  module _ (e : ℕ) (f : record_end 4 l p ≡ some e) where
+  module _ (e : ℕ) (f : record_end 4 l p ≡ Some e) where
     abbrev x : Step
     x = step_at l p
 
@@ -110,7 +112,7 @@ module _ {b : Composition} {s : State} {l ls : List ℕ} {p k : ℕ} {t : State}
     unfolding choose
     step_illegal q = by_step (fault_here false q)
 
-    pub step_legal : is_label (step b t x).answer ≡ true → (u : State) → u ≡ (step b t x).after → (a' : Agreed) →
+    pub step_legal : is_label (step b t x).answer ≡ true → (u : State) → u ≡ (step b t x).after → (a' : Result Agreed ℕ) →
         ((vs : List (List ℕ)) → fault_from ls a' vs ≡ fault_from ls a (visible (step b t x).answer ++ vs)) → Checking b s l ls e (k + 1) u a'
     unfolding choose
     step_legal q u after a' g = record {
@@ -130,3 +132,8 @@ module _ {b : Composition} {s : State} {l ls : List ℕ} {p k : ℕ} {t : State}
       let steps = h.steps ∙ ap (step_fault b t k) over in
       let labels = h.labels ∙ ap (λ (r : Records). fault_from ls a (trace_of b t r)) over in
       e ∙ sym (ap₂ judged steps labels)
+
+-- from where load leads
+pub from_load : (b : Composition) (ws ls : List ℕ) (l : Loaded) (s : State) (v : Verdict) → l ≡ ok s →
+    v ≡ check_from b (step_records ws) (label_records ls) (ok s) → v ≡ check_from b (step_records ws) (label_records ls) l
+from_load b ws ls l s v e h = h ∙ ap (check_from b (step_records ws) (label_records ls)) (sym e)

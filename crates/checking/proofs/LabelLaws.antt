@@ -1,14 +1,16 @@
 -- The claimed labels beside those that come out.
-use mathlib.Core.Path.{◌≡◌, refl, sym, ap, ap₂, ◌∙◌}
-use mathlib.Core.Bool.{Bool, true, false, cond}
-use mathlib.Core.List.{List, [], ◌∷◌, ◌++◌}
+use mathlib.Core.Path.{◌≡◌, refl, sym, ap, ◌∙◌}
+use mathlib.Core.Bool.{Bool, true, false}
+use mathlib.Core.List.{List, [], ◌∷◌}
 use mathlib.Core.Option.{none, some}
 use Prim.Native.Nat.{ℕ, zero, suc, ◌+◌, ◌<◌, ◌≤◌}
 use native.Mathlib.Omega.{arith}
-use native.Mathlib.Numerals.{add-one}
 use borrow.Author.Tests.{leb-true, leb-false, eq-eqb, ne_eqb}
 use lib.Dec.{eqb, leb}
-use lib.ListN.{length, get_or, take, drop, length-drop, drop_of_length-le}
+use lib.ListN.{length, get_or, take, drop, length-drop}
+use Rattle.std.specs.Prelude.{Some, None, nat_eq}
+use lib.Pointwise.{pointwise}
+use Rattle.std.proofs.lemmas.Option.{none-some, same_Some}
 use Rattle.model.specs.Basics.{◌&◌, choose}
 use Rattle.claims.specs.Claims.{Records, end, breaks_off, next, records_past, label_fault, same_words}
 use Rattle.claims.proofs.Records.{no_record, records_next, records_broken, records_end}
@@ -16,33 +18,19 @@ use Rattle.execution.specs.Execution.{record_end}
 use Rattle.execution.proofs.RecordEnds.{found_end, found_none}
 use Rattle.steps.specs.declared.Said.{Said}
 use Rattle.steps.specs.declared.Said.TheVariants as said
-use Rattle.checking.specs.declared.claimed_labels.Agreed.{Agreed}
-use Rattle.checking.specs.Checking.{is_visible, channel_of, shown, fault_from}
+use Rattle.checking.specs.Checking.{channel_of, shown}
 
--- THE SAME WORDS, from a place on
-same_from : (x y : List ℕ) (k : ℕ) → k < length x → k < length y → same_words (drop k x) (drop k y) ≡ (eqb (get_or x k 0) (get_or y k 0) & same_words (drop (suc k) x) (drop (suc k) y))
-same_from [] y k a b = absurd (omega arith)
-same_from (v ∷ x) [] k a b = absurd (omega arith)
-same_from (v ∷ x) (w ∷ y) zero a b = refl
-same_from (v ∷ x) (w ∷ y) (suc k) a b = same_from x y k (omega arith) (omega arith)
-
-module _ (x y : List ℕ) (k : ℕ) (a : k < length x) (b : k < length y) where
-  by_word : (t : Bool) → eqb (get_or x k 0) (get_or y k 0) ≡ t → same_words (drop k x) (drop k y) ≡ (t & same_words (drop (k + 1) x) (drop (k + 1) y))
-  by_word t e =
-      same_from x y k a b
-      ∙ ap (λ (z : Bool). z & same_words (drop (suc k) x) (drop (suc k) y)) e
-      ∙ ap (λ (n : ℕ). t & same_words (drop n x) (drop n y)) (sym (add-one k))
-
-  pub same_next : get_or x k 0 ≡ get_or y k 0 → same_words (drop k x) (drop k y) ≡ same_words (drop (k + 1) x) (drop (k + 1) y)
-  unfolding ◌&◌
-  same_next e = by_word true (eq-eqb (get_or x k 0) (get_or y k 0) e)
-
-  pub same_fails : (get_or x k 0 ≡ get_or y k 0 → ⊥) → same_words (drop k x) (drop k y) ≡ false
-  unfolding ◌&◌
-  same_fails e = by_word false (ne_eqb (get_or x k 0) (get_or y k 0) e)
-
-pub same_end : (x y : List ℕ) (k : ℕ) → length x ≤ k → length y ≤ k → same_words (drop k x) (drop k y) ≡ true
-same_end x y k a b = ap₂ same_words (drop_of_length-le x a) (drop_of_length-le y b)
+-- THE SAME WORDS, as slices are compared
+pub words_compared : (x y : List ℕ) → pointwise nat_eq x y ≡ same_words x y
+unfolding ◌&◌
+words_compared [] [] = refl
+words_compared [] (w ∷ y) = refl
+words_compared (v ∷ x) [] = refl
+words_compared (v ∷ x) (w ∷ y) = by (eqb v w) refl (words_compared x y)
+  where
+    by : (t : Bool) → eqb v w ≡ t → pointwise nat_eq x y ≡ same_words x y → pointwise nat_eq (v ∷ x) (w ∷ y) ≡ same_words (v ∷ x) (w ∷ y)
+    by true e h = rw e h
+    by false e h = rw e refl
 
 -- THE RECORD OF A LABEL
 -- its first three words, and the others
@@ -108,7 +96,7 @@ none_over l p k h = ap (label_fault k []) (records_end 2 l p h)
 
 module _ (l : List ℕ) (p k : ℕ) (v : List ℕ) (vs : List (List ℕ)) where
   -- a label that comes out and is not claimed: there is no whole record
-  pub missing : record_end 2 l p ≡ none → some k ≡ label_fault k (v ∷ vs) (records_past 2 (drop p l) 0)
+  pub missing : record_end 2 l p ≡ None → some k ≡ label_fault k (v ∷ vs) (records_past 2 (drop p l) 0)
   unfolding label_fault
   missing e = by (leb (length l) p) refl
     where
@@ -120,7 +108,7 @@ module _ (l : List ℕ) (p k : ℕ) (v : List ℕ) (vs : List (List ℕ)) where
       by false q = at breaks_off refl (records_broken 2 l p (leb-false (length l) p q) (found_none 2 l p e))
 
   -- the record that is there
-  module _ (e : ℕ) (f : record_end 2 l p ≡ some e) where
+  module _ (e : ℕ) (f : record_end 2 l p ≡ Some e) where
     abbrev there : List ℕ
     there = take (3 + get_or l (p + 2) 0) (drop p l)
 
@@ -140,27 +128,17 @@ module _ (l : List ℕ) (p k : ℕ) (v : List ℕ) (vs : List (List ℕ)) where
     unfolding choose
     parts s = sym (by_record false s)
 
--- HOW FAR THEY AGREE
-pub fault_parted : (l : List ℕ) (a : Agreed) (vs : List (List ℕ)) → a.parted ≡ true → fault_from l a vs ≡ some a.count
-fault_parted l a vs e = ap (λ (t : Bool). cond t (some a.count) (label_fault a.count vs (records_past 2 (drop a.at l) 0))) e
+-- WHAT AN ANSWER SHOWS, by its channel
+pub shown_none : (a : Said) (side : ℕ) (v : List ℕ) → channel_of a ≡ None → shown a side v ≡ []
+shown_none said.In side v e = absurd (none-some _ (sym e))
+shown_none said.Out side v e = absurd (none-some _ (sym e))
+shown_none said.Log side v e = absurd (none-some _ (sym e))
+shown_none said.Silent side v e = refl
+shown_none (said.Refused n) side v e = refl
 
-pub fault_whole : (l : List ℕ) (a : Agreed) (vs : List (List ℕ)) → a.parted ≡ false → fault_from l a vs ≡ label_fault a.count vs (records_past 2 (drop a.at l) 0)
-fault_whole l a vs e = ap (λ (t : Bool). cond t (some a.count) (label_fault a.count vs (records_past 2 (drop a.at l) 0))) e
-
--- what is shown, by the two tests of the code
-pub shown_is : (s : Said) (n : ℕ) (v : List ℕ) → shown s n v ≡ cond (is_visible s) ((channel_of s ∷ n ∷ length v ∷ v) ∷ []) []
-shown_is said.In n v = refl
-shown_is said.Out n v = refl
-shown_is said.Log n v = refl
-shown_is said.Silent n v = refl
-shown_is (said.Refused k) n v = refl
-
--- WHAT AN ANSWER SHOWS, by whether it is visible
-pub shown_when : (a : Said) (side : ℕ) (v : List ℕ) (t : Bool) → is_visible a ≡ t → shown a side v ≡ cond t ((channel_of a ∷ side ∷ length v ∷ v) ∷ []) []
-shown_when a side v t e = shown_is a side v ∙ ap (λ (y : Bool). cond y ((channel_of a ∷ side ∷ length v ∷ v) ∷ []) []) e
-
--- the fault from a label that is shown on, where nothing has parted
-pub shown_first : (l : List ℕ) (g : Agreed) (a : Said) (side : ℕ) (v : List ℕ) → g.parted ≡ false → is_visible a ≡ true → (vs : List (List ℕ)) →
-    fault_from l g (shown a side v ++ vs) ≡ label_fault g.count ((channel_of a ∷ side ∷ length v ∷ v) ∷ vs) (records_past 2 (drop g.at l) 0)
-shown_first l g a side v e f vs =
-    ap (λ (s : List (List ℕ)). fault_from l g (s ++ vs)) (shown_when a side v true f) ∙ fault_whole l g ((channel_of a ∷ side ∷ length v ∷ v) ∷ vs) e
+pub shown_some : (a : Said) (side ch : ℕ) (v : List ℕ) → channel_of a ≡ Some ch → shown a side v ≡ (ch ∷ side ∷ length v ∷ v) ∷ []
+shown_some said.In side ch v e = ap (λ (n : ℕ). (n ∷ side ∷ length v ∷ v) ∷ []) (same_Some _ _ e)
+shown_some said.Out side ch v e = ap (λ (n : ℕ). (n ∷ side ∷ length v ∷ v) ∷ []) (same_Some _ _ e)
+shown_some said.Log side ch v e = ap (λ (n : ℕ). (n ∷ side ∷ length v ∷ v) ∷ []) (same_Some _ _ e)
+shown_some said.Silent side ch v e = absurd (none-some _ e)
+shown_some (said.Refused n) side ch v e = absurd (none-some _ e)

@@ -14,11 +14,10 @@ use sides::Sides;
 mod checked_steps; // the steps of a list of words
 mod claimed_labels; // the claimed labels beside those that come out
 
-// What the checker says: accepted; number, side and node of load's refusal; the first step at fault, which is refusal 20; or the
-// first label at fault, which is 21.
-#[derive(Clone, Copy)]
-pub enum Checked {
-    Accepted,
+// Why a trace is not accepted: number, side and node of load's refusal; the first step at fault, which is refusal 20; or the first
+// label at fault, which is 21.
+#[derive(Clone, Copy, PartialEq, Eq)]
+pub enum TraceError {
     Unloaded(usize, u32, usize),
     StepAt(usize),
     LabelAt(usize),
@@ -31,12 +30,11 @@ pub fn check_trace(
     pools: [&[u32]; Sides::COUNT],
     steps: &[u32],
     labels: &[u32],
-) -> Checked
+) -> Result<(), TraceError>
     ensures { verdict_of result ≡ check_trace (composition wrapper (map (λ x. x.now) nodes.entry) (map (λ x. x.now) pools.entry)) steps.now labels.now }
 {
-    let o = load_verdict(wrapper, nodes, pools);
-    match o {
-        Outcome::Refused(k, i, m) => Checked::Unloaded(k, i, m),
+    match load_verdict(wrapper, nodes, pools) {
+        Outcome::Refused(number, side, node) => Err(TraceError::Unloaded(number, side, node)),
         Outcome::Ok => check_loaded(wrapper, nodes, pools, steps, labels),
     }
 }

@@ -1,29 +1,24 @@
 // A claim and its line. A step is words: kind, side, i, j, how many value words, value words. A label is words: channel (0 `in`,
 // 1 `out`, 3 `log`), side, how many value words, value words.
-use checking::{Checked, check_trace};
+use checking::{TraceError, check_trace};
 use test_schedules::lists::append;
 use test_schedules::shown::{number, write};
 
-// A side's number.
-fn wide(w: u32) -> usize {
-    w as usize
-}
-
 // The verdict in words.
-fn verdict(c: Checked) {
+fn verdict(c: Result<(), TraceError>) {
     match c {
-        Checked::Accepted => write(b" accepted"),
-        Checked::Unloaded(cause, side, node) => {
+        Ok(()) => write(b" accepted"),
+        Err(TraceError::Unloaded(cause, side, node)) => {
             write(b" refused");
             number(cause);
-            number(wide(side));
+            number(side as usize);
             number(node);
         },
-        Checked::StepAt(k) => {
+        Err(TraceError::StepAt(k)) => {
             write(b" 20 at");
             number(k);
         },
-        Checked::LabelAt(k) => {
+        Err(TraceError::LabelAt(k)) => {
             write(b" 21 at");
             number(k);
         },
@@ -47,7 +42,7 @@ pub fn wrapped<'n, 'p>(
 
 // The same with no table on side 2.
 pub fn alone(wrapper: u32, nodes: &[u32], pool: &[u32], steps: &[u32], labels: &[u32]) {
-    wrapped(wrapper, nodes, pool, &nodes[..0], &pool[..0], steps, labels);
+    wrapped(wrapper, nodes, pool, &[], &[], steps, labels);
 }
 
 // The same of the copier: !in^parent y. out^parent (y y)
@@ -69,12 +64,7 @@ pub fn copied(name: &[u8], steps: &[u32], labels: &[u32]) {
 
 // The words of a list from place a to below b; all of it where it has no such part.
 pub fn part(list: &[u32], a: usize, b: usize) -> &[u32] {
-    if b <= list.len() {
-        if a <= b {
-            return &list[a..b];
-        }
-    }
-    list
+    list.get(a..b).unwrap_or(list)
 }
 
 // The first n words of a list.

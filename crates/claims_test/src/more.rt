@@ -2,25 +2,15 @@
 use crate::claim::{copier, first, listing, part};
 use test_schedules::shown::{number, write};
 
-// The line of a claim with one of its lists cut behind n words.
-fn cut(name: &[u8], is_steps: bool, n: usize, steps: &[u32], labels: &[u32]) {
-    write(name);
-    number(n);
-    if is_steps {
-        copier(1, part(steps, 0, n), labels);
-    } else {
-        copier(1, steps, part(labels, 0, n));
+// A line for each place of a list, and one behind its last word: the claim with the list cut there.
+fn all_cuts<F: Fn(&[u32])>(name: &[u8], list: &[u32], claim: F)
+    requires { F.IsAlwaysCallable claim }
+{
+    for n in 0..=list.len() {
+        write(name);
+        number(n);
+        claim(&list[..n]);
     }
-}
-
-// The same cut at each place of a list of so many words, and behind its last.
-fn all_cuts(name: &[u8], is_steps: bool, words: usize, steps: &[u32], labels: &[u32]) {
-    let mut n: usize = 0;
-    while n < words {
-        cut(name, is_steps, n, steps, labels);
-        n += 1;
-    }
-    cut(name, is_steps, words, steps, labels);
 }
 
 // Whole lists under wrapper 0, 4 and the largest number, and lists that break off.
@@ -38,8 +28,8 @@ fn no_wrapper(steps: &[u32], labels: &[u32]) {
 // All of them, with the words of the steps.
 fn rows(steps: &[u32]) {
     let labels = [0u32, 1, 1, 20, 1, 1, 3, 4000002, 20, 20];
-    all_cuts(b"steps cut at", true, steps.len(), steps, &labels);
-    all_cuts(b"labels cut at", false, labels.len(), steps, &labels);
+    all_cuts(b"steps cut at", steps, |part| copier(1, part, &labels));
+    all_cuts(b"labels cut at", &labels, |part| copier(1, steps, part));
     no_wrapper(steps, &labels);
 }
 

@@ -3,7 +3,7 @@
 
 mod words;
 
-ghost use Rattle.std.specs.Prelude.{◌≡◌, ◌-◌};
+ghost use Rattle.std.specs.Prelude.{◌≡◌};
 ghost use Rattle.delimiters.specs.Delimiters.{delimiter_from};
 
 use words::{flags, word_at};
@@ -12,25 +12,12 @@ use words::{flags, word_at};
 fn by_bytes(s: &[u8], start: usize) -> usize
     ensures { result ≡ delimiter_from start s.now }
 {
-    let mut at = start;
-    while at < s.len() {
-        let b = s[at];
-        if b == 9 {
+    for at in start..s.len() {
+        if s[at] == b'\t' || s[at] == b'\n' {
             return at;
         }
-        if b == 10 {
-            return at;
-        }
-        at += 1;
     }
     s.len()
-}
-
-// How many places of a list of some length have eight bytes from there on.
-fn eights(len: usize) -> usize
-    ensures { result ≡ len - 7 }
-{
-    if len < 7 { 0 } else { len - 7 }
 }
 
 // The first place from `start` on with a tab or a newline, or the length where there is none; so it is the length too where the
@@ -38,8 +25,9 @@ fn eights(len: usize) -> usize
 pub fn next_delimiter(s: &[u8], start: usize) -> usize
     ensures { result ≡ delimiter_from start s.now }
 {
-    let end = eights(s.len());
+    let end = s.len().saturating_sub(7);
     let mut at = start;
+    // Stays a `while`: the place where it ends is the one from which the last bytes are looked at; a `for` would not keep it.
     while at < end {
         let found = flags(word_at(s, at));
         if found != 0 {

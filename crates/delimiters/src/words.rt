@@ -9,10 +9,8 @@ pub(crate) fn word_at(s: &[u8], at: usize) -> u64
     ensures { result ≡ word (slice at (at + 8) s.now) }
 {
     let mut w: u64 = 0;
-    let mut k: usize = 8;
-    while 0 < k {
-        k -= 1;
-        w = w * 256 + s[at + k] as u64;
+    for k in (0..8).rev() {
+        w = w * 256 + u64::from(s[at + k]);
     }
     w
 }

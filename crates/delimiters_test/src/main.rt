@@ -39,90 +39,59 @@ fn number(n: u64) {
 // The search as document 02 has it, one place after the other.
 fn by_places(s: &[u8], start: usize) -> usize {
     let mut found = s.len();
-    let mut p = s.len();
-    while start < p {
-        p -= 1;
-        if s[p] == 9 {
-            found = p;
-        }
-        if s[p] == 10 {
+    for p in (start..s.len()).rev() {
+        if s[p] == b'\t' || s[p] == b'\n' {
             found = p;
         }
     }
     found
 }
 
-fn try_start(s: &[u8], start: usize, tally: Tally) -> Tally {
-    let compared = std::num::wrapping_add_u64(tally.compared, 1);
-    let mut differ = tally.differ;
+fn try_start(s: &[u8], start: usize, tally: &mut Tally) {
+    tally.compared = tally.compared.wrapping_add(1);
     if next_delimiter(s, start) != by_places(s, start) {
-        differ = std::num::wrapping_add_u64(differ, 1);
+        tally.differ = tally.differ.wrapping_add(1);
     }
-    Tally { compared, differ }
 }
 
-fn try_starts(s: &[u8], tally: Tally) -> Tally {
-    let mut t = tally;
-    let mut start: usize = 0;
-    while start < 34 {
-        t = try_start(s, start, t);
-        start += 1;
+fn try_starts(s: &[u8], tally: &mut Tally) {
+    for start in 0..34 {
+        try_start(s, start, tally);
     }
-    t = try_start(s, 9223372036854775808, t);
-    t = try_start(s, 18446744073709551608, t);
-    try_start(s, 18446744073709551615, t)
+    try_start(s, 1 << 63, tally);
+    try_start(s, usize::MAX - 7, tally);
+    try_start(s, usize::MAX, tally);
 }
 
 // Two bytes by turns.
-fn filled(even: u8, odd: u8) -> [u8; Case::BYTES]
-    ensures { length result ≡ 24 }
-{
-    let mut list = [even; Case::BYTES];
-    let mut p: usize = 1;
-    while p < Case::BYTES {
-        list[p] = odd;
-        p += 2;
-    }
-    list
+fn filled(even: u8, odd: u8) -> [u8; Case::BYTES] {
+    std::array::from_fn(|p| if p % 2 == 0 { even } else { odd })
 }
 
 // A byte at each place of the first `len`, one after the other.
-fn try_places(even: u8, odd: u8, b: u8, len: usize, tally: Tally) -> Tally
+fn try_places(even: u8, odd: u8, b: u8, len: usize, tally: &mut Tally)
     requires { len ≤ 24 }
 {
-    let mut t = tally;
-    let mut p: usize = 0;
-    while p < len {
+    for p in 0..len {
         let mut list = filled(even, odd);
         list[p] = b;
-        t = try_starts(&list[..len], t);
-        p += 1;
+        try_starts(&list[..len], tally);
     }
-    t
 }
 
-fn try_lengths(even: u8, odd: u8, tally: Tally) -> Tally {
-    let mut t = tally;
-    let mut len: usize = 0;
-    while len <= Case::BYTES {
+fn try_lengths(even: u8, odd: u8, tally: &mut Tally) {
+    for len in 0..=Case::BYTES {
         let list = filled(even, odd);
-        t = try_starts(&list[..len], t);
-        t = try_places(even, odd, 9, len, t);
-        t = try_places(even, odd, 10, len, t);
-        len += 1;
+        try_starts(&list[..len], tally);
+        try_places(even, odd, b'\t', len, tally);
+        try_places(even, odd, b'\n', len, tally);
     }
-    t
 }
 
-fn try_odd(even: u8, tally: Tally) -> Tally {
-    let near = Case::NEAR;
-    let mut t = tally;
-    let mut k: usize = 0;
-    while k < 8 {
-        t = try_lengths(even, near[k], t);
-        k += 1;
+fn try_odd(even: u8, tally: &mut Tally) {
+    for odd in Case::NEAR {
+        try_lengths(even, odd, tally);
     }
-    t
 }
 
 // What the search finds from a start on, behind a blank.
@@ -133,29 +102,23 @@ fn show(s: &[u8], start: usize) {
 
 fn show_some() {
     text(b"W\\t2\\nN from 0, 2, 4, 5, 9:");
-    let s = b"W\t2\nN";
-    show(s, 0);
-    show(s, 2);
-    show(s, 4);
-    show(s, 5);
-    show(s, 9);
+    for start in [0, 2, 4, 5, 9] {
+        show(b"W\t2\nN", start);
+    }
     text(b"\n");
 }
 
 fn main() {
     show_some();
-    let near = Case::NEAR;
-    let mut t = Tally {
+    let mut tally = Tally {
         compared: 0,
         differ: 0,
     };
-    let mut k: usize = 0;
-    while k < 8 {
-        t = try_odd(near[k], t);
-        k += 1;
+    for even in Case::NEAR {
+        try_odd(even, &mut tally);
     }
-    number(t.compared);
+    number(tally.compared);
     text(b" compared, ");
-    number(t.differ);
+    number(tally.differ);
     text(b" differ\n");
 }

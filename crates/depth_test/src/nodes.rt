@@ -1,11 +1,6 @@
 // Nodes of tables.
 use test_schedules::lists::{narrow, node};
 
-// A sum that wraps.
-pub fn sum(a: usize, b: usize) -> usize {
-    std::num::wrapping_add_usize(a, b)
-}
-
 // The nodes 1 to 4: `new`, one in another.
 fn first_news(nodes: &mut [u32; 4400]) {
     node(nodes, 1, 3, 10, 2, 0, 0);
@@ -25,8 +20,8 @@ pub fn news(nodes: &mut [u32; 4400]) {
 
 // A parallel whose children are the next two nodes, the second of them on the left or on the right.
 fn parallel(nodes: &mut [u32; 4400], k: usize, left: bool) {
-    let next = narrow(sum(k, 1));
-    let second = narrow(sum(k, 2));
+    let next = narrow(k.wrapping_add(1));
+    let second = narrow(k.wrapping_add(2));
     if left {
         node(nodes, k, 1, second, next, 0, 0);
     } else {
@@ -37,11 +32,9 @@ fn parallel(nodes: &mut [u32; 4400], k: usize, left: bool) {
 // A spine of n parallels from node a on, each with one child that is nil.
 pub fn spine(nodes: &mut [u32; 4400], a: usize, n: usize, left: bool) {
     let mut at = a;
-    let mut k: usize = 0;
-    while k < n {
+    for _ in 0..n {
         parallel(nodes, at, left);
-        at = sum(at, 2);
-        k += 1;
+        at = at.wrapping_add(2);
     }
 }
 
@@ -53,11 +46,9 @@ pub fn output(nodes: &mut [u32; 4400], k: usize, place: u32) {
 // Outputs at n nodes: a and each second one after it.
 pub fn outputs(nodes: &mut [u32; 4400], a: usize, n: usize, place: u32) {
     let mut at = a;
-    let mut k: usize = 0;
-    while k < n {
+    for _ in 0..n {
         output(nodes, at, place);
-        at = sum(at, 2);
-        k += 1;
+        at = at.wrapping_add(2);
     }
 }
 

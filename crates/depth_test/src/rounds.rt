@@ -1,20 +1,17 @@
 // The same steps many times, added to a list of words; the place behind them is given back.
-use crate::nodes::sum;
 use test_schedules::lists::narrow;
 use test_schedules::named_steps::{arrive, depart};
 
 // A message enters, goes down to place k + 1, and meets the input at k.
 fn meeting(list: &mut [u32; 4400], at: usize, k: usize) -> usize {
-    arrive(list, at, 1, 20, narrow(sum(k, 1)), narrow(k))
+    arrive(list, at, 1, 20, narrow(k.wrapping_add(1)), narrow(k))
 }
 
 // The same for k from a to below b.
 pub fn meetings(list: &mut [u32; 4400], at: usize, a: usize, b: usize) -> usize {
     let mut end = at;
-    let mut k = a;
-    while k < b {
+    for k in a..b {
         end = meeting(list, end, k);
-        k += 1;
     }
     end
 }
@@ -28,10 +25,8 @@ fn round(list: &mut [u32; 4400], at: usize) -> usize {
 // The same n times.
 pub fn rounds(list: &mut [u32; 4400], at: usize, n: usize) -> usize {
     let mut end = at;
-    let mut k: usize = 0;
-    while k < n {
+    for _ in 0..n {
         end = round(list, end);
-        k += 1;
     }
     end
 }

@@ -16,7 +16,7 @@ use Rattle.model.specs.WellFormed.{shelf_of}
 use Rattle.model.specs.Step.{Label, silent, enters, leaves, logs, Step, Moved, settled, local, takes, marked, marks, mark_all, known, side_after}
 use Rattle.values.specs.Env.{view_value}
 use Rattle.tables.specs.Nodes as slices
-use Rattle.wrappers.specs.declared.Source.TheVariants as route
+use Rattle.std.specs.Prelude.{Some}
 use Rattle.sides.specs.declared.Rest.{Rest}
 use Rattle.sides.specs.Layout.{view_shelf, fits_shelf}
 use Rattle.sides.specs.Sides.{core_of, side_of}
@@ -170,8 +170,8 @@ shelves_at : (ls : List (List ℕ)) (ns : List ℕ) (m : ℕ) → 0 < m → shel
 shelves_at ls ns zero h = absurd (omega arith)
 shelves_at ls ns (suc k) h = let z : suc k - 1 ≡ k = omega arith in ap (λ (j : ℕ). view_shelf (get_or ls j []) (get_or ns j 0)) (sym z)
 
-pub place_number : (p m : ℕ) → p ≡ m - 1 → 0 < m → route.Side (p + 1) ≡ route.Side m
-place_number p m e h = let z : p + 1 ≡ m = omega (arith, e, h) in ap route.Side z
+pub place_number : (p m : ℕ) → p ≡ m - 1 → 0 < m → Some (p + 1) ≡ Some m
+place_number p m e h = let z : p + 1 ≡ m = omega (arith, e, h) in ap Some z
 
 pub take_is : (ls : List (List ℕ)) (ns : List ℕ) (p : ℕ) (s : Core) (i q : ℕ) → q ≡ i →
     settled (takes (p + 1) (shelves_in ls ns (p + 1)) s i) ≡ settled (takes (p + 1) (view_shelf (get_or ls p []) (get_or ns p 0)) s q)

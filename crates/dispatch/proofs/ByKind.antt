@@ -13,7 +13,7 @@ use Rattle.model.specs.Side.{Core}
 use Rattle.model.specs.Wrapper.{Route, Wrapper, shelves}
 use Rattle.model.specs.Load.{Setting}
 use Rattle.model.specs.Step.{Moved, settled, go_down, up, pass, leave, descend, meet, enter, takes, inner, route_to, local}
-use Rattle.wrappers.specs.declared.Source.TheVariants.{Side, Nowhere}
+use Rattle.std.specs.Prelude.{Some, None}
 use Rattle.wrappers.specs.Routes.{source_by, source_for}
 use Rattle.sides.specs.declared.Rest.{Rest}
 use Rattle.steps.specs.declared.RestStep.{RestStep}
@@ -43,12 +43,12 @@ ten_is x l o k r e is says = refused_is x l o k r (e ∙ ap refuse (sym is)) say
 
 -- what the check of a route answered
 module _ (v : Wrapper) (m j : ℕ) (a : Offer) (w : RouteOffer v m j a) where
-  pub route_at : (k : ℕ) → a ≡ At k → Side (k + 1) ≡ source_for v m j
+  pub route_at : (k : ℕ) → a ≡ At k → Some (k + 1) ≡ source_for v m j
   route_at k e = subst (λ (y : Offer). RouteOffer v m j y) e w
 
-  pub route_refused : (n k : ℕ) → a ≡ Refused n → k ≡ number_of a → (k ≡ 10) × (Nowhere ≡ source_for v m j)
+  pub route_refused : (n k : ℕ) → a ≡ Refused n → k ≡ number_of a → (k ≡ 10) × (None ≡ source_for v m j)
   route_refused n k e q =
-      let z : (n ≡ 10) × (Nowhere ≡ source_for v m j) = subst (λ (y : Offer). RouteOffer v m j y) e w in
+      let z : (n ≡ 10) × (None ≡ source_for v m j) = subst (λ (y : Offer). RouteOffer v m j y) e w in
       (q ∙ ap number_of e ∙ z.0, z.1)
 
 -- a number by its bounds
@@ -186,18 +186,18 @@ module _ (c : Setting) (known : ℕ → Bool) (sh : ℕ → List (List ℕ)) (s 
   take_by e q p = rw (eq-eqb (length ws) 0 e, p)
 
   module _ (e : length ws ≡ 0) where
-    pub take_none : Nowhere ≡ source_for c.wrapper c.side j → settled (local c known sh s (asked 8 n i j ws)) ≡ refuse 10
+    pub take_none : None ≡ source_for c.wrapper c.side j → settled (local c known sh s (asked 8 n i j ws)) ≡ refuse 10
     unfolding settled bind
     take_none p = go (route_to c.wrapper.routes c.side j) refl p
       where
-        go : (q : Res Route) → route_to c.wrapper.routes c.side j ≡ q → Nowhere ≡ source_by q → settled (local c known sh s (asked 8 n i j ws)) ≡ refuse 10
+        go : (q : Res Route) → route_to c.wrapper.routes c.side j ≡ q → None ≡ source_by q → settled (local c known sh s (asked 8 n i j ws)) ≡ refuse 10
         go (refuse x) z w = take_by e (refuse x) z ∙ ap refuse (route_ten c.wrapper.routes c.side j x z)
         go (done r) z w = let y : ◌≡◌ {A = ℕ} 0 1 = cc in absurd (omega arith)
 
-    pub take_from : (m : ℕ) → Side m ≡ source_for c.wrapper c.side j → settled (local c known sh s (asked 8 n i j ws)) ≡ settled (takes m (sh m) s i)
+    pub take_from : (m : ℕ) → Some m ≡ source_for c.wrapper c.side j → settled (local c known sh s (asked 8 n i j ws)) ≡ settled (takes m (sh m) s i)
     unfolding bind
     take_from m p = go (route_to c.wrapper.routes c.side j) refl p
       where
-        go : (q : Res Route) → route_to c.wrapper.routes c.side j ≡ q → Side m ≡ source_by q → settled (local c known sh s (asked 8 n i j ws)) ≡ settled (takes m (sh m) s i)
+        go : (q : Res Route) → route_to c.wrapper.routes c.side j ≡ q → Some m ≡ source_by q → settled (local c known sh s (asked 8 n i j ws)) ≡ settled (takes m (sh m) s i)
         go (refuse x) z w = let y : ◌≡◌ {A = ℕ} 0 1 = cc in absurd (omega arith)
         go (done r) z w = let y : r.source ≡ m = cc in take_by e (done r) z ∙ ap (λ (t : ℕ). settled (takes t (sh t) s i)) y

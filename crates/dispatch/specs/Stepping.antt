@@ -8,7 +8,7 @@ use Rattle.model.specs.WellFormed.{Counts, wf_core}
 use Rattle.model.specs.Step.{Step, Moved, go_down, up, pass, leave, descend, meet, local, settled}
 use Rattle.tables.specs.Nodes.{table}
 use Rattle.tables.specs.Checks.{Passes}
-use Rattle.wrappers.specs.declared.Source.TheVariants.{Side, Nowhere}
+use Rattle.std.specs.Prelude.{Some, None}
 use Rattle.wrappers.specs.Routes.{source_for}
 use Rattle.steps.specs.declared.Offer.{Offer}
 use Rattle.steps.specs.declared.Offer.TheVariants.{At, Refused}
@@ -36,8 +36,8 @@ LocalIs c ms sh x l o m r = StepIs (settled (local c (known_by ms) sh (core_of l
 
 -- the place of the side that the route by j leads from, or 10 where there is no route
 abbrev pub RouteOffer : Wrapper → (side j : ℕ) → Offer → Type 0
-RouteOffer w n j (At p) = Side (p + 1) ≡ source_for w n j
-RouteOffer w n j (Refused x) = (x ≡ 10) × (Nowhere ≡ source_for w n j)
+RouteOffer w n j (At p) = Some (p + 1) ≡ source_for w n j
+RouteOffer w n j (Refused x) = (x ≡ 10) × (None ≡ source_for w n j)
 
 -- kind 2, 3, 6 or 7
 pub record OnePlaceKind (k : ℕ) : Type 0 where

@@ -11,17 +11,16 @@ use loading::place_of;
 use sides::{Rest, Rows, Sides};
 use steps::{Offer, RestStep, Said, mark_all, take};
 use values::Value;
-use wrappers::{Source, source_of};
+use wrappers::source_of;
 
 // Whether a route leads to the side by j. The position is the place of the side that it leads from.
 fn route_offer(wrapper: u32, side: u32, j: usize) -> Offer
     ensures { RouteOffer (described wrapper) side j result }
 {
-    let s = source_of(wrapper, side, j);
-    let Source::Side(m) = s else {
-        return Offer::Refused(10);
-    };
-    Offer::At(place_of(m))
+    match source_of(wrapper, side, j) {
+        Some(m) => Offer::At(place_of(m)),
+        None => Offer::Refused(10),
+    }
 }
 
 // Kind 8 of the side at place k: there are no value words, and j names a route. No word changes.

@@ -1,9 +1,8 @@
 -- The parts of a list of words: where they begin, and what they are.
-use mathlib.Core.Path.{◌≡◌, refl, sym, ap, subst, ◌∙◌}
+use mathlib.Core.Path.{◌≡◌, refl, sym, ap, ◌∙◌}
 use mathlib.Core.Bool.{Bool, true, false}
 use mathlib.Core.List.{List, [], ◌∷◌, map}
 use Prim.Native.Nat.{ℕ, zero, suc, ◌+◌, ◌-◌, ◌*◌, ◌<◌, ◌≤◌, min}
-use native.Mathlib.Nat.{min-eq_left, min-eq_right}
 use native.Mathlib.Numerals.{add-one}
 use native.Mathlib.Omega.{arith}
 use borrow.Author.Tests.{leb-true, leb-false}
@@ -33,33 +32,6 @@ total_suc (n ∷ ls) (suc k) = let e = total_suc ls k in omega (arith, e)
 
 pub total_more : (ls : List ℕ) (k : ℕ) → total (take (k + 1) ls) ≡ total (take k ls) + get_or ls k 0
 total_more ls k = ap (λ (n : ℕ). total (take n ls)) (add-one k) ∙ total_suc ls k
-
--- more lengths are no less
-total_grows : (ls : List ℕ) (i k : ℕ) → i ≤ k → total (take i ls) ≤ total (take k ls)
-unfolding total
-total_grows [] i k h = subst (λ (l : List ℕ). total l ≤ total (take k [])) (sym (take-nil i)) (omega arith)
-total_grows (n ∷ ls) zero k h = omega arith
-total_grows (n ∷ ls) (suc i) zero h = absurd (omega arith)
-total_grows (n ∷ ls) (suc i) (suc k) h = let e = total_grows ls i k (omega (arith, h)) in omega (arith, e)
-
--- there are as many words as the lengths before part k say
-reached : (ls : List ℕ) (k at words : ℕ) → at ≡ total (take k ls) → at ≤ words → at ≡ min (total (take k ls)) words
-reached ls k at words same fits = same ∙ sym (min-eq_left (subst (λ (n : ℕ). n ≤ words) same fits))
-
--- at is the sum of i lengths, and the words are no fewer
-module _ (ls : List ℕ) (i k at words : ℕ) (is : at ≡ total (take i ls)) (fits : at ≤ words) where
-  pub all_added : i ≡ k → at ≡ min (total (take k ls)) words
-  all_added e = reached ls k at words (is ∙ ap (λ (n : ℕ). total (take n ls)) e) fits
-
-  -- no length is left
-  pub no_length_left : i < k → length ls ≡ i → at ≡ min (total (take k ls)) words
-  no_length_left below e =
-      let all : take i ls ≡ take k ls = take_all i ls (omega (arith, e)) ∙ sym (take_all k ls (omega (arith, e, below))) in
-      reached ls k at words (is ∙ ap total all) fits
-
-  -- the next length is more than the words that are left
-  pub past_the_end : i < k → words - at < get_or ls i 0 → words ≡ min (total (take k ls)) words
-  past_the_end below h = sym (min-eq_right (omega (arith, is, h, fits, total_more ls i, total_grows ls (i + 1) k (omega (arith, below)))))
 
 -- A PART
 

@@ -10,11 +10,11 @@ ghost use Rattle.embed.specs.Lent.{lent_composition};
 ghost use Rattle.stranding.specs.Stranding.{stranded_after};
 ghost use Rattle.embed.specs.Numbers.{TextNumbers, RunNumbers, TraceNumbers, AfterNumbers};
 
-use checking::{Checked, check_trace};
+use checking::{TraceError, check_trace};
 use parts::parts;
-use running::{Ran, run};
-use stranding::{After, stranded_after};
-use text::{Written, text};
+use running::{RunError, run};
+use stranding::{AfterError, stranded_after};
+use text::text;
 
 mod parts; // the tables of all sides, cut into those of each
 
@@ -24,13 +24,12 @@ mod parts; // the tables of all sides, cut into those of each
 pub extern "C" fn bench_text(input: &[u8], out: &mut [u8], bytes: &mut usize) -> usize
     ensures { TextNumbers (output input.now) out.old out.new bytes.new result }
 {
-    let w = text(input, out);
-    match w {
-        Written::Bytes(n) => {
+    match text(input, out) {
+        Ok(n) => {
             *bytes = n;
             0
         },
-        Written::TooShort => {
+        Err(_) => {
             *bytes = 0;
             1
         },
@@ -52,21 +51,20 @@ pub extern "C" fn bench_run(
 {
     let nodes = parts(tables, lengths, 0);
     let pools = parts(tables, lengths, 1);
-    let ran = run(wrapper, nodes, pools, steps, out);
-    match ran {
-        Ran::Done(n) => {
+    match run(wrapper, nodes, pools, steps, out) {
+        Ok(n) => {
             *numbers = [n, 0, 0];
             0
         },
-        Ran::Refused(number, side, node) => {
+        Err(RunError::Refused(number, side, node)) => {
             *numbers = [number, side as usize, node];
             1
         },
-        Ran::BrokenOff => {
+        Err(RunError::BrokenOff) => {
             *numbers = [0, 0, 0];
             2
         },
-        Ran::TooShort => {
+        Err(RunError::TooShort) => {
             *numbers = [0, 0, 0];
             3
         },
@@ -88,21 +86,20 @@ pub extern "C" fn bench_check_trace(
 {
     let nodes = parts(tables, lengths, 0);
     let pools = parts(tables, lengths, 1);
-    let checked = check_trace(wrapper, nodes, pools, steps, labels);
-    match checked {
-        Checked::Accepted => {
+    match check_trace(wrapper, nodes, pools, steps, labels) {
+        Ok(()) => {
             *place = [0, 0];
             0
         },
-        Checked::Unloaded(number, side, node) => {
+        Err(TraceError::Unloaded(number, side, node)) => {
             *place = [side as usize, node];
             number
         },
-        Checked::StepAt(k) => {
+        Err(TraceError::StepAt(k)) => {
             *place = [0, k];
             20
         },
-        Checked::LabelAt(k) => {
+        Err(TraceError::LabelAt(k)) => {
             *place = [0, k];
             21
         },
@@ -126,21 +123,20 @@ pub extern "C" fn bench_stranded_after(
 {
     let nodes = parts(tables, lengths, 0);
     let pools = parts(tables, lengths, 1);
-    let after = stranded_after(wrapper, nodes, pools, steps, side, out);
-    match after {
-        After::Count(count) => {
+    match stranded_after(wrapper, nodes, pools, steps, side, out) {
+        Ok(count) => {
             *numbers = [count, 0, 0];
             0
         },
-        After::Unloaded(cause, of, node) => {
+        Err(AfterError::Unloaded(cause, of, node)) => {
             *numbers = [cause, of as usize, node];
             1
         },
-        After::BrokenOff => {
+        Err(AfterError::BrokenOff) => {
             *numbers = [0, 0, 0];
             2
         },
-        After::TooShort => {
+        Err(AfterError::TooShort) => {
             *numbers = [0, 0, 0];
             22
         },

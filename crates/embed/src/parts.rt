@@ -3,25 +3,16 @@ ghost use Rattle.std.specs.Prelude.{◌≡◌, map, ◌*◌, ◌<◌, min, lengt
 ghost use Rattle.model.specs.Wrapper.{all_sides};
 ghost use Rattle.embed.specs.Lent.{total, part_at, parts_from};
 
-use execution::wide;
 use sides::Sides;
 
 // Where part k begins: behind as many words as the lengths before it say, or at the end of the words where these are fewer.
 fn place(words: &[u32], lengths: &[u32], k: usize) -> usize
     ensures { result ≡ min (total (take k lengths.now)) (length words.now) }
 {
+    let before = &lengths[..k.min(lengths.len())];
     let mut at: usize = 0;
-    let mut i: usize = 0;
-    while i < k {
-        if i == lengths.len() {
-            return at;
-        }
-        let n = wide(lengths[i]);
-        if words.len() - at < n {
-            return words.len();
-        }
-        at += n;
-        i += 1;
+    for &n in before {
+        at = at.saturating_add(n as usize).min(words.len());
     }
     at
 }
@@ -46,10 +37,8 @@ pub(crate) fn parts<'a>(
     ensures { map (λ x. x.now) result ≡ parts_from first words.now lengths.now }
 {
     let mut all = [&words[0..0]; Sides::COUNT];
-    let mut k: usize = 0;
-    while k < Sides::COUNT {
+    for k in 0..Sides::COUNT {
         all[k] = part(words, lengths, 2 * k + first);
-        k += 1;
     }
     all
 }

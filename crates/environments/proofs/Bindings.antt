@@ -8,23 +8,23 @@ use native.Mathlib.Numerals.{add-one}
 use native.Mathlib.Omega.{arith}
 use borrow.Author.Tests.{leb-true}
 use lib.ListN.{length, get_or, take, drop, length-append, length-map, length-take}
-use lib.Seq.{take-suc, take_all, length-take-le}
-use Rattle.model.specs.Basics.{refuse, done, every}
+use lib.Seq.{take-suc, length-take-le}
+use Rattle.model.specs.Basics.{Res, refuse, done, is_done, every}
 use Rattle.model.specs.Values.{Env, Fit, extend, binders, matches}
 use Rattle.model.proofs.Basics.Tests.{fst, snd}
 use Rattle.values.specs.declared.Part.{Part}
 use Rattle.values.specs.declared.Bound as values
+use Rattle.std.specs.declared.option.Option.{Option}
+use Rattle.std.specs.declared.option.Option.TheVariants.{None, Some}
 use Rattle.values.specs.declared.Matched.{Matched}
 use Rattle.values.specs.declared.Value.{Value}
 use Rattle.values.specs.Env.{view_value}
 use Rattle.values.specs.Match.{part_of, view_bound, fit, fit_of, stored_after}
-use Rattle.values.proofs.Lists.{take_count}
 use Rattle.values.proofs.Names.{next_name, next_other, binders_front}
 use Rattle.values.proofs.Matches.{matched_no, matched_yes}
 use Rattle.values.proofs.Environments.{extend_none, extend_more}
 use Rattle.sides.specs.Environments.{env_of, bound}
 use Rattle.sides.proofs.Binding.{bound_length, env_bound, fits_bound}
-use Rattle.environments.specs.declared.matching.Binding.{Binding}
 use Rattle.environments.specs.Fits.{Fits}
 use Rattle.environments.specs.Matching.{pattern_at, bound_all, Bindable, Matchable, names_after, words_after, BindingIs}
 use Rattle.environments.proofs.Patterns.{is_short, pattern_binds, match_no, match_yes}
@@ -108,14 +108,6 @@ module _ {e : List ℕ} {n : ℕ} {p v : List ℕ} {b : values.Bound} {i k : ℕ
           words = now ∙ sym (all_more ns vs e n (get_or p i 0) part same) ∙ ap₂ (bound_all e n) (sym q) (sym t);
         }
 
-  pub grown_all : length p ≤ i → length (view_bound v b) ≡ length (binders p) → (n + k ≡ n + length (binders p)) × (x ≡ bound_all e n (binders p) (view_bound v b))
-  grown_all h each =
-      let a : take i p ≡ p = take_all i p h in
-      let m : k ≡ length (binders p) = g.names ∙ ap (λ (y : List ℕ). length (binders y)) a in
-      let c : k ≡ length (take b.n b.rows) = m ∙ sym each ∙ length-map (take b.n b.rows) (part_of v) in
-      let t : take k b.rows ≡ take b.n b.rows = ap (λ (j : ℕ). take j b.rows) c ∙ take_count b.n b.rows in
-      (ap (λ (j : ℕ). n + j) m, g.words ∙ ap₂ (λ (y : List ℕ) (l : List Part). bound_all e n (binders y) (map (part_of v) l)) a t)
-
 -- THE ANSWER for the words s of a pattern of the pool
 module _ (pool : List ℕ) (place : ℕ) (e : List ℕ) (n : ℕ) (v : Value) (g : Matchable e n (pattern_at pool place) v) where
   abbrev p : List ℕ
@@ -127,49 +119,58 @@ module _ (pool : List ℕ) (place : ℕ) (e : List ℕ) (n : ℕ) (v : Value) (g
   few : length x ≤ 16
   few = let h = g.short in omega (arith, length-take v.len v.words)
 
-  module _ (s : List ℕ) (w : s ≡ p) (m : Matched) (f : fit_of s x m ≡ stored_after [] (matches s 1 x)) where
-    f' : fit_of p x m ≡ stored_after [] (matches p 1 x)
-    f' = subst (λ (y : List ℕ). fit_of y x m ≡ stored_after [] (matches y 1 x)) w f
+  module _ (s : List ℕ) (w : s ≡ p) where
+    at_pattern : (m : Option Matched) → fit_of s x m ≡ stored_after [] (matches s 1 x) → fit_of p x m ≡ stored_after [] (matches p 1 x)
+    at_pattern m f = subst (λ (y : List ℕ). fit_of y x m ≡ stored_after [] (matches y 1 x)) w f
 
-    module _ (y : m.fits ≡ true) where
+    module _ (m : Matched) (f : fit_of s x (Some m) ≡ stored_after [] (matches s 1 x)) where
       got : matches p 1 x ≡ done (fit (drop m.pattern p) (drop m.value x) (view_bound x m.bound))
-      got = matched_yes p x m f' y (let h = g.room in omega arith)
+      got = matched_yes p x m (at_pattern (Some m) f) (let h = g.room in omega arith)
 
       pub parts_bindable : Bindable e n (binders s) x m.bound
       parts_bindable = rw w (record { long = g.long; room = g.room; short = few; each = (pattern_binds pool place x _ got few).0 })
 
       pub binding_yes : (e' : List ℕ) (k : ℕ) → (k ≡ n + length (binders s)) × (e' ≡ bound_all e n (binders s) (view_bound x m.bound)) →
-          BindingIs p x e n e' (record { fits = true; n = k })
+          BindingIs p x e n e' (Some k)
       unfolding names_after words_after
       binding_yes e' k q =
           record {
-            fits = rw got;
-            count = rw got (q.0 ∙ ap (λ (z : List ℕ). n + length (binders z)) w);
+            count = rw got (ap Some (q.0 ∙ ap (λ (z : List ℕ). n + length (binders z)) w));
             words = rw got (q.1 ∙ ap (λ (z : List ℕ). bound_all e n (binders z) (view_bound x m.bound)) w);
           }
 
-    pub binding_no : m.fits ≡ false → BindingIs p x e n e (record { fits = false; n = n })
+    pub binding_no : fit_of s x None ≡ stored_after [] (matches s 1 x) → BindingIs p x e n e None
     unfolding names_after words_after
-    binding_no y = let no = matched_no p x m f' y in record { fits = rw no; count = rw no; words = rw no }
+    binding_no f = let no = matched_no p x (at_pattern None f) in record { count = rw no; words = rw no }
 
   -- FOR A CALLER: where the pattern takes the value, the environment is extended by what it binds
-  env_after : (e' : List ℕ) (r : Binding) → BindingIs p x e n e' r → Fits e n → (m : Fit) → matches p 1 x ≡ done m →
-      (env_of e' r.n ≡ extend (env_of e n) (binders p) m.bound) × Fits e' r.n
+  env_after : (e' : List ℕ) (k : ℕ) → BindingIs p x e n e' (Some k) → Fits e n → (m : Fit) → matches p 1 x ≡ done m →
+      (env_of e' k ≡ extend (env_of e n) (binders p) m.bound) × Fits e' k
   unfolding names_after words_after
-  env_after e' r is fits m q =
+  env_after e' k is fits m q =
       let each = pattern_binds pool place x m q few in
-      let count : r.n ≡ n + length (binders p) = is.count ∙ rw q in
+      let after : Some k ≡ Some (n + length (binders p)) = is.count ∙ rw q in
+      let count : k ≡ n + length (binders p) = cc in
       let words : e' ≡ bound_all e n (binders p) m.bound = is.words ∙ rw q in
       rw (count, words) (all_env (binders p) m.bound e n fits g.room each.0 each.1)
 
-  pub binding_env : (e' : List ℕ) (r : Binding) → BindingIs p x e n e' r → Fits e n → r.fits ≡ true →
-      (m : Fit) × (matches p 1 x ≡ done m) × (env_of e' r.n ≡ extend (env_of e n) (binders p) m.bound) × Fits e' r.n
-  binding_env e' r is fits y =
-      let (m, q) = match_yes p x (sym is.fits ∙ y) in
-      let (view, all) = env_after e' r is fits m q in
+  pub binding_env : (e' : List ℕ) (k : ℕ) → BindingIs p x e n e' (Some k) → Fits e n →
+      (m : Fit) × (matches p 1 x ≡ done m) × (env_of e' k ≡ extend (env_of e n) (binders p) m.bound) × Fits e' k
+  unfolding names_after
+  binding_env e' k is fits =
+      let (m, q) = match_yes p x (yes (matches p 1 x) is.count) in
+      let (view, all) = env_after e' k is fits m q in
       (m, q, view, all)
+    where
+      yes : (r : Res Fit) → Some k ≡ names_after r n (binders p) → is_done r ≡ true
+      yes (refuse j) h = cc
+      yes (done m) h = refl
 
   -- and where it does not, 14 is the refusal, and all is as it was
-  pub binding_none : (e' : List ℕ) (r : Binding) → BindingIs p x e n e' r → r.fits ≡ false → (matches p 1 x ≡ refuse 14) × (r.n ≡ n) × (e' ≡ e)
+  pub binding_none : (e' : List ℕ) → BindingIs p x e n e' None → (matches p 1 x ≡ refuse 14) × (e' ≡ e)
   unfolding names_after words_after
-  binding_none e' r is y = let q = match_no p x (sym is.fits ∙ y) in (q, is.count ∙ rw q, is.words ∙ rw q)
+  binding_none e' is = let q = match_no p x (no (matches p 1 x) is.count) in (q, is.words ∙ rw q)
+    where
+      no : (r : Res Fit) → None ≡ names_after r n (binders p) → is_done r ≡ false
+      no (refuse j) h = refl
+      no (done m) h = cc

@@ -6,10 +6,10 @@ use Prim.Native.Nat.{ℕ, ◌+◌, ◌<◌, ◌≤◌}
 use native.Mathlib.Nat.{add_assoc, zero-add, add-zero}
 use native.Mathlib.Numerals.{add-one}
 use native.Mathlib.Omega.{arith}
-use borrow.Author.Tests.{lt-ltb, le-ltb, le-leb, lt-leb, leb-true, eqb-true, eqb-false}
+use borrow.Author.Tests.{lt-ltb, leb-true, eqb-true, eqb-false}
 use lib.Dec.{ltb, eqb}
 use lib.ListN.{length, get_or, set, take, drop, length-set, length-append, take-append-drop}
-use lib.Seq.{take-suc, take_all, get_or-set_same, get_or-set_other}
+use lib.Seq.{take-suc, get_or-set_same, get_or-set_other}
 use Rattle.model.specs.Basics.{◌or◌}
 use Rattle.model.specs.Values.{Env, is_public, value, extend, substitute}
 use Rattle.model.specs.Table.{Term, nil, par, box, new, out, inp}
@@ -18,13 +18,6 @@ use Rattle.sides.specs.Environments.{env_of}
 use Rattle.environments.specs.Fits.{Fits}
 use Rattle.environments.specs.Long.{long_in, size_for, size_by, long_by}
 use Rattle.environments.proofs.Slots.{env_sized}
-
--- a word's size, by the way that the code goes
-pub size_name : (ts : List ℕ) (w r : ℕ) → w ≤ 63 → r ≡ get_or ts w 0 → r ≡ size_for ts w
-size_name ts w r h e = e ∙ sym (ap (λ (b : Bool). cond b (get_or ts w 0) 1) (le-leb w 63 h))
-
-pub size_word : (ts : List ℕ) (w : ℕ) → 63 < w → 1 ≡ size_for ts w
-size_word ts w h = sym (ap (λ (b : Bool). cond b (get_or ts w 0) 1) (lt-leb w 63 h))
 
 -- THE SUM OF THE SIZES, word by word
 size_append : (ts a b : List ℕ) → size_by ts (a ++ b) ≡ size_by ts a + size_by ts b
@@ -51,9 +44,6 @@ module _ (ts s : List ℕ) (i n m : ℕ) (h : i < length s) (p : n ≡ size_by t
   size_over lt =
       let all = ap (size_by ts) (sym (take-append-drop (i + 1) s)) ∙ size_append ts (take (i + 1) s) (drop (i + 1) s) in
       sym (lt-ltb 16 (size_by ts s) (omega (arith, all, size_next)))
-
-pub size_all : (ts s : List ℕ) (i n : ℕ) → length s ≤ i → n ≡ size_by ts (take i s) → n ≤ 16 → false ≡ ltb 16 (size_by ts s)
-size_all ts s i n h p le = sym (le-ltb 16 (size_by ts s) (omega (arith, p, ap (size_by ts) (take_all i s h))))
 
 -- SIZES AND ENVIRONMENTS: the entry of each name is the size of its value
 pub record Agrees (ρ : Env) (ts : List ℕ) : Type 0 where

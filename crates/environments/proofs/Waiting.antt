@@ -1,11 +1,14 @@
 -- The environment of a waiting input: how its words come about, and what they are.
-use mathlib.Core.Path.{◌≡◌, sym, ap, ap₂, ◌∙◌}
-use mathlib.Core.List.{List, map}
-use Prim.Native.Nat.{ℕ, ◌+◌, ◌-◌, ◌<◌, ◌≤◌}
+use mathlib.Core.Path.{◌≡◌, refl, sym, ap, ap₂, ◌∙◌}
+use mathlib.Core.Bool.{Bool, true, false}
+use mathlib.Core.List.{List, ◌++◌, map}
+use Prim.Native.Nat.{ℕ, ◌-◌, ◌≤◌, min}
 use native.Mathlib.Nat.{zero-add}
 use native.Mathlib.Omega.{arith}
-use lib.ListN.{length, take, drop, get_or, set, length-drop, length-map}
-use lib.Seq.{sets, length-sets, length-take-le, take_all}
+use borrow.Author.Tests.{leb-true, leb-false}
+use lib.Dec.{leb}
+use lib.ListN.{length, take, drop, get_or, length-drop, length-map, drop_of_length-le}
+use lib.Seq.{sets, sets-eq, length-sets, length-take-le, take_all}
 use Rattle.model.specs.Values.{Env}
 use Rattle.model.specs.Table.{Table, scope}
 use Rattle.model.specs.WellFormed.{env_at}
@@ -17,23 +20,27 @@ use Rattle.sides.specs.Stored.{values_put}
 use Rattle.sides.specs.Environments.{env_of}
 use Rattle.sides.proofs.Sets.{mid_sets}
 use Rattle.sides.proofs.Parts.{part_length}
-use Rattle.sides.proofs.Storing.{part_turn, values_length}
+use Rattle.sides.proofs.Storing.{values_length}
 use Rattle.sides.proofs.Reading.{places_count}
 use Rattle.sides.proofs.Viewing.{held_count, held_values, values_env, values_fit_lem}
 use Rattle.environments.specs.Fits.{Fits}
 use Rattle.environments.specs.Inputs.{node_of, values_of, Waits, names_put, InputEnvIs}
 
 -- NAMES COPIED: those from `top` on, one after another
-pub name_turn : (e s x : List ℕ) (top n k : ℕ) → k ≡ top + n → k < length s → x ≡ sets e 0 (take n (drop top s)) → set x n (get_or s k 0) ≡ sets e 0 (take (n + 1) (drop top s))
-name_turn e s x top n k z h q =
-    ap₂ (λ (i j : ℕ). set x i (get_or s j 0)) (sym (zero-add n)) z ∙ part_turn e s x 0 top n (omega arith) q
+module _ (s : List ℕ) (top k : ℕ) (full : length s ≡ 8) (z : k ≡ min top 8) where
+  pub names_taken : take (length s - k) (drop k s) ≡ drop top s
+  names_taken = take_all (length s - k) (drop k s) (omega (arith, length-drop k s)) ∙ go (leb top 8) refl
+    where
+      go : (b : Bool) → leb top 8 ≡ b → drop k s ≡ drop top s
+      go true t = let same : k ≡ top = omega (arith, leb-true top 8 t) in ap (λ (j : ℕ). drop j s) same
+      go false t =
+          let past = leb-false top 8 t in
+          drop_of_length-le s {i = k} (omega arith) ∙ sym (drop_of_length-le s {i = top} (omega arith))
 
-module _ (e s x : List ℕ) (top n k : ℕ) (full : length s ≡ 8) (z : k ≡ top + n) (m : n ≤ 8 - top) (h : 8 ≤ k) where
-  pub names_count : n ≡ length (drop top s)
-  names_count = omega (arith, length-drop top s)
-
-  pub names_done : x ≡ sets e 0 (take n (drop top s)) → x ≡ sets e 0 (drop top s)
-  names_done q = q ∙ ap (sets e 0) (take_all n (drop top s) (omega (arith, length-drop top s)))
+  pub names_stored : (e x : List ℕ) → 8 ≤ length e → x ≡ take (length s - k) (drop k s) → x ++ drop (length (take (length s - k) (drop k s))) e ≡ sets e 0 (drop top s)
+  names_stored e x long q =
+      let eq = sets-eq (drop top s) e 0 (omega (arith, length-drop top s)) in
+      rw (q, names_taken) (sym (rw zero-add at eq))
 
 -- THE WHOLE: the names in force at the node, and the values of the row
 module _ (t : Table) (rows : List ℕ) (j : ℕ) (w : Waits t rows j) where

@@ -1,12 +1,13 @@
 -- A pattern matched with a value, and the names that it binds, in lent words.
 use Rattle.std.specs.Prelude.{◌≡◌, List, [], ◌∷◌, ℕ, ◌+◌, ◌≤◌, length}
-use Rattle.model.specs.Basics.{Res, refuse, done, is_done, or_else}
+use Rattle.std.specs.declared.option.Option.{Option}
+use Rattle.std.specs.declared.option.Option.TheVariants.{None, Some}
+use Rattle.model.specs.Basics.{Res, refuse, done, or_else}
 use Rattle.model.specs.Values.{Fit, at, is_pattern_leaf, binders, matches}
 use Rattle.values.specs.declared.Bound as values
 use Rattle.values.specs.declared.Value.{Value}
 use Rattle.values.specs.Match.{view_bound}
 use Rattle.sides.specs.Environments.{bound}
-use Rattle.environments.specs.declared.matching.Binding.{Binding}
 
 -- the words of the pattern at a place of the pool; none where none stands there
 abbrev pub pattern_at : List ℕ → ℕ → List ℕ
@@ -31,10 +32,11 @@ pub record Matchable (e : List ℕ) (n : ℕ) (p : List ℕ) (v : Value) : Type 
   pub room : n + length (binders p) ≤ 8
   pub short : v.len ≤ 16
 
--- how many names are in force after a match that was to bind the names ns behind n names
-unfoldable pub names_after : Res Fit → (n : ℕ) → List ℕ → ℕ
-names_after (refuse k) n ns = n
-names_after (done m) n ns = n + length ns
+-- how many names are in force after a match that was to bind the names ns behind n names; none where the pattern does not take
+-- the value
+unfoldable pub names_after : Res Fit → (n : ℕ) → List ℕ → Option ℕ
+names_after (refuse k) n ns = None
+names_after (done m) n ns = Some (n + length ns)
 
 -- all words of the environment then: as they were where the pattern does not take the value
 unfoldable pub words_after : Res Fit → List ℕ → (n : ℕ) → List ℕ → List ℕ
@@ -42,7 +44,6 @@ words_after (refuse k) e n ns = e
 words_after (done m) e n ns = bound_all e n ns m.bound
 
 -- r is the answer for the pattern p and the value v, and e' is e after it
-pub record BindingIs (p v e : List ℕ) (n : ℕ) (e' : List ℕ) (r : Binding) : Type 0 where
-  pub fits : r.fits ≡ is_done (matches p 1 v)
-  pub count : r.n ≡ names_after (matches p 1 v) n (binders p)
+pub record BindingIs (p v e : List ℕ) (n : ℕ) (e' : List ℕ) (r : Option ℕ) : Type 0 where
+  pub count : r ≡ names_after (matches p 1 v) n (binders p)
   pub words : e' ≡ words_after (matches p 1 v) e n (binders p)

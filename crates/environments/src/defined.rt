@@ -1,6 +1,5 @@
 // Refusal 15: whether a name bound to a tuple is free as a channel, tag or box name, however deep.
 ghost use Rattle.std.specs.Prelude.{◌≡◌, false, [], ℕ, ◌<◌, length, get_or};
-ghost use Rattle.model.specs.Values.{value};
 ghost use Rattle.model.specs.Table.{count, term};
 ghost use Rattle.model.specs.Unfolding.{defined};
 ghost use Rattle.values.specs.Env.{tuple_of};
@@ -9,8 +8,9 @@ ghost use Rattle.tables.specs.Checks.{Passes};
 ghost use Rattle.sides.specs.Layout.{places_of, view_place};
 ghost use Rattle.sides.specs.Environments.{env_of};
 ghost use Rattle.environments.specs.Fits.{Fits};
+ghost use Rattle.environments.specs.Named.{OfNames};
 
-use crate::wide;
+use crate::named::by_names;
 use scopes::free_uses::clear;
 use sides::Rows;
 use tables::name_set::NameSet;
@@ -21,28 +21,17 @@ fn tuple_in(e: &[u32], k: usize) -> bool
     ensures { result ≡ tuple_of (view_place (get_or (places_of e.now) k [])) }
 {
     let a = Rows::HEAD + Rows::PLACE * k;
-    if e[a] == 0 {
-        false
-    } else {
-        4000000 <= e[a + 1]
-    }
+    e[a] != 0 && 4000000 <= e[a + 1]
 }
 
 // The names that an environment binds to a tuple.
 fn tuple_names(e: &[u32], n: usize) -> NameSet
     requires { Fits e.now n }
-    ensures { (m : ℕ) → m < 64 → get_or result.on m false ≡ tuple_of (value (env_of e.now n) m) }
+    ensures { OfNames result.on false tuple_of (env_of e.now n) }
 {
-    let mut on = [false; NameSet::NAMES];
-    let mut k: usize = 0;
-    while k < n {
-        let x = wide(e[k]);
-        if x < NameSet::NAMES {
-            on[x] = tuple_in(e, k);
-        }
-        k += 1;
+    NameSet {
+        on: by_names(e, n, false, |k| tuple_in(e, k)),
     }
-    NameSet { on }
 }
 
 // Whether no name that the environment binds to a tuple is free as a channel, tag or box name in the term at a node.

@@ -1,15 +1,15 @@
 // Refusal 16: whether an output that unfolds from a node has a value over 16 words.
 ghost use Rattle.std.specs.Prelude.{◌≡◌, ℕ, ◌<◌, ltb, length, get_or, set};
-ghost use Rattle.model.specs.Values.{value};
 ghost use Rattle.model.specs.Table.{count, term};
 ghost use Rattle.tables.specs.Nodes.{table};
 ghost use Rattle.tables.specs.Scope.{Walks};
 ghost use Rattle.tables.specs.Checks.{Passes};
 ghost use Rattle.sides.specs.Environments.{env_of};
 ghost use Rattle.environments.specs.Fits.{Fits};
+ghost use Rattle.environments.specs.Named.{OfNames};
 ghost use Rattle.environments.specs.Long.{long_in, size_for, size_by, long_by};
 
-use crate::wide;
+use crate::named::by_names;
 use sides::Rows;
 use tables::name_set::NameSet;
 use tables::nodes::node_at;
@@ -20,13 +20,6 @@ use values::{Leaf, Value};
 #[derive(Clone, Copy)]
 pub(crate) struct Sizes {
     of: [u8; NameSet::NAMES],
-}
-
-// A number of words.
-fn words(x: u8) -> usize
-    ensures { (result ≡ x) × (result < 256) }
-{
-    x as usize
 }
 
 impl Sizes {
@@ -45,8 +38,7 @@ impl Sizes {
         ensures { (result ≡ size_for self.of w) × (result < 256) }
     {
         if w <= 63 {
-            let x = wide(w);
-            words(self.of[x])
+            self.of[w as usize] as usize
         } else {
             1
         }
@@ -56,19 +48,11 @@ impl Sizes {
 // The sizes of what the names stand for in an environment.
 fn sizes_of(e: &[u32], n: usize) -> Sizes
     requires { Fits e.now n }
-    ensures { (m : ℕ) → m < 64 → get_or result.of m 0 ≡ length (value (env_of e.now n) m) }
+    ensures { OfNames result.of 0 length (env_of e.now n) }
 {
-    let mut of = [1u8; NameSet::NAMES];
-    let mut k: usize = 0;
-    while k < n {
-        let x = wide(e[k]);
-        let a = Rows::HEAD + Rows::PLACE * k;
-        if x < NameSet::NAMES {
-            of[x] = e[a] as u8;
-        }
-        k += 1;
+    Sizes {
+        of: by_names(e, n, 1, |k| e[Rows::HEAD + Rows::PLACE * k] as u8),
     }
-    Sizes { of }
 }
 
 // Whether a table's value stands for over 16 words.
@@ -76,13 +60,11 @@ fn over_long(t: Sizes, s: &[u32]) -> bool
     ensures { result ≡ ltb 16 (size_by t.of s.now) }
 {
     let mut n: usize = 0;
-    let mut i: usize = 0;
-    while i < s.len() {
-        n += t.size_for(s[i]);
+    for &w in s {
+        n += t.size_for(w);
         if !Value::length_within(n) {
             return true;
         }
-        i += 1;
     }
     false
 }
@@ -93,22 +75,13 @@ fn long_in(nodes: &[u32], pool: &[u32], n: usize, t: Sizes) -> bool
     ensures { result ≡ long_by (term (table nodes.now pool.now) n) t.of }
 {
     let x = node_at(nodes, n);
-    if x.kind == 1 {
-        if long_in(nodes, pool, x.a, t) {
-            return true;
-        }
-        return long_in(nodes, pool, x.b, t);
+    match x.kind {
+        1 => long_in(nodes, pool, x.a, t) || long_in(nodes, pool, x.b, t),
+        2 => long_in(nodes, pool, x.b, t),
+        3 => long_in(nodes, pool, x.b, t.put(x.a, 1)),
+        4 => over_long(t, words_at(Leaf::Public, pool, x.c)),
+        _ => false,
     }
-    if x.kind == 2 {
-        return long_in(nodes, pool, x.b, t);
-    }
-    if x.kind == 3 {
-        return long_in(nodes, pool, x.b, t.put(x.a, 1));
-    }
-    if x.kind == 4 {
-        return over_long(t, words_at(Leaf::Public, pool, x.c));
-    }
-    false
 }
 
 // Whether an output that unfolds from a node has a value over 16 words in an environment.

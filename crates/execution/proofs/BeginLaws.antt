@@ -22,7 +22,7 @@ use Rattle.loading.specs.Starting.{Startable, StartIs}
 use Rattle.loading.proofs.Faults.{Taken, started, table_at, side_number, map_at}
 use Rattle.dispatch.specs.Sharing.{shelved_of, sides_in}
 use Rattle.dispatch.proofs.AllSides.{sides_at}
-use Rattle.execution.specs.declared.beginning.Begun.{Begun}
+use Rattle.execution.specs.declared.beginning.Standing.{Standing}
 use Rattle.execution.specs.Beginning.{no_marks, BeginIs, BegunIs}
 
 -- ONE SIDE: started where the wrapper has it, nothing else
@@ -145,7 +145,7 @@ unmarked false s = refl
 same_side_lem : {c e : Core} {p q : List Bool} → c ≡ e → p ≡ q → ◌≡◌ {A = Side} (record { core = c; left = p }) (record { core = e; left = q })
 same_side_lem p q = rw (p, q)
 
-module _ (b : Composition) (k : ℕ) (ls : List (List ℕ)) (r : Begun) (h : Begins b k ls r.rests r.shelved) (all : length all_sides ≤ k) (d : Rest) where
+module _ (b : Composition) (k : ℕ) (ls : List (List ℕ)) (r : Standing) (h : Begins b k ls r.rests r.shelved) (all : length all_sides ≤ k) (d : Rest) where
   side_at : (j : ℕ) → j < length all_sides → get_or (sides_in ls r.rests no_marks) j no_side ≡ get_or (map (start_of b) all_sides) j no_side
   side_at j a =
       sides_at d ls r.rests no_marks j (omega (arith, h.words)) (omega (arith, h.rests)) a ∙

@@ -2,7 +2,7 @@
 use mathlib.Core.Path.{◌≡◌, refl, sym, ap, ap₂, subst, ◌∙◌}
 use mathlib.Core.Bool.{Bool, true, false, cond, false≢true}
 use mathlib.Core.List.{List, [], map}
-use Prim.Native.Nat.{ℕ, ◌-◌, ◌<◌, ◌≤◌}
+use Prim.Native.Nat.{ℕ, ◌-◌, ◌<◌}
 use native.Mathlib.Omega.{arith}
 use lib.ListN.{length, get_or, set, length-map}
 use lib.Seq.{set-get_or}
@@ -11,11 +11,11 @@ use Rattle.model.specs.Side.{State}
 use Rattle.model.specs.Wrapper.{all_sides, described, has_side}
 use Rattle.model.specs.Load.{Composition, Setting}
 use Rattle.model.specs.WellFormed.{ready}
-use Rattle.model.specs.Step.{Step, Moved, Result, local, settled, step}
+use Rattle.model.specs.Step.{Step, Moved, Result, local, settled}
 use Rattle.model.specs.Answer.{given}
 use Rattle.model.proofs.Formed.Invariant.{keeps}
 use Rattle.format.specs.Words.{step_at}
-use Rattle.values.specs.Env.{view_value}
+use Rattle.values.specs.declared.Value.{Value}
 use Rattle.sides.proofs.Lists.{map_set}
 use Rattle.wrappers.specs.Compositions.{composition}
 use Rattle.sides.specs.declared.Rest.{Rest}
@@ -31,7 +31,7 @@ use Rattle.dispatch.specs.Stepping.{setting_of, asked, OwnReady}
 use Rattle.dispatch.specs.Sharing.{shelves_in, shelved_of, state_in, SideReady, AtSide}
 use Rattle.dispatch.proofs.AllSides.{shelves_of}
 use Rattle.dispatch.proofs.InState.{none_asked, step_short, own_ready, answer_is, after_is, lent_after_lem}
-use Rattle.execution.specs.Execution.{place_asked, Moves, MayRun, MayStep, Lacking, StepMade}
+use Rattle.execution.specs.Execution.{place_asked, Moves, MayRun, MayStep, Lacking, StepMade, Makes}
 
 -- the model's move of the side that c names, with the rest o, by the step x
 abbrev pub move_of : Setting → (o : Rest) → (ls : List (List ℕ)) → (ms : List (List Bool)) → (hs : List ℕ) → (x : Step) → Res Moved
@@ -57,16 +57,9 @@ module _ {c : Setting} {o : Rest} {ls : List (List ℕ)} {ms : List (List Bool)}
   pub only_lacking : has_side c.wrapper c.side ≡ false → Lacking o ls ms ls' ms' r → StepMade c o ls ms hs x ls' ms' r
   only_lacking e h = record { moved = λ f. clash f e; lacking = λ _. h }
 
--- what a step does to all that is lent: the state s goes to what ls, os and ms are, which may run on, and the side n gives the answer r, whose value is within its array
-pub record Makes (b : Composition) (s : State) (n : ℕ) (x : Step) (ls : List (List ℕ)) (os : List Rest) (ms : List (List Bool)) (hs : List ℕ) (r : RestStep) : Type 0 where
-  pub runs : MayRun b ls os ms hs
-  pub after : state_in ls os ms ≡ (step b s x).after
-  pub answer : given_for r.said n (view_value r.value) ≡ given (step b s x).answer
-  pub short : r.value.len ≤ 16
-
 -- the same by lists that are equal
-makes_as : {b : Composition} {s : State} {n : ℕ} {x : Step} {ls ls' : List (List ℕ)} {os os' : List Rest} {ms ms' : List (List Bool)} {hs hs' : List ℕ} {r : RestStep} →
-    ls' ≡ ls → os' ≡ os → ms' ≡ ms → hs' ≡ hs → Makes b s n x ls os ms hs r → Makes b s n x ls' os' ms' hs' r
+makes_as : {b : Composition} {s : State} {n : ℕ} {x : Step} {ls ls' : List (List ℕ)} {os os' : List Rest} {ms ms' : List (List Bool)} {hs hs' : List ℕ} {a : Said} {v : Value} →
+    ls' ≡ ls → os' ≡ os → ms' ≡ ms → hs' ≡ hs → Makes b s x ls os ms hs n a v → Makes b s x ls' os' ms' hs' n a v
 makes_as a e f g h = rw (a, e, f, g) h
 
 -- the slices of all sides' nodes and pools, each read by `now`
@@ -102,7 +95,7 @@ module _ {A : Type 0} (now : A → List ℕ) (w : ℕ) (ns ps : List A) {ls : Li
 
     -- its step is made
     side_makes : (x : Step) → m ≡ x.side → (ls' : List (List ℕ)) (ms' : List (List Bool)) (r : RestStep) → Moves c (get_or os (m - 1) d) ls ms hs x ls' ms' r →
-        Makes b (state_in ls os ms) m x ls' (set os (m - 1) r.rest) ms' (set hs (m - 1) r.rest.shelved) r
+        Makes b (state_in ls os ms) x ls' (set os (m - 1) r.rest) ms' (set hs (m - 1) r.rest.shelved) m r.said r.value
     side_makes x same ls' ms' r is =
         let mk = is.marked in
         let move : Setting → List ℕ → Res Moved = λ t ys. move_of t (get_or os (m - 1) d) ls ms ys x in
@@ -123,7 +116,7 @@ module _ {A : Type 0} (now : A → List ℕ) (w : ℕ) (ns ps : List A) {ls : Li
 
   -- side m, which the wrapper lacks: nothing changes, at any place
   lacking_makes : (m i : ℕ) (d : Rest) → has_side (described w) m ≡ false → (x : Step) → m ≡ x.side → (ls' : List (List ℕ)) (ms' : List (List Bool)) (r : RestStep) →
-      Lacking (get_or os i d) ls ms ls' ms' r → Makes b (state_in ls os ms) m x ls' (set os i r.rest) ms' (set hs i r.rest.shelved) r
+      Lacking (get_or os i d) ls ms ls' ms' r → Makes b (state_in ls os ms) x ls' (set os i r.rest) ms' (set hs i r.rest.shelved) m r.said r.value
   lacking_makes m i d lacks x same ls' ms' r is =
       let no = none_asked b (state_in ls os ms) x h.ready (ap (has_side (described w)) (sym same) ∙ lacks) in
       let rests : set os i r.rest ≡ os = ap (set os i) is.rest ∙ set-get_or os i d in
@@ -149,14 +142,14 @@ module _ {A : Type 0} (now : A → List ℕ) (w : ℕ) (ns ps : List A) {ls : Li
     may_step has = subst (λ (j : ℕ). SideReady (at j) ms ls hs (get_or os j d)) (sym (its_place has)) (side_ready m has u v d)
 
     pub makes : (x : Step) → m ≡ x.side → (ls' : List (List ℕ)) (ms' : List (List Bool)) (r : RestStep) → StepMade (at i) (get_or os i d) ls ms hs x ls' ms' r →
-        Makes b (state_in ls os ms) m x ls' (set os i r.rest) ms' (set hs i r.rest.shelved) r
+        Makes b (state_in ls os ms) x ls' (set os i r.rest) ms' (set hs i r.rest.shelved) m r.said r.value
     makes x same ls' ms' r is = by (has_side (described w) m) refl
       where
-        by : (t : Bool) → has_side (described w) m ≡ t → Makes b (state_in ls os ms) m x ls' (set os i r.rest) ms' (set hs i r.rest.shelved) r
+        by : (t : Bool) → has_side (described w) m ≡ t → Makes b (state_in ls os ms) x ls' (set os i r.rest) ms' (set hs i r.rest.shelved) m r.said r.value
         by false e = lacking_makes m i d e x same ls' ms' r (is.lacking e)
         by true e =
             let there = subst (λ (j : ℕ). Moves (at j) (get_or os j d) ls ms hs x ls' ms' r) (its_place e) (is.moved e) in
-            subst (λ (j : ℕ). Makes b (state_in ls os ms) m x ls' (set os j r.rest) ms' (set hs j r.rest.shelved) r) (sym (its_place e)) (side_makes m e u v d x same ls' ms' r there)
+            subst (λ (j : ℕ). Makes b (state_in ls os ms) x ls' (set os j r.rest) ms' (set hs j r.rest.shelved) m r.said r.value) (sym (its_place e)) (side_makes m e u v d x same ls' ms' r there)
 
 -- a place that is asked is one of the sides'
 pub place_within : (w m : ℕ) → place_asked (described w) m < length all_sides

@@ -7,7 +7,7 @@ use Rattle.model.specs.Load.{Composition, start, ok, load}
 use Rattle.sides.specs.declared.Rest.{Rest}
 use Rattle.sides.specs.Sides.{core_of, fits_side}
 use Rattle.dispatch.specs.Sharing.{shelved_of, state_in, Lent}
-use Rattle.execution.specs.declared.beginning.Begun.{Begun}
+use Rattle.execution.specs.declared.beginning.Standing.{Standing}
 
 -- no name has left
 abbrev pub no_marks : List (List Bool)
@@ -20,7 +20,7 @@ pub record BeginIs (w : Wrapper) (n : ℕ) (t : Table) (l : List ℕ) (r : Rest)
   pub long : length l ≡ 5184
 
 -- the words ls and the rests are the state that load leads to
-pub record BegunIs (b : Composition) (ls : List (List ℕ)) (r : Begun) : Type 0 where
+pub record BegunIs (b : Composition) (ls : List (List ℕ)) (r : Standing) : Type 0 where
   pub lent : Lent ls r.rests no_marks
   pub loads : load b ≡ ok (state_in ls r.rests no_marks)
   pub shelved : r.shelved ≡ shelved_of r.rests

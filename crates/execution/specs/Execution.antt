@@ -1,26 +1,25 @@
 -- A step by words, made on all sides as they are lent.
-use Rattle.std.specs.Prelude.{◌≡◌, Bool, true, false, cond, List, [], ℕ, ◌+◌, ◌-◌, ◌≤◌, leb, length, get_or}
-use Rattle.std.proofs.Math.Option.{Option, none, some}
+use Rattle.std.specs.Prelude.{◌≡◌, Bool, true, false, cond, List, [], ℕ, ◌+◌, ◌-◌, ◌≤◌, leb, length, get_or, Some, None}
+use Rattle.std.specs.declared.option.Option.{Option}
 use Rattle.model.specs.Basics.{choose}
 use Rattle.model.specs.Wrapper.{Wrapper, has_side}
 use Rattle.model.specs.Load.{Composition, Setting}
 use Rattle.model.specs.WellFormed.{ready}
-use Rattle.model.specs.Step.{Step}
+use Rattle.model.specs.Side.{State}
+use Rattle.model.specs.Step.{Step, step}
+use Rattle.model.specs.Answer.{given}
+use Rattle.values.specs.declared.Value.{Value}
 use Rattle.values.specs.Env.{view_value}
 use Rattle.sides.specs.declared.Rest.{Rest}
+use Rattle.steps.specs.declared.Said.{Said}
 use Rattle.steps.specs.declared.Said.TheVariants as said
 use Rattle.steps.specs.declared.RestStep.{RestStep}
+use Rattle.answers.specs.Answers.{given_for}
 use Rattle.dispatch.specs.Sharing.{shelved_of, state_in, Lent, SideReady, LocalAt, MarkedAt}
-use Rattle.execution.specs.declared.records.RecordEnd.{RecordEnd}
-use Rattle.execution.specs.declared.records.RecordEnd.TheVariants as end
 
 -- the place behind the record at place p, which has so many words before the count of its value words; none where it breaks off
 unfoldable pub record_end : (before : ℕ) → List ℕ → ℕ → Option ℕ
-record_end b l p = let e = p + b + 1 + get_or l (p + b) 0 in choose (leb e (length l)) (some e) none
-
-abbrev pub end_of : RecordEnd → Option ℕ
-end_of (end.At e) = some e
-end_of end.BreaksOff = none
+record_end b l p = let e = p + b + 1 + get_or l (p + b) 0 in choose (leb e (length l)) (Some e) None
 
 -- the words of a step stand at place p of a list
 pub record StepStands (l : List ℕ) (p : ℕ) : Type 0 where
@@ -60,3 +59,11 @@ pub record Lacking (o : Rest) (ls : List (List ℕ)) (ms : List (List Bool)) (ls
 pub record StepMade (c : Setting) (o : Rest) (ls : List (List ℕ)) (ms : List (List Bool)) (hs : List ℕ) (x : Step) (ls' : List (List ℕ)) (ms' : List (List Bool)) (r : RestStep) : Type 0 where
   pub moved : has_side c.wrapper c.side ≡ true → Moves c o ls ms hs x ls' ms' r
   pub lacking : has_side c.wrapper c.side ≡ false → Lacking o ls ms ls' ms' r
+
+-- what the step x does to all that is lent: the state s goes to what ls, os and ms are, which may run on, and side n says a with the value v, which
+-- is within its array
+pub record Makes (b : Composition) (s : State) (x : Step) (ls : List (List ℕ)) (os : List Rest) (ms : List (List Bool)) (hs : List ℕ) (n : ℕ) (a : Said) (v : Value) : Type 0 where
+  pub runs : MayRun b ls os ms hs
+  pub after : state_in ls os ms ≡ (step b s x).after
+  pub answer : given_for a n (view_value v) ≡ given (step b s x).answer
+  pub short : v.len ≤ 16

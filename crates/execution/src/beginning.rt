@@ -11,9 +11,9 @@ use loading::{number_of, start_of};
 use sides::{Rest, Rows, Sides};
 use wrappers::has_side;
 
-// The rests of the sides, and how many values each has on its shelf.
+// How the sides stand between two steps: the rest of each, and how many values it has on its shelf.
 #[derive(Clone, Copy)]
-pub struct Begun {
+pub struct Standing {
     pub rests: [Rest; Sides::COUNT],
     pub shelved: [usize; Sides::COUNT],
 }
@@ -35,19 +35,17 @@ pub fn begin_all(
     nodes: [&[u32]; Sides::COUNT],
     pools: [&[u32]; Sides::COUNT],
     rows: &mut [[u32; Rows::WORDS]; Sides::COUNT],
-) -> Begun
+) -> Standing
     requires { (is_ok (load (composition wrapper (map (λ x. x.now) nodes) (map (λ x. x.now) pools))) ≡ true) × (length rows.old ≡ length all_sides) × ((k : ℕ) → k < length all_sides → length (get_or rows.old k []) ≡ 5184) }
     ensures { BegunIs (composition wrapper (map (λ x. x.now) nodes.entry) (map (λ x. x.now) pools.entry)) rows.new result }
 {
     let e = Rest::empty();
     let mut rests = [e; Sides::COUNT];
-    let mut shelved: [usize; Sides::COUNT] = [0; Sides::COUNT];
-    let mut k: usize = 0;
-    while k < Sides::COUNT {
+    let mut shelved = [0; Sides::COUNT];
+    for k in 0..Sides::COUNT {
         let r = begin(wrapper, number_of(k), nodes[k], pools[k], &mut rows[k]);
         shelved[k] = r.shelved;
         rests[k] = r;
-        k += 1;
     }
-    Begun { rests, shelved }
+    Standing { rests, shelved }
 }

@@ -7,7 +7,7 @@ mod making; // a step made on all sides
 mod records; // where a record of words ends
 mod step_words; // words as a step
 
-pub use beginning::{Begun, begin_all};
-pub use making::{place_asked, step_at};
-pub use records::{RecordEnd, record_end, wide};
-pub use step_words::{next_place, side_at};
+pub use beginning::{Standing, begin_all};
+pub use making::Answer;
+pub use records::record_end;
+pub use step_words::next_place;

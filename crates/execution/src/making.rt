@@ -1,12 +1,14 @@
 // A step by words, made on all sides.
-ghost use Rattle.std.specs.Prelude.{◌≡◌};
+ghost use Rattle.std.specs.Prelude.{◌≡◌, map};
 ghost use Rattle.model.specs.Wrapper.{described};
 ghost use Rattle.format.specs.Words.{step_at};
 ghost use Rattle.dispatch.specs.Stepping.{setting_of};
-ghost use Rattle.dispatch.specs.Sharing.{SideReady};
-ghost use Rattle.execution.specs.Execution.{StepStands, place_asked, Moves, MayStep, StepMade};
+ghost use Rattle.wrappers.specs.Compositions.{composition};
+ghost use Rattle.dispatch.specs.Sharing.{SideReady, state_in};
+ghost use Rattle.execution.specs.Execution.{StepStands, place_asked, Moves, MayStep, StepMade, MayRun, Makes};
 
-use crate::step_words::{asked_at, value_at};
+use crate::beginning::Standing;
+use crate::step_words::{asked_at, side_at, value_at};
 use dispatch::{mark_left, side_step};
 use loading::place_of;
 use sides::{Rest, Rows, Sides};
@@ -15,7 +17,7 @@ use values::Value;
 use wrappers::has_side;
 
 // The place of a side among all sides; the first where the wrapper lacks it.
-pub fn place_asked(wrapper: u32, side: u32) -> usize
+fn place_asked(wrapper: u32, side: u32) -> usize
     ensures { result ≡ place_asked (described wrapper) side }
 {
     if has_side(wrapper, side) {
@@ -46,15 +48,13 @@ fn own_step(
     let d = side_step(
         wrapper, nodes, pool, side, rows, shelved, marks, o, x.kind, x.i, x.j, words,
     );
-    let said = d.said;
-    let v = d.value;
-    mark_left(marks, side, said, v);
+    mark_left(marks, side, d.said, d.value);
     d
 }
 
 // The step of a side by the words at a place, where what is lent is a state that is well formed for tables that load takes; 10
 // where the wrapper lacks the side. The rest of no other side is copied.
-pub fn step_at(
+fn step_at(
     wrapper: u32,
     nodes: &[u32],
     pool: &[u32],
@@ -78,5 +78,52 @@ pub fn step_at(
         said: Said::Refused(10),
         value: Value::none(),
         rest: o,
+    }
+}
+
+// The answer to a step: the side that it asks for, what that says, and its value.
+#[derive(Clone, Copy)]
+pub struct Answer {
+    pub side: u32,
+    pub said: Said,
+    pub value: Value,
+}
+
+impl Standing {
+    // Makes the step whose words stand at a place, where all that is lent is a state that is well formed for tables that load takes.
+    pub fn make_step(
+        &mut self,
+        wrapper: u32,
+        nodes: [&[u32]; Sides::COUNT],
+        pools: [&[u32]; Sides::COUNT],
+        rows: &mut [[u32; Rows::WORDS]; Sides::COUNT],
+        marks: &mut [[bool; Sides::MARKS]; Sides::COUNT],
+        steps: &[u32],
+        p: usize,
+    ) -> Answer
+        requires { MayRun (composition wrapper (map (λ x. x.now) nodes) (map (λ x. x.now) pools)) rows.old self.old.rests marks.old self.old.shelved × StepStands steps.now p }
+        ensures { Makes (composition wrapper (map (λ x. x.now) nodes.entry) (map (λ x. x.now) pools.entry)) (state_in rows.old self.old.rests marks.old) (step_at steps.now p) rows.new self.new.rests marks.new self.new.shelved result.side result.said result.value }
+    {
+        let side = side_at(steps, p);
+        let i = place_asked(wrapper, side);
+        let d = step_at(
+            wrapper,
+            nodes[i],
+            pools[i],
+            side,
+            rows,
+            self.shelved,
+            marks,
+            self.rests[i],
+            steps,
+            p,
+        );
+        self.shelved[i] = d.rest.shelved;
+        self.rests[i] = d.rest;
+        Answer {
+            side,
+            said: d.said,
+            value: d.value,
+        }
     }
 }

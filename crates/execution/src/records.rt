@@ -1,36 +1,19 @@
 // Records in a list of words: some words, the count of the value words behind them, and these.
 ghost use Rattle.std.specs.Prelude.{◌≡◌};
-ghost use Rattle.execution.specs.Execution.{record_end, end_of};
+ghost use Rattle.execution.specs.Execution.{record_end};
 
-// The place behind a record, or that it breaks off.
-#[derive(Clone, Copy)]
-pub enum RecordEnd {
-    At(usize),
-    BreaksOff,
-}
-
-// A word as a number of words.
-pub fn wide(w: u32) -> usize
-    ensures { result ≡ w }
-{
-    w as usize
-}
-
-// Where the record at a place ends, which has so many words before its count.
-pub fn record_end(list: &[u32], p: usize, before: usize) -> RecordEnd
-    ensures { end_of result ≡ record_end before list.now p }
+// Where the record at a place ends, which has so many words before its count; none where it breaks off.
+pub fn record_end(list: &[u32], p: usize, before: usize) -> Option<usize>
+    ensures { result ≡ record_end before list.now p }
 {
     let len = list.len();
-    if len <= p {
-        return RecordEnd::BreaksOff;
-    }
-    if len - p <= before {
-        return RecordEnd::BreaksOff;
+    if len.saturating_sub(p) <= before {
+        return None;
     }
     let at = p + before;
-    let c = wide(list[at]);
+    let c = list[at] as usize;
     if len - (at + 1) < c {
-        return RecordEnd::BreaksOff;
+        return None;
     }
-    RecordEnd::At(at + 1 + c)
+    Some(at + 1 + c)
 }

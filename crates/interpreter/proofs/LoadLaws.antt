@@ -40,14 +40,6 @@ start_there n t o w m h e = record { view = same_side_lem h.core e; fits = h.arr
 pub all_nothing : (o : Side) → SideIs no_side o → StateIs (record { sides = map (λ n. no_side) all_sides }) (record { sides = replicate (length all_sides) o })
 all_nothing o h = record { view = ap (λ (x : MSide). record { sides = x ∷ x ∷ [] }) h.view; fits = both _ _ h.fits (both _ _ h.fits refl) }
 
--- by whether the wrapper has it
-module _ (b : Bool) (x : MSide) (r : Side) where
-  pub side_on : b ≡ true → SideIs x r → SideIs (cond b x no_side) r
-  side_on e h = rw e h
-
-  pub side_off : b ≡ false → SideIs no_side r → SideIs (cond b x no_side) r
-  side_off e h = rw e h
-
 -- SIDES AT THEIR START, one after another: the first k of them
 pub record Begun (b : Composition) (k : ℕ) (l : List Side) : Type 0 where
   pub few : k ≤ length all_sides

@@ -42,9 +42,9 @@ use Rattle.loading.specs.declared.Outcome.TheVariants.{Ok, Refused}
 use Rattle.loading.specs.Loading.{refusal_of, refusal_in}
 use Rattle.loading.proofs.Faults.{map_at, ok_taken, ok_loads, refused_loads}
 use Rattle.loading.proofs.Starting.{has_place}
-use Rattle.wellformed.specs.Clauses.{TablesPass}
+use Rattle.wellformed.specs.Clauses.{TablesPass, shelved_in}
 use Rattle.interpreter.specs.declared.Stepped.{Stepped}
-use Rattle.interpreter.specs.Answered.{words_in, rests_in, left_in, shelved_in, AllLong, put_at, Answered, given_of, ResultIs, RefusedTen, StepAnswered}
+use Rattle.interpreter.specs.Answered.{words_in, rests_in, left_in, AllLong, put_at, Answered, given_of, ResultIs, RefusedTen, StepAnswered}
 use Rattle.answers.specs.Answers.{said_of}
 
 -- the first k of a list are a part of each of the first k sides

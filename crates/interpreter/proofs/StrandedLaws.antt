@@ -20,7 +20,8 @@ use Rattle.sides.proofs.Lobbies.{lobby_short}
 use Rattle.sides.specs.declared.Side.{Side}
 use Rattle.sides.specs.declared.State.{State}
 use Rattle.sides.specs.Sides.{fits_side, view_side, view_state, state_of, fits_arrays}
-use Rattle.listing.specs.declared.Listed.{Listed}
+use Rattle.listing.specs.declared.TooShort.{TooShort}
+use Rattle.std.specs.Prelude.{Result}
 use Rattle.listing.specs.Listing.{ListedIs}
 use Rattle.loading.proofs.Faults.{map_at}
 use Rattle.loading.proofs.Starting.{has_number, has_place}
@@ -64,5 +65,5 @@ module _ (b : Composition) (s : State) (n : ℕ) where
           lobby_short o.rest.lobby (side_lobby o.words o.rest g)
 
 -- the positions of the lobby that is asked
-pub listed_as : {l m : List Message} {lent new : List ℕ} {r : Listed} → l ≡ m → ListedIs (stranded_from 0 l) lent new r → ListedIs (stranded_from 0 m) lent new r
+pub listed_as : {l m : List Message} {lent new : List ℕ} {r : Result ℕ TooShort} → l ≡ m → ListedIs (stranded_from 0 l) lent new r → ListedIs (stranded_from 0 m) lent new r
 listed_as {lent = lent} {new = new} {r = r} e h = subst (λ (x : List Message). ListedIs (stranded_from 0 x) lent new r) e h

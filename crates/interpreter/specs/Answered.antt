@@ -12,7 +12,7 @@ use Rattle.steps.specs.declared.Said.{Said}
 use Rattle.answers.specs.Answers.{Padded, said_of, is_refusal}
 use Rattle.interpreter.specs.declared.Stepped.{Stepped}
 
--- the words of all sides, their rests, their marks, and how many values they have on their shelves
+-- the words of all sides, their rests and their marks
 abbrev pub words_in : State → List (List ℕ)
 words_in s = map (λ (o : Side). o.words) s.sides
 
@@ -21,9 +21,6 @@ rests_in s = map (λ (o : Side). o.rest) s.sides
 
 abbrev pub left_in : State → List (List Bool)
 left_in s = map (λ (o : Side). o.left) s.sides
-
-abbrev pub shelved_in : State → List ℕ
-shelved_in s = map (λ (o : Side). o.rest.shelved) s.sides
 
 -- each side has all its words
 pub record AllLong (ls : List (List ℕ)) : Type 0 where

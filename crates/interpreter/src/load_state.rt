@@ -44,9 +44,10 @@ fn side_at(wrapper: u32, nodes: &[u32], pool: &[u32], n: u32) -> Side
     ensures { SideIs (cond (has_side (described wrapper) n) (start_side (start n (table nodes.now pool.now))) no_side) result }
 {
     if has_side(wrapper, n) {
-        return start_side(nodes, pool, n);
+        start_side(nodes, pool, n)
+    } else {
+        Side::empty()
     }
-    Side::empty()
 }
 
 // Every side at its start.
@@ -55,10 +56,8 @@ fn start_state(wrapper: u32, nodes: [&[u32]; Sides::COUNT], pools: [&[u32]; Side
     ensures { StateIs (record { sides = map (start_of (composition wrapper (map (λ x. x.now) nodes.entry) (map (λ x. x.now) pools.entry))) all_sides }) result }
 {
     let mut s = empty_state();
-    let mut k: usize = 0;
-    while k < Sides::COUNT {
+    for k in 0..Sides::COUNT {
         s.sides[k] = side_at(wrapper, nodes[k], pools[k], number_of(k));
-        k += 1;
     }
     s
 }

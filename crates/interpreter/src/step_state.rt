@@ -1,5 +1,5 @@
 // A step: the words and the marks of all sides are taken out of the state, the side that is asked makes it, and is put back.
-ghost use Rattle.std.specs.Prelude.{◌≡◌, true, map, ◌-◌, ◌<◌, length, set};
+ghost use Rattle.std.specs.Prelude.{◌≡◌, true, map, ◌<◌, length, set};
 ghost use Rattle.model.specs.Basics.{◌&◌};
 ghost use Rattle.model.specs.Wrapper.{all_sides, described, has_side};
 ghost use Rattle.model.specs.WellFormed.{ready};
@@ -8,7 +8,7 @@ ghost use Rattle.values.specs.Env.{view_value};
 ghost use Rattle.wrappers.specs.Compositions.{composition};
 ghost use Rattle.sides.specs.Sides.{view_state, fits_arrays};
 ghost use Rattle.dispatch.specs.Stepping.{asked};
-ghost use Rattle.interpreter.specs.Answered.{words_in, left_in, shelved_in, AllLong, Answered, RefusedTen, ResultIs, StepAnswered, put_at};
+ghost use Rattle.interpreter.specs.Answered.{words_in, left_in, AllLong, Answered, RefusedTen, ResultIs, StepAnswered, put_at};
 
 use crate::Stepped;
 use answers::padded;
@@ -17,7 +17,7 @@ use loading::{Outcome, load_verdict, place_of};
 use sides::{Rest, Rows, Side, Sides, State};
 use steps::Said;
 use values::Value;
-use wellformed::well_formed;
+use wellformed::{shelved_in, well_formed};
 use wrappers::has_side;
 
 // An answer with its side and its value, beside a state.
@@ -49,11 +49,8 @@ pub(crate) fn is_ready(
 ) -> bool
     ensures { result ≡ fits_arrays s & ready (composition wrapper (map (λ x. x.now) nodes.entry) (map (λ x. x.now) pools.entry)) (view_state s) }
 {
-    let a = load_verdict(wrapper, nodes, pools);
-    let Outcome::Ok = a else {
-        return false;
-    };
-    well_formed(wrapper, nodes, pools, s)
+    matches!(load_verdict(wrapper, nodes, pools), Outcome::Ok)
+        && well_formed(wrapper, nodes, pools, s)
 }
 
 // The words and the marks of a side, at place k of those of all sides.
@@ -66,13 +63,15 @@ fn lend_side(
     requires { (k < length all_sides) × (length rows.old ≡ length all_sides) × (length marks.old ≡ length all_sides) }
     ensures { (rows.new ≡ set rows.old k o.words) × (marks.new ≡ set marks.old k o.left) × (length o.words ≡ 5184) }
 {
-    let w = o.words;
-    let m = o.left;
-    rows[k] = w;
-    marks[k] = m;
+    // Stays two locals: the prover does not cover `rows[k] = o.words`, an array field stored straight from another.
+    let words = o.words;
+    let left = o.left;
+    rows[k] = words;
+    marks[k] = left;
 }
 
 // The words and the marks of all sides, out of a state.
+// Stays by value, `s: State`: behind a reference the prover does not find how many sides there are, after the loop.
 fn take_out(
     s: State,
     rows: &mut [[u32; Rows::WORDS]; Sides::COUNT],
@@ -81,32 +80,9 @@ fn take_out(
     requires { (length rows.old ≡ length all_sides) × (length marks.old ≡ length all_sides) }
     ensures { (rows.new ≡ words_in s) × (marks.new ≡ left_in s) × AllLong (words_in s) }
 {
-    let mut k: usize = 0;
-    while k < Sides::COUNT {
+    for k in 0..Sides::COUNT {
         lend_side(s.sides[k], k, rows, marks);
-        k += 1;
     }
-}
-
-// How many values each side has on its shelf.
-#[derive(Clone, Copy)]
-struct Shelved {
-    of: [usize; Sides::COUNT],
-}
-
-// How many values each side of a state has on its shelf.
-fn shelved_in(s: State) -> Shelved
-    ensures { result.of ≡ shelved_in s }
-{
-    let mut of = [0; Sides::COUNT];
-    let mut k: usize = 0;
-    while k < Sides::COUNT {
-        let o = s.sides[k];
-        let x = o.rest;
-        of[k] = x.shelved;
-        k += 1;
-    }
-    Shelved { of }
 }
 
 // The state with another side at place k.
@@ -143,18 +119,14 @@ fn step_side(
     let mut marks = [[false; Sides::MARKS]; Sides::COUNT];
     take_out(s, &mut rows, &mut marks);
     let k = place_of(side);
-    let o = s.sides[k];
-    let rest = o.rest;
-    let h = shelved_in(s);
-    let shelved = h.of;
+    let rest = s.sides[k].rest;
+    let shelved = shelved_in(&s);
     let d = side_step(
         wrapper, nodes[k], pools[k], side, &mut rows, shelved, &marks, rest, kind, i, j, words,
     );
-    let said = d.said;
-    let v = d.value;
-    let after = d.rest;
-    mark_left(&mut marks, side, said, v);
-    answered(said, side, v, put_at(s, k, rows[k], after, marks[k]))
+    mark_left(&mut marks, side, d.said, d.value);
+    let after = put_at(s, k, rows[k], d.rest, marks[k]);
+    answered(d.said, side, d.value, after)
 }
 
 // A step: 10 for tables that load refuses, a state not well formed, no state, and a side that the wrapper lacks.
@@ -171,11 +143,9 @@ pub fn step(
 ) -> Stepped
     ensures { StepAnswered (composition wrapper (map (λ x. x.now) nodes.entry) (map (λ x. x.now) pools.entry)) s (asked kind side i j words.now) result }
 {
-    if is_ready(wrapper, nodes, pools, s) {
-        if has_side(wrapper, side) {
-            return step_side(wrapper, nodes, pools, s, kind, side, i, j, words);
-        }
-        return refused(s, side);
+    if is_ready(wrapper, nodes, pools, s) && has_side(wrapper, side) {
+        step_side(wrapper, nodes, pools, s, kind, side, i, j, words)
+    } else {
+        refused(s, side)
     }
-    refused(s, side)
 }

@@ -7,7 +7,7 @@ ghost use Rattle.wrappers.specs.Compositions.{composition};
 ghost use Rattle.listing.specs.Listing.{ListedIs};
 
 use crate::step_state::is_ready;
-use listing::{Listed, list_stranded};
+use listing::{TooShort, list_stranded};
 use loading::place_of;
 use sides::{Lobby, Sides, State};
 use wrappers::has_side;
@@ -22,16 +22,11 @@ fn lobby_asked(
 ) -> Lobby
     ensures { (view_lobby result ≡ lobby_asked (composition wrapper (map (λ x. x.now) nodes.entry) (map (λ x. x.now) pools.entry)) (state_of s) side) × (result.len ≤ 16) }
 {
-    if is_ready(wrapper, nodes, pools, s) {
-        if has_side(wrapper, side) {
-            let k = place_of(side);
-            let o = s.sides[k];
-            let r = o.rest;
-            return r.lobby;
-        }
-        return Lobby::empty();
+    if is_ready(wrapper, nodes, pools, s) && has_side(wrapper, side) {
+        s.sides[place_of(side)].rest.lobby
+    } else {
+        Lobby::empty()
     }
-    Lobby::empty()
 }
 
 // Every stranded position of a side, smallest first, at the start of the lent list, whose other words stay, and how many they are;
@@ -43,7 +38,7 @@ pub fn stranded(
     s: State,
     side: u32,
     out: &mut [u32],
-) -> Listed
+) -> Result<usize, TooShort>
     ensures { ListedIs (stranded_all (composition wrapper (map (λ x. x.now) nodes.entry) (map (λ x. x.now) pools.entry)) (state_of s) side) out.old out.new result }
 {
     let l = lobby_asked(wrapper, nodes, pools, s, side);

@@ -1,8 +1,7 @@
--- The positions in a lent list of words (document 02, 2.5): how many they are, or 22; and the answer as the enum holds it.
-use Rattle.std.specs.Prelude.{◌≡◌, List, ◌++◌, ◌↔◌, ℕ, ◌<◌, ◌≤◌, leb, length, drop}
+-- The positions in a lent list of words (document 02, 2.5): how many they are, or 22; and the answer as the `Result` holds it.
+use Rattle.std.specs.Prelude.{◌≡◌, Result, Ok, Err, List, ◌++◌, ◌↔◌, ℕ, ◌<◌, ◌≤◌, leb, length, drop}
 use Rattle.model.specs.Basics.{choose, Res, refuse, done, need}
-use Rattle.listing.specs.declared.Listed.{Listed}
-use Rattle.listing.specs.declared.Listed.TheVariants.{Count, TooShort}
+use Rattle.listing.specs.declared.TooShort.{TooShort}
 
 -- how many positions are put into a lent list; 22 where it is too short
 unfoldable pub listing : (positions lent : List ℕ) → Res ℕ
@@ -20,12 +19,12 @@ ListNumbers = (ps lent : List ℕ)
     × ((n : ℕ) → (listing ps lent ≡ done n) ↔ ((n ≡ length ps) × (length ps ≤ length lent)))
     × (length lent < length ps → listed_on ps lent ≡ lent)
 
--- what the enum says: how many positions, or 22
-abbrev pub listed_of : Listed → Res ℕ
-listed_of (Count n) = done n
-listed_of TooShort = refuse 22
+-- what the answer says: how many positions, or 22
+abbrev pub listed_of : Result ℕ TooShort → Res ℕ
+listed_of (Ok n) = done n
+listed_of (Err e) = refuse 22
 
 -- r is the answer for some positions, and the lent list is as it is to be after it
-pub record ListedIs (ps lent after : List ℕ) (r : Listed) : Type 0 where
+pub record ListedIs (ps lent after : List ℕ) (r : Result ℕ TooShort) : Type 0 where
   pub answer : listed_of r ≡ listing ps lent
   pub words : after ≡ listed_on ps lent

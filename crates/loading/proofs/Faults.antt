@@ -7,7 +7,7 @@ use mathlib.Core.Option.{none, some}
 use Prim.Native.Nat.{ℕ, zero, suc, ◌+◌, ◌<◌, ◌≤◌}
 use native.Mathlib.Numerals.{add-one}
 use native.Mathlib.Omega.{arith}
-use borrow.Author.Tests.{eq-eqb, ne_eqb, eqb-true}
+use borrow.Author.Tests.{eqb-true}
 use lib.Dec.{eqb, leb}
 use lib.ListN.{length, drop, get_or}
 use Rattle.model.specs.Basics.{◌&◌, choose, Res, refuse, done, is_done, has}
@@ -20,9 +20,10 @@ use Rattle.model.specs.Load.{Composition, wrapper_of, no_table, start, Loaded, r
 use Rattle.model.specs.Load.{table as table_of}
 use Rattle.model.proofs.Basics.Tests.{both, or_cases, some_inj}
 use Rattle.model.proofs.Formed.Counts.{Added, unfolds_adds}
-use Rattle.tables.specs.declared.checks.Verdict.{Verdict}
-use Rattle.tables.specs.declared.checks.Verdict.TheVariants as verdict
-use Rattle.tables.specs.Checks.{Passes, fault_of}
+use Rattle.std.proofs.Common.{Result, Ok as fine, Err}
+use Rattle.tables.specs.declared.checks.Cause.TheVariants as cause
+use Rattle.tables.specs.declared.checks.Fault.{Fault as Found}
+use Rattle.tables.specs.Checks.{number_of, Passes, fault_of}
 use Rattle.tables.specs.Nodes as slices
 use Rattle.scopes.specs.declared.unfolded.Unfolded.{Unfolded}
 use Rattle.scopes.specs.Unfolded.{UnfoldsTo}
@@ -31,7 +32,7 @@ use Rattle.wrappers.specs.Compositions.{tables_of, composition}
 use Rattle.loading.specs.declared.Outcome.{Outcome}
 use Rattle.loading.specs.declared.Outcome.TheVariants.{Ok, Refused}
 use Rattle.loading.specs.Starting.{Startable}
-use Rattle.loading.specs.Loading.{fault_at, refusal_of, refusal_in, refusal_at}
+use Rattle.loading.specs.Loading.{fault_at, refusal_of, refusal_in}
 
 -- A SIDE'S FAULT
 pub root_in : (t : Table) → Passes t → 0 < count t
@@ -50,20 +51,17 @@ start_within i t u h =
     ap₂ ◌&◌ (ap (λ (n : ℕ). leb n 32) p) (ap₂ ◌&◌ (ap (λ (n : ℕ). leb n 16) q) (ap (λ (n : ℕ). leb n 256) r))
 
 -- a fault of checks 1 to 6 stays
-pub side_bad : (i : ℕ) (t : Table) (v : Verdict) (k n : ℕ) → fault_of v ≡ fault t → v ≡ verdict.Refused k n → fault_of v ≡ side_fault i t
+pub side_bad : (i : ℕ) (t : Table) (v : Result Unit Found) (f : Found) → fault_of v ≡ fault t → v ≡ Err f → fault_of (Err f) ≡ side_fault i t
 unfolding side_fault
-side_bad i t v k n e z =
-    let p : fault t ≡ done (record { number = k; node = n }) = sym e ∙ ap fault_of z in
-    let q : side_fault i t ≡ done (record { number = k; node = n }) = rw (p, side_fault) in
-    ap fault_of z ∙ sym q
+side_bad i t v f e z = let p : fault t ≡ fault_of (Err f) = sym e ∙ ap fault_of z in rw (p, side_fault)
 
 -- with no such fault, 7 is by the counts
 module _ (i : ℕ) (t : Table) (p : Passes t) where
-  pub side_good : within_limits (start i t) ≡ true → fault_of verdict.Passed ≡ side_fault i t
+  pub side_good : within_limits (start i t) ≡ true → fault_of (fine tt) ≡ side_fault i t
   unfolding side_fault
   side_good w = let z = no_fault t p in rw (z.1, w, side_fault)
 
-  pub side_seven : within_limits (start i t) ≡ false → fault_of (verdict.Refused 7 0) ≡ side_fault i t
+  pub side_seven : within_limits (start i t) ≡ false → fault_of (Err (record { cause = cause.Limit; node = 0 })) ≡ side_fault i t
   unfolding side_fault
   side_seven w = let z = no_fault t p in rw (z.1, w, side_fault)
 
@@ -83,17 +81,17 @@ module _ (t : Table) where
   unfolding lack_fault
   lack_by q e = ap (λ (x : Bool). choose x (refuse 0) (done (record { number = 1; node = 0 }))) e
 
-  pub lack_none : length t.nodes ≡ 0 → length t.pool ≡ 0 → fault_of verdict.Passed ≡ lack_fault t
+  pub lack_none : eqb (length t.nodes) 0 ≡ true → eqb (length t.pool) 0 ≡ true → fault_of (fine tt) ≡ lack_fault t
   unfolding choose
-  lack_none a b = sym (lack_by true (both _ _ (eq-eqb (length t.nodes) 0 a) (eq-eqb (length t.pool) 0 b)))
+  lack_none a b = sym (lack_by true (both _ _ a b))
 
-  pub lack_nodes : (length t.nodes ≡ 0 → ⊥) → fault_of (verdict.Refused 1 0) ≡ lack_fault t
+  pub lack_nodes : eqb (length t.nodes) 0 ≡ false → fault_of (Err (record { cause = cause.Size; node = 0 })) ≡ lack_fault t
   unfolding choose ◌&◌
-  lack_nodes a = sym (lack_by false (rw (ne_eqb (length t.nodes) 0 a)))
+  lack_nodes a = sym (lack_by false (rw a))
 
-  pub lack_pool : length t.nodes ≡ 0 → (length t.pool ≡ 0 → ⊥) → fault_of (verdict.Refused 1 0) ≡ lack_fault t
+  pub lack_pool : eqb (length t.nodes) 0 ≡ true → eqb (length t.pool) 0 ≡ false → fault_of (Err (record { cause = cause.Size; node = 0 })) ≡ lack_fault t
   unfolding choose ◌&◌
-  lack_pool a b = sym (lack_by false (rw (eq-eqb (length t.nodes) 0 a, ne_eqb (length t.pool) 0 b)))
+  lack_pool a b = sym (lack_by false (rw (a, b)))
 
 module _ (w : Wrapper) (n : ℕ) (t : Table) where
   pub fault_has : has_side w n ≡ true → fault_at w n t ≡ side_fault n t
@@ -109,20 +107,11 @@ abbrev walk : Res Fault → ℕ → Loaded → Loaded
 walk (done f) i k = refused (record { number = f.number; side = i; node = f.node })
 walk (refuse x) i k = k
 
--- a verdict is that of a fault, or of none
-is_refused_lem : (v : Verdict) (a n : ℕ) → v ≡ verdict.Refused a n → is_done (fault_of v) ≡ true
-is_refused_lem v a n z = ap (λ (y : Verdict). is_done (fault_of y)) z
+walk_bad : (q : Res Fault) (i : ℕ) (k : Loaded) (v : Result Unit Found) (f : Found) → fault_of v ≡ q → v ≡ Err f → refusal_of (Refused (number_of f.cause) i f.node) ≡ refusal_in (walk q i k)
+walk_bad q i k v f e z = ap (λ (r : Res Fault). refusal_in (walk r i k)) (sym (ap fault_of z) ∙ e)
 
-is_passed : (v : Verdict) → v ≡ verdict.Passed → is_done (fault_of v) ≡ false
-is_passed v z = ap (λ (y : Verdict). is_done (fault_of y)) z
-
-walk_bad : (q : Res Fault) (i : ℕ) (k : Loaded) (v : Verdict) (a n : ℕ) → fault_of v ≡ q → v ≡ verdict.Refused a n → refusal_in (walk q i k) ≡ refusal_at i (fault_of v)
-walk_bad (done f) i k v a n e z = sym (ap (refusal_at i) e)
-walk_bad (refuse x) i k v a n e z = absurd (false≢true (sym (ap is_done e) ∙ is_refused_lem v a n z))
-
-walk_good : (q : Res Fault) (i : ℕ) (k : Loaded) (v : Verdict) → fault_of v ≡ q → v ≡ verdict.Passed → walk q i k ≡ k
-walk_good (done f) i k v e z = absurd (false≢true (sym (is_passed v z) ∙ ap is_done e))
-walk_good (refuse x) i k v e z = refl
+walk_good : (q : Res Fault) (i : ℕ) (k : Loaded) (v : Result Unit Found) (u : Unit) → fault_of v ≡ q → v ≡ fine u → walk q i k ≡ k
+walk_good q i k v u e z = sym (ap (λ (r : Res Fault). walk r i k) (sym (ap fault_of z) ∙ e))
 
 walk_ok : (q : Res Fault) (i : ℕ) (k : Loaded) → is_ok (walk q i k) ≡ true → (is_done q ≡ false) × (walk q i k ≡ k)
 walk_ok (done f) i k e = absurd (false≢true e)
@@ -194,7 +183,7 @@ fault_lent f w ts us k n d e a b same =
     ∙ ap (λ (m : ℕ). fault_at (described w) m (slices.table (get_or (map f ts) k []) (get_or (map f us) k []))) same
 
 -- A TURN: the sides from place k on
-module _ (w : ℕ) (ns ps : List (List ℕ)) (k : ℕ) (a : k < length ns) (c : k < length ps) (h : k < length all_sides) (v : Verdict)
+module _ (w : ℕ) (ns ps : List (List ℕ)) (k : ℕ) (a : k < length ns) (c : k < length ps) (h : k < length all_sides) (v : Result Unit Found)
     (e : fault_of v ≡ fault_at (wrapper_of (composition w ns ps)) (k + 1) (slices.table (get_or ns k []) (get_or ps k []))) where
   abbrev b : Composition
   b = composition w ns ps
@@ -210,16 +199,11 @@ module _ (w : ℕ) (ns ps : List (List ℕ)) (k : ℕ) (a : k < length ns) (c : 
   is : fault_of v ≡ f
   is = e ∙ ap (fault_at (wrapper_of b) (k + 1)) (sym (table_at w ns ps k a c))
 
-  pub turn_good : v ≡ verdict.Passed → FromPlace b k → FromPlace b (k + 1)
-  turn_good z p = p ∙ here ∙ walk_good f (k + 1) _ v is z
+  pub turn_good : (u : Unit) → v ≡ fine u → FromPlace b k → FromPlace b (k + 1)
+  turn_good u z p = p ∙ here ∙ walk_good f (k + 1) _ v u is z
 
-  pub turn_bad : (x y : ℕ) → v ≡ verdict.Refused x y → FromPlace b k →
-      (n : ℕ) (r : Outcome) → n ≡ k + 1 → refusal_of r ≡ refusal_at n (fault_of v) → refusal_of r ≡ refusal_in (load b)
-  turn_bad x y z p n r q g =
-      g
-      ∙ ap (λ (i : ℕ). refusal_at i (fault_of v)) q
-      ∙ sym (walk_bad f (k + 1) (load_sides b (drop (k + 1) all_sides) (started b)) v x y is z)
-      ∙ ap refusal_in (sym (p ∙ here))
+  pub turn_bad : (x : Found) → v ≡ Err x → FromPlace b k → refusal_of (Refused (number_of x.cause) (k + 1) x.node) ≡ refusal_in (load b)
+  turn_bad x z p = walk_bad f (k + 1) (load_sides b (drop (k + 1) all_sides) (started b)) v x is z ∙ ap refusal_in (sym (p ∙ here))
 
 drop_all : (l : List ℕ) (k : ℕ) → length l ≤ k → drop k l ≡ []
 drop_all [] zero h = refl

@@ -1,7 +1,7 @@
 -- What load says, case by case: model's number, side and node of a refusal.
 use Rattle.std.proofs.Math.Option.{Option, none, some}
 use Rattle.std.specs.Prelude.{ℕ}
-use Rattle.model.specs.Basics.{choose, Res, refuse, done}
+use Rattle.model.specs.Basics.{choose, Res}
 use Rattle.model.specs.Table.{Table}
 use Rattle.model.specs.Checks.{Fault}
 use Rattle.model.specs.Wrapper.{Wrapper, has_side}
@@ -22,8 +22,3 @@ refusal_of (Refused k i m) = some (record { number = k; side = i; node = m })
 abbrev pub refusal_in : Loaded → Option Refusal
 refusal_in (refused x) = some x
 refusal_in (ok s) = none
-
--- a fault of side n as load refuses it
-abbrev pub refusal_at : (n : ℕ) → Res Fault → Option Refusal
-refusal_at n (refuse e) = none
-refusal_at n (done f) = some (record { number = f.number; side = n; node = f.node })

@@ -5,58 +5,52 @@ ghost use Rattle.model.specs.Load.{side_fault, lack_fault, load};
 ghost use Rattle.tables.specs.Nodes.{table};
 ghost use Rattle.tables.specs.Checks.{fault_of};
 ghost use Rattle.wrappers.specs.Compositions.{composition};
-ghost use Rattle.loading.specs.Loading.{fault_at, refusal_of, refusal_in, refusal_at};
+ghost use Rattle.loading.specs.Loading.{fault_at, refusal_of, refusal_in};
 
 use crate::Outcome;
 use scopes::unfolded::unfolded_at;
 use sides::{Side, Sides};
-use tables::checks::{Verdict, check};
+use tables::checks::{Cause, Fault, check};
 use wrappers::{has_side, is_wrapper};
 
 // The fault of a side that the wrapper has: 1 to 6, then 7 with node 0.
-fn side_verdict(nodes: &[u32], pool: &[u32]) -> Verdict
+fn side_verdict(nodes: &[u32], pool: &[u32]) -> Result<(), Fault>
     ensures { (n : ℕ) → fault_of result ≡ side_fault n (table nodes.now pool.now) }
 {
-    let v = check(nodes, pool);
-    let Verdict::Passed = v else {
-        return v;
-    };
+    check(nodes, pool)?;
     let u = unfolded_at(nodes, pool, 0);
     if Side::contents_within(u.particles, u.boxes + 1, u.names) {
-        return Verdict::Passed;
+        Ok(())
+    } else {
+        Err(Fault {
+            cause: Cause::Limit,
+            node: 0,
+        })
     }
-    Verdict::Refused(7, 0)
 }
 
 // The fault of a side that it lacks: 1 where a slice is not empty.
-fn lack_verdict(nodes: &[u32], pool: &[u32]) -> Verdict
+fn lack_verdict(nodes: &[u32], pool: &[u32]) -> Result<(), Fault>
     ensures { fault_of result ≡ lack_fault (table nodes.now pool.now) }
 {
-    if nodes.len() == 0 {
-        if pool.len() == 0 {
-            return Verdict::Passed;
-        }
+    if nodes.is_empty() && pool.is_empty() {
+        Ok(())
+    } else {
+        Err(Fault {
+            cause: Cause::Size,
+            node: 0,
+        })
     }
-    Verdict::Refused(1, 0)
 }
 
 // The fault of side n.
-fn fault_at(wrapper: u32, n: u32, nodes: &[u32], pool: &[u32]) -> Verdict
+fn fault_at(wrapper: u32, n: u32, nodes: &[u32], pool: &[u32]) -> Result<(), Fault>
     ensures { fault_of result ≡ fault_at (described wrapper) n (table nodes.now pool.now) }
 {
     if has_side(wrapper, n) {
-        return side_verdict(nodes, pool);
-    }
-    lack_verdict(nodes, pool)
-}
-
-// A side's fault as load says it.
-fn at_side(v: Verdict, n: u32) -> Outcome
-    ensures { refusal_of result ≡ refusal_at n (fault_of v) }
-{
-    match v {
-        Verdict::Passed => Outcome::Ok,
-        Verdict::Refused(k, m) => Outcome::Refused(k, n, m),
+        side_verdict(nodes, pool)
+    } else {
+        lack_verdict(nodes, pool)
     }
 }
 
@@ -87,14 +81,11 @@ pub fn load_verdict(
     if !is_wrapper(wrapper) {
         return Outcome::Refused(1, 0, 0);
     }
-    let mut k: usize = 0;
-    while k < Sides::COUNT {
+    for k in 0..Sides::COUNT {
         let n = number_of(k);
-        let v = fault_at(wrapper, n, nodes[k], pools[k]);
-        let Verdict::Passed = v else {
-            return at_side(v, n);
-        };
-        k += 1;
+        if let Err(f) = fault_at(wrapper, n, nodes[k], pools[k]) {
+            return Outcome::Refused(f.cause.number(), n, f.node);
+        }
     }
     Outcome::Ok
 }

@@ -42,11 +42,10 @@ fn match_offer(pool: &[u32], place: usize, e: &mut [u32], d: usize, v: Value) ->
     requires { Matchable e.old d (pattern_at pool.now place) v × Fits e.old d }
     ensures { MatchAnswer (pattern_at pool.now place) (view_value v) (env_of e.old d) e.new result }
 {
-    let b = match_value(pool, place, e, d, v);
-    if !b.fits {
-        return Offer::Refused(14);
+    match match_value(pool, place, e, d, v) {
+        Some(n) => Offer::At(n),
+        None => Offer::Refused(14),
     }
-    Offer::At(b.n)
 }
 
 // 15 and 16 of the body at node n, under the first d names of e. The answer is d.

@@ -8,34 +8,22 @@ use wrappers::has_shelf;
 
 // Whether a side has a place: no shelf but where it may have one.
 fn is_place(place: usize, start: Start, side: u32) -> bool {
-    if place == 18 {
-        return has_shelf(wrapper_of(start), side);
-    }
-    true
+    place != 18 || has_shelf(wrapper_of(start), side)
 }
 
-// Each of at most eight words as a name, or as a value of one word, at a place.
+// Each of the words as a name, or as a value of one word, at a place.
 fn names_at(good: bool, start: Start, side: u32, place: usize, words: &[u32]) {
-    if 8 < words.len() {
-        return;
-    }
-    let mut k: usize = 0;
-    while k < words.len() {
-        case(good, start, side, place, size(words[k]));
-        k += 1;
+    for &w in words {
+        case(good, start, side, place, size(w));
     }
 }
 
 // At each of the places 10 to 18 from one on to another; 18 is the shelf.
-pub fn names(good: bool, start: Start, side: u32, from: usize, to: usize, words: &[u32])
-    requires { to ≤ 19 }
-{
-    let mut k = from;
-    while k < to {
-        if is_place(k, start, side) {
-            names_at(good, start, side, k, words);
+pub fn names(good: bool, start: Start, side: u32, from: usize, to: usize, words: &[u32]) {
+    for place in from..to {
+        if is_place(place, start, side) {
+            names_at(good, start, side, place, words);
         }
-        k += 1;
     }
 }
 
@@ -61,21 +49,12 @@ const VALUES: [[u32; 6]; 17] = [
 ];
 
 fn value_of(row: [u32; 6]) -> Value {
-    let mut words: [u32; 16] = [row[5]; 16];
-    words[0] = row[1];
-    words[1] = row[2];
-    words[2] = row[3];
-    words[3] = row[4];
+    let [len, a, b, c, d, rest] = row;
+    let mut words = [rest; 16];
+    words[..4].copy_from_slice(&[a, b, c, d]);
     Value {
         words,
-        len: size(row[0]),
-    }
-}
-
-// A value at a place.
-fn value_at(good: bool, start: Start, side: u32, place: usize, v: Value) {
-    if is_place(place, start, side) {
-        value_case(good, start, side, place, v);
+        len: size(len),
     }
 }
 
@@ -84,19 +63,18 @@ pub fn value(good: bool, start: Start, side: u32, at: usize)
     requires { at < 17 }
 {
     let v = value_of(VALUES[at]);
-    value_at(good, start, side, 15, v);
-    value_at(good, start, side, 16, v);
-    value_at(good, start, side, 17, v);
-    value_at(good, start, side, 18, v);
+    for place in 15..19 {
+        if is_place(place, start, side) {
+            value_case(good, start, side, place, v);
+        }
+    }
 }
 
 // A part of the list.
 pub fn values(good: bool, start: Start, side: u32, from: usize, to: usize)
     requires { to ≤ 17 }
 {
-    let mut k = from;
-    while k < to {
-        value(good, start, side, k);
-        k += 1;
+    for at in from..to {
+        value(good, start, side, at);
     }
 }

@@ -1,30 +1,24 @@
 -- Answers by what a line gives, and a line's numbers.
 use mathlib.Core.Path.{◌≡◌, refl, ap, ◌∙◌}
-use mathlib.Core.Bool.{true, false}
 use mathlib.Core.List.{List}
 use mathlib.Core.Option.{Option, none, some}
-use Prim.Native.Nat.{ℕ, min, ◌+◌, ◌<◌}
+use Prim.Native.Nat.{ℕ, min, ◌-◌, ◌<◌}
+use native.Mathlib.Omega.{arith}
+use Rattle.std.specs.declared.option.Option.TheVariants.{Some, None}
 use lib.ListN.{length, get_or, take, drop, length-take}
 use lib.Seq.{get_or-take}
 use Rattle.format.specs.Lines.{Input}
 use Rattle.reading.specs.declared.Places.{Places}
-use Rattle.reading.specs.declared.lines.After.{After}
 use Rattle.reading.specs.Lists.{Lists, lists, places_of, Holds, AfterIs}
 use Rattle.delimiters.proofs.SliceLaws.{take_of_drop}
 
--- an answer by what a line gives
-abbrev pub not_taken : Places → After
-not_taken p = record { taken = false; places = p }
-
-abbrev pub taken_to : Places → After
-taken_to p = record { taken = true; places = p }
-
+-- the answer by what a line gives
 module _ (i : Input) (o : Option Input) (p : Places) (old new : Lists) where
-  pub is_fault : p ≡ places_of i → Holds i old new → o ≡ none → AfterIs i o (not_taken p) old new
-  is_fault q h e = rw e (record { taken = refl; places = q; holds = h })
+  pub is_fault : p ≡ places_of i → Holds i old new → o ≡ none → AfterIs i o None old new
+  is_fault q h e = rw e (record { places = refl; holds = h })
 
-  pub is_next : (j : Input) → o ≡ some j → p ≡ places_of j → Holds j old new → AfterIs i o (taken_to p) old new
-  is_next j e q h = rw e (record { taken = refl; places = q; holds = h })
+  pub is_next : (j : Input) → o ≡ some j → p ≡ places_of j → Holds j old new → AfterIs i o (Some p) old new
+  is_next j e q h = rw e (record { places = ap some q; holds = h })
 
 -- places, and the lent lists, one by one
 abbrev pub places : (rank wrapper : ℕ) → (nodes pools : List ℕ) → (steps words : ℕ) → Places
@@ -40,8 +34,8 @@ same_lists a b c d e f p q r = rw (p, q, r)
 pub first_of : (len : ℕ) (ws : List ℕ) → 0 < len → get_or (take len ws) 0 0 ≡ get_or ws 0 0
 first_of len ws h = get_or-take len ws 0 0 h
 
-pub others_of : (len k : ℕ) (ws : List ℕ) → len ≡ 1 + k → take k (drop 1 ws) ≡ drop 1 (take len ws)
-others_of len k ws e = rw e (take_of_drop 1 k ws)
+pub others_of : (size : ℕ) (ws : List ℕ) → 0 < size → take (size - 1) (drop 1 ws) ≡ drop 1 (take size ws)
+others_of size ws h = take_of_drop 1 (size - 1) ws ∙ ap (λ (n : ℕ). drop 1 (take n ws)) (omega arith)
 
 pub size_of : (len : ℕ) (ws : List ℕ) → length ws ≡ 21 → length (take len ws) ≡ min len 21
 size_of len ws e = length-take len ws ∙ ap (min len) e

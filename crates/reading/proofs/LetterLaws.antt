@@ -3,7 +3,7 @@ use mathlib.Core.Path.{◌≡◌, refl, sym, ap, ◌∙◌}
 use mathlib.Core.Bool.{Bool, true, false}
 use mathlib.Core.List.{List}
 use mathlib.Core.Option.{Option, none, some}
-use Prim.Native.Nat.{ℕ, ◌<◌, ◌≤◌}
+use Prim.Native.Nat.{ℕ, ◌<◌}
 use native.Mathlib.Omega.{arith}
 use borrow.Author.Tests.{leb-true, leb-false, eq-eqb, ne_eqb}
 use lib.Dec.{leb}
@@ -11,13 +11,14 @@ use lib.ListN.{length, get_or, take}
 use Rattle.model.specs.Basics.{choose}
 use Rattle.format.specs.Lines.{Line, Input, line_of, on_w, on_n, on_v, on_s, on_line, with_line}
 use Rattle.reading.specs.declared.Places.{Places}
-use Rattle.reading.specs.declared.lines.After.{After}
-use Rattle.reading.specs.Fields.{line_in, short_line, short, after_line}
+use Rattle.std.specs.declared.option.Option as code
+use Rattle.std.specs.declared.option.Option.TheVariants.{Some, None}
+use Rattle.reading.specs.Fields.{short_line, short, after_line}
 use Rattle.reading.specs.Lists.{Lists, places_of, Holds, AfterIs}
 use Rattle.model.proofs.Basics.Tests.{both}
-use Rattle.reading.proofs.LineLaws.{view_line_lem, view_none, is_short_lem, is_long}
+use Rattle.reading.proofs.LineLaws.{is_short_lem, is_long}
 use Rattle.reading.proofs.TestLaws.{first_fails, second_fails, above, passes, fails, same_either}
-use Rattle.reading.proofs.AnswerLaws.{is_fault, is_next, not_taken, taken_to, places, first_of, size_of}
+use Rattle.reading.proofs.AnswerLaws.{is_fault, is_next, places, first_of, size_of}
 use Rattle.reading.proofs.NamedLaws.{another_size}
 use Rattle.reading.proofs.SideLaws.{n_none, v_none}
 use Rattle.reading.proofs.StepLaws.{s_none}
@@ -27,15 +28,15 @@ module _ (i : Input) (p : Places) (old l : Lists) (at : p ≡ places_of i) (h : 
   rank_is : p.rank ≡ i.rank
   rank_is = ap (λ (x : Places). x.rank) at
 
-  pub w_late : (p.rank ≡ 0 → ⊥) → AfterIs i (on_w i (take len ws)) (not_taken p) old l
+  pub w_late : (p.rank ≡ 0 → ⊥) → AfterIs i (on_w i (take len ws)) None old l
   unfolding on_w
   w_late e = is_fault i _ p old l at h (fails _ _ (first_fails _ _ (ne_eqb i.rank 0 (λ q. e (rank_is ∙ q)))))
 
-  pub w_size : (len ≡ 1 → ⊥) → AfterIs i (on_w i (take len ws)) (not_taken p) old l
+  pub w_size : (len ≡ 1 → ⊥) → AfterIs i (on_w i (take len ws)) None old l
   unfolding on_w
   w_size e = is_fault i _ p old l at h (fails _ _ (second_fails _ _ (ne_eqb (length (take len ws)) 1 (λ q. e (omega (arith, size_of len ws full))))))
 
-  pub w_taken : p.rank ≡ 0 → len ≡ 1 → AfterIs i (on_w i (take len ws)) (taken_to (places 1 (get_or ws 0 0) p.nodes p.pools p.steps p.words)) old l
+  pub w_taken : p.rank ≡ 0 → len ≡ 1 → AfterIs i (on_w i (take len ws)) (Some (places 1 (get_or ws 0 0) p.nodes p.pools p.steps p.words)) old l
   unfolding on_w
   w_taken e q =
       is_next i _ _ old l _ (passes _ _ (both _ _ (eq-eqb i.rank 0 (sym rank_is ∙ e)) (eq-eqb (length (take len ws)) 1 (omega (arith, size_of len ws full)))))
@@ -69,17 +70,9 @@ module _ (i : Input) (ns : List ℕ) where
   unfolding on_line choose
   letter_other c w n v s = rw (ne_eqb c 87 w, ne_eqb c 78 n, ne_eqb c 86 v, ne_eqb c 83 s)
 
--- the answer for a struct's line, where it is not at fault, from the answer for its letter
-module _ (i : Input) (c len : ℕ) (ws : List ℕ) (old l : Lists) where
-  pub by_letter : (r : After) → len ≤ 21 → (o : Option Input) → on_line i (record { letter = c; words = take len ws }) ≡ o → AfterIs i o r old l → AfterIs i (after_line i (line_in c ws len)) r old l
-  by_letter r few o e a = rw (view_line_lem c len ws few, e) a
-
-  -- a line of no letter, and one that is at fault as it stands
-  pub by_none : (p : Places) → p ≡ places_of i → Holds i old l → len ≤ 21 → on_line i (record { letter = c; words = take len ws }) ≡ none → AfterIs i (after_line i (line_in c ws len)) (not_taken p) old l
-  by_none p at h few e = by_letter (not_taken p) few none e (is_fault i none p old l at h refl)
-
-  pub by_length : (p : Places) → p ≡ places_of i → Holds i old l → 21 < len → AfterIs i (after_line i (line_in c ws len)) (not_taken p) old l
-  by_length p at h m = is_fault i _ p old l at h (ap (after_line i) (view_none c len ws m))
+  -- the answer of a line from that of its letter
+  pub by_letter : (c : ℕ) (o : Option Input) (r : code.Option Places) (old new : Lists) → on_line i (record { letter = c; words = ns }) ≡ o → AfterIs i o r old new → AfterIs i (on_line i (record { letter = c; words = ns })) r old new
+  by_letter c o r old new e a = rw e a
 
 -- a line of more than 21 numbers gives nothing, whatever its letter
 module _ (i : Input) (ns : List ℕ) (many : 21 < length ns) where
@@ -88,10 +81,10 @@ module _ (i : Input) (ns : List ℕ) (many : 21 < length ns) where
   long_w = fails _ _ (second_fails _ _ (ne_eqb (length ns) 1 (λ e. omega arith)))
 
   long_n : on_n i ns ≡ none
-  long_n = n_none i ns (another_size 2 6 i.rank ns (λ e. omega arith))
+  long_n = n_none i ns (second_fails _ _ (another_size 6 1285 _ ns (λ e. omega arith)))
 
   long_v : on_v i ns ≡ none
-  long_v = v_none i ns (another_size 3 2 i.rank ns (λ e. omega arith))
+  long_v = v_none i ns (second_fails _ _ (another_size 2 1025 _ ns (λ e. omega arith)))
 
   long_s : on_s i ns ≡ none
   long_s = s_none i ns (second_fails _ _ (first_fails _ _ (above 4 21 (length ns) many)))

@@ -1,6 +1,5 @@
 -- A line's numbers, one after the other, and lines of more than 21 numbers.
 use mathlib.Core.Path.{◌≡◌, refl, sym, ap, ap₂, ◌∙◌}
-use mathlib.Core.Logic.{◌⊎◌, inl, inr}
 use mathlib.Core.Bool.{Bool, true, false}
 use mathlib.Core.List.{List, [], ◌∷◌, ◌++◌, append_assoc, append-nil}
 use mathlib.Core.Option.{Option, none, some}
@@ -9,15 +8,20 @@ use native.Mathlib.Omega.{arith}
 use native.Mathlib.Numerals.{add-one}
 use borrow.Author.Tests.{le-leb, lt-leb, leb-true, leb-false, eq-eqb, ne_eqb}
 use lib.Dec.{leb, ltb, eqb}
-use lib.ListN.{length, get_or, take, set, length-append, length-set, length-take}
+use lib.ListN.{length, get_or, take, drop, set, length-append, length-take}
 use lib.Seq.{take-suc-set, slice-cons, length-slice}
 use Rattle.model.specs.Basics.{choose}
 use Rattle.format.specs.Lines.{tab, pieces, number, numbers, Line, line_of}
 use Rattle.format.specs.Bytes.{slice, index_of}
 use Rattle.reading.proofs.PieceLaws.{last, next, first}
 use Rattle.reading.proofs.EndLaws.{end_up, end_fits, end_behind, field_end, field_fits, at_newline, before_newline}
-use Rattle.reading.specs.Fields.{line_in, short_line, short, pushed, line_with, line_end, ended}
+use Rattle.std.specs.Prelude.{IfSome}
+use Rattle.std.specs.declared.option.Option as code
+use Rattle.std.specs.declared.option.Option.TheVariants.{Some, None}
+use Rattle.reading.specs.declared.fields.Line as fields
+use Rattle.reading.specs.Fields.{short_line, short, line_with, line_end, ended, LineEnds}
 use Rattle.delimiters.specs.Delimiters.{delimiter_from}
+use Rattle.delimiters.proofs.SliceLaws.{take_of_drop}
 
 abbrev pub line : ℕ → List ℕ → Line
 line c ns = record { letter = c; words = ns }
@@ -30,39 +34,23 @@ pub is_long : (c : ℕ) (ns : List ℕ) → 21 < length ns → short_line (line 
 unfolding short_line choose
 is_long c ns h = rw (lt-leb (length ns) 21 h)
 
-pub view_line_lem : (c n : ℕ) (ws : List ℕ) → n ≤ 21 → line_in c ws n ≡ some (line c (take n ws))
-unfolding line_in choose
-view_line_lem c n ws h = rw (le-leb n 21 h)
-
-pub view_empty : (c : ℕ) (ws : List ℕ) → line_in c ws 0 ≡ line_with c (some [])
-view_empty c ws = view_line_lem c 0 ws (omega arith)
-
-pub view_none : (c n : ℕ) (ws : List ℕ) → 21 < n → line_in c ws n ≡ none
-unfolding line_in choose
-view_none c n ws h = rw (lt-leb n 21 h)
-
 -- one number more, in the array or past it
-module _ (c n w : ℕ) (ws : List ℕ) (full : length ws ≡ 21) where
-  longer : n ≤ 21 → length (take n ws ++ (w ∷ [])) ≡ n + 1
-  longer h = omega (arith, length-append (take n ws) (w ∷ []), length-take n ws)
+module _ (c n w : ℕ) (ws : List ℕ) (full : length ws ≡ 21) (few : n ≤ 21) where
+  longer : length (take n ws ++ (w ∷ [])) ≡ n + 1
+  longer = omega (arith, length-append (take n ws) (w ∷ []), length-take n ws)
 
-  pub push_in : n < 21 → line_in c (set ws n w) (n + 1) ≡ pushed w (line_in c ws n)
+  pub push_in : n < 21 → short_line (line c (take n ws ++ (w ∷ []))) ≡ some (line c (take (n + 1) (set ws n w)))
   push_in h =
       let e : take (n + 1) (set ws n w) ≡ take n ws ++ (w ∷ []) = rw add-one (take-suc-set ws n w (omega arith)) in
-      view_line_lem c (n + 1) (set ws n w) (omega arith) ∙ ap (λ (l : List ℕ). some (line c l)) e
-      ∙ sym (ap (pushed w) (view_line_lem c n ws (omega arith)) ∙ is_short_lem c (take n ws ++ (w ∷ [])) (omega (arith, longer (omega arith))))
+      is_short_lem c (take n ws ++ (w ∷ [])) (omega (arith, longer)) ∙ sym (ap (λ (l : List ℕ). some (line c l)) e)
 
-  pub push_out : (m : ℕ) → 21 ≤ n → 21 < m → line_in c ws m ≡ pushed w (line_in c ws n)
-  push_out m h g = view_none c m ws g ∙ sym (go (leb n 21) refl)
-    where
-      go : (b : Bool) → leb n 21 ≡ b → pushed w (line_in c ws n) ≡ none
-      go true e = ap (pushed w) (view_line_lem c n ws (leb-true n 21 e)) ∙ is_long c (take n ws ++ (w ∷ [])) (omega (arith, longer (leb-true n 21 e)))
-      go false e = ap (pushed w) (view_none c n ws (leb-false n 21 e))
+  pub push_out : n ≡ 21 → short_line (line c (take n ws ++ (w ∷ []))) ≡ none
+  push_out e = is_long c (take n ws ++ (w ∷ [])) (omega (arith, longer))
 
-  -- whichever of the two
-  pub push_either : (vs : List ℕ) (m : ℕ) → ((n < 21) × (vs ≡ set ws n w) × (m ≡ n + 1)) ⊎ ((21 ≤ n) × (vs ≡ ws) × (m ≡ 22)) → (length vs ≡ 21) × (line_in c vs m ≡ pushed w (line_in c ws n))
-  push_either vs m (inl (h, a, b)) = (ap length a ∙ length-set ws n w ∙ full, ap₂ (λ (l : List ℕ) (k : ℕ). line_in c l k) a b ∙ push_in h)
-  push_either vs m (inr (h, a, b)) = (ap length a ∙ full, ap₂ (λ (l : List ℕ) (k : ℕ). line_in c l k) a b ∙ push_out 22 h (omega arith))
+-- a line with one number more, where it is still short
+abbrev pub pushed : ℕ → Option Line → Option Line
+pushed w none = none
+pushed w (some l) = short_line (line l.letter (l.words ++ (w ∷ [])))
 
 -- a line with some numbers more, none where there are none
 abbrev pub after : Option Line → Option (List ℕ) → Option Line
@@ -111,7 +99,7 @@ after_consed n (some l) none = sym (after_none (pushed n (some l)))
 after_consed n (some l) (some ns) = after_push n l ns
 
 -- a line before its first number
-before_all : (c : ℕ) (o : Option (List ℕ)) → short (line_with c o) ≡ after (line_with c (some [])) o
+pub before_all : (c : ℕ) (o : Option (List ℕ)) → short (line_with c o) ≡ after (line_with c (some [])) o
 before_all c none = refl
 before_all c (some ns) = refl
 
@@ -163,9 +151,6 @@ a_letter l f fs c e h g = of_pieces_lem l f fs e ∙ rw (eq-eqb (length f) 1 h, 
     go none = refl
     go (some ns) = ap (λ (x : ℕ). some (line x ns)) g
 
-pub start_line : (c : ℕ) (v : Option Line) (o : Option (List ℕ)) → v ≡ line_with c (some []) → short (line_with c o) ≡ after v o
-start_line c v o e = before_all c o ∙ ap (λ (x : Option Line). after x o) (sym e)
-
 -- the line from a place on, whose first field ends at q
 module _ (s : List ℕ) (at q : ℕ) (up : at ≤ length s) (is : q ≡ delimiter_from at s) where
   abbrev end : ℕ
@@ -190,6 +175,11 @@ module _ (s : List ℕ) (at q : ℕ) (up : at ≤ length s) (is : q ≡ delimite
   pub same_end : q < end → line_end (q + 1) s ≡ end
   same_end h = end_behind s at q inside.0 h up
 
+  -- the field as the code has it
+  pub field_is : take (q - at) (drop at s) ≡ slice at q s
+  unfolding slice
+  field_is = take_of_drop at (q - at) s ∙ ap (λ (k : ℕ). drop at (take k s)) (omega (arith, inside.0))
+
   module _ (v : Option Line) where
     pub field_bad : number (slice at q s) ≡ none → after v (numbers (pieces tab (slice at end s))) ≡ none
     field_bad e =
@@ -197,6 +187,12 @@ module _ (s : List ℕ) (at q : ℕ) (up : at ≤ length s) (is : q ≡ delimite
         ap (λ (ps : List (List ℕ)). after v (numbers ps)) f.1 ∙ no_number v _ f.0 e
 
     module _ (n : ℕ) (e : number (slice at q s) ≡ some n) where
+      -- one number too many
+      pub field_full : pushed n v ≡ none → after v (numbers (pieces tab (slice at end s))) ≡ none
+      field_full p =
+          let f = first tab s at end q (end_up s at up) inside.2 found inside.1 in
+          ap (λ (ps : List (List ℕ)). after v (numbers ps)) f.1 ∙ a_number v _ f.0 n e ∙ ap (λ (x : Option Line). after x (numbers f.0)) p
+
       pub field_last : q ≡ end → after v (numbers (pieces tab (slice at end s))) ≡ pushed n v
       field_last h = ap (λ (ps : List (List ℕ)). after v (numbers ps)) (last tab s at end q (end_up s at up) inside.2 found h) ∙ last_number v _ n e
 
@@ -234,3 +230,7 @@ module _ (s : List ℕ) (at q : ℕ) (up : at ≤ length s) (is : q ≡ delimite
 pub ended_same : (from at : ℕ) (s : List ℕ) (l : Option Line) → line_end at s ≡ line_end from s → ended at s l ≡ ended from s l
 unfolding ended
 ended_same from at s l e = ap (λ (k : ℕ). choose (ltb k (length s)) l none) e
+
+pub ends_same : (from at : ℕ) (s : List ℕ) (r : code.Option fields.Line) → line_end at s ≡ line_end from s → IfSome r (LineEnds at s) → IfSome r (LineEnds from s)
+ends_same from at s None e h = h
+ends_same from at s (Some l) e h = (h.0 ∙ e, h.1)

@@ -1,18 +1,19 @@
 -- A number, digit by digit.
-use mathlib.Core.Path.{◌≡◌, ap, ◌∙◌}
+use mathlib.Core.Path.{◌≡◌, refl, sym, ap, ◌∙◌}
+use mathlib.Core.Bool.{Bool, true, false}
 use mathlib.Core.List.{List, [], ◌∷◌}
 use mathlib.Core.Option.{Option, none, some}
 use Prim.Native.Nat.{ℕ, ◌+◌, ◌-◌, ◌*◌, ◌<◌, ◌≤◌}
 use native.Mathlib.Omega.{arith}
-use native.Mathlib.Numerals.{add-one}
 use borrow.Author.Tests.{lt-ltb, le-leb, lt-leb}
 use lib.Dec.{leb}
-use lib.ListN.{length, get_or}
-use lib.Seq.{slice-cons, slice_empty, length-slice}
+use lib.ListN.{length, get_or, drop}
+use Rattle.std.specs.Prelude.{◌&&◌}
+use Rattle.std.specs.Char.{is_ascii_digit}
+use Rattle.std.proofs.lemmas.List.{drop_more, drop_all}
 use Rattle.model.specs.Basics.{◌&◌, choose, every}
 use Rattle.format.specs.Lines.{is_digit, decimal_value, number}
 use Rattle.reading.proofs.TestLaws.{second_fails}
-use Rattle.format.specs.Bytes.{slice}
 
 -- the number that some digits and then others make, where the first make v
 unfoldable pub number_from : ℕ → List ℕ → Option ℕ
@@ -23,17 +24,13 @@ grows : (v : ℕ) (l : List ℕ) → v ≤ decimal_value v l
 grows v [] = omega arith
 grows v (b ∷ bs) = omega (arith, grows (10 * v + (b - 48)) bs)
 
-next_digit : (v b : ℕ) (bs : List ℕ) → 48 ≤ b → b ≤ 57 → number_from v (b ∷ bs) ≡ number_from (10 * v + (b - 48)) bs
+next_digit : (v b : ℕ) (bs : List ℕ) → is_digit b ≡ true → number_from v (b ∷ bs) ≡ number_from (10 * v + (b - 48)) bs
 unfolding number_from ◌&◌
-next_digit v b bs h k = rw (le-leb 48 b h, le-leb b 57 k)
+next_digit v b bs e = rw e
 
-below_digits : (v b : ℕ) (bs : List ℕ) → b < 48 → number_from v (b ∷ bs) ≡ none
+no_digit : (v b : ℕ) (bs : List ℕ) → is_digit b ≡ false → number_from v (b ∷ bs) ≡ none
 unfolding number_from ◌&◌ choose
-below_digits v b bs h = rw (lt-leb 48 b h)
-
-above_digits : (v b : ℕ) (bs : List ℕ) → 57 < b → number_from v (b ∷ bs) ≡ none
-unfolding number_from ◌&◌ choose
-above_digits v b bs h = rw (le-leb 48 b (omega arith), lt-leb b 57 h)
+no_digit v b bs e = rw e
 
 too_large : (v : ℕ) (bs : List ℕ) → 4294967295 < v → number_from v bs ≡ none
 unfolding number_from choose
@@ -43,35 +40,42 @@ no_more : (v : ℕ) → v ≤ 4294967295 → number_from v [] ≡ some v
 unfolding number_from ◌&◌ choose
 no_more v h = rw (le-leb v 4294967295 h)
 
--- an empty field
-pub empty : (s : List ℕ) (from to : ℕ) → from ≡ to → number (slice from to s) ≡ none
-unfolding slice number ◌&◌ choose
-empty s from to e = rw (e, slice_empty to s)
+-- an empty field, and one that is not empty, before its first digit
+pub empty : (f : List ℕ) → length f ≡ 0 → number f ≡ none
+unfolding number ◌&◌ choose
+empty f e = rw e
 
--- a field that is not empty, before its first digit
-pub first : (s : List ℕ) (from to : ℕ) → from < to → to ≤ length s → number (slice from to s) ≡ number_from 0 (slice from to s)
-unfolding slice number number_from ◌&◌
-first s from to h k = rw (lt-ltb 0 (length (slice from to s)) (omega (arith, length-slice from to s k)))
+pub first : (f : List ℕ) → 0 < length f → number f ≡ number_from 0 f
+unfolding number number_from ◌&◌
+first f h = rw (lt-ltb 0 (length f) h)
 
--- a field with no digit left
-pub end : (s : List ℕ) (v at to : ℕ) → at ≤ to → to ≤ at → v ≤ 4294967295 → number_from v (slice at to s) ≡ some v
-unfolding slice
-end s v at to h k m = let e : at ≡ to = omega arith in rw (e, slice_empty to s) (no_more v m)
+-- the library's test of a digit is the definition's
+digit_is : (b : ℕ) → is_ascii_digit b ≡ is_digit b
+unfolding ◌&◌
+digit_is b = go (leb 48 b) (leb b 57)
+  where
+    go : (x y : Bool) → x && y ≡ x & y
+    go true y = refl
+    go false y = refl
 
--- the next byte of a field
-module _ (s : List ℕ) (v at to b : ℕ) (more : at < to) (fits : to ≤ length s) (e : b ≡ get_or s at 0) where
-  byte : slice at to s ≡ b ∷ slice (at + 1) to s
-  unfolding slice
-  byte = rw (e, add-one) (slice-cons at to s 0 more fits)
+-- the byte at a place of a field, behind digits that make v
+module _ (f : List ℕ) (v k : ℕ) (inside : k < length f) (so_far : number f ≡ number_from v (drop k f)) where
+  abbrev b : ℕ
+  b = get_or f k 0
 
-  pub low : b < 48 → number_from v (slice at to s) ≡ none
-  low h = ap (number_from v) byte ∙ below_digits v b _ h
+  bytes : drop k f ≡ b ∷ drop (k + 1) f
+  bytes = drop_more f k 0 inside
 
-  pub high : 57 < b → number_from v (slice at to s) ≡ none
-  high h = ap (number_from v) byte ∙ above_digits v b _ h
+  pub no_digit_at : is_ascii_digit b ≡ false → number f ≡ none
+  no_digit_at e = so_far ∙ ap (number_from v) bytes ∙ no_digit v b _ (sym (digit_is b) ∙ e)
 
-  pub digit : 48 ≤ b → b ≤ 57 → number_from v (slice at to s) ≡ number_from (10 * v + (b - 48)) (slice (at + 1) to s)
-  digit h k = ap (number_from v) byte ∙ next_digit v b _ h k
+  -- where it is a digit, it makes d of the number
+  module _ (d : ℕ) (is : d ≡ b - 48) (e : is_ascii_digit b ≡ true) where
+    pub digit_at : number f ≡ number_from (10 * v + d) (drop (k + 1) f)
+    digit_at = so_far ∙ ap (number_from v) bytes ∙ next_digit v b _ (sym (digit_is b) ∙ e) ∙ ap (λ (n : ℕ). number_from (10 * v + n) (drop (k + 1) f)) (sym is)
 
-  pub large : 48 ≤ b → b ≤ 57 → 4294967295 < 10 * v + (b - 48) → number_from v (slice at to s) ≡ none
-  large h k m = digit h k ∙ too_large _ _ m
+    pub large_at : 4294967295 < 10 * v + d → number f ≡ none
+    large_at m = digit_at ∙ too_large _ _ m
+
+pub all_digits : (f : List ℕ) (v k : ℕ) → number f ≡ number_from v (drop k f) → length f ≤ k → v ≤ 4294967295 → some v ≡ number f
+all_digits f v k e h m = sym (e ∙ ap (number_from v) (drop_all k f h) ∙ no_more v m)

@@ -1,13 +1,13 @@
 -- N and V lines, which name a side.
-use mathlib.Core.Path.{◌≡◌, refl, sym, ap, subst, ◌∙◌}
-use mathlib.Core.Bool.{false}
+use mathlib.Core.Path.{◌≡◌, refl, sym, ap, ap₂, subst, ◌∙◌}
+use mathlib.Core.Bool.{Bool, true, false}
 use mathlib.Core.List.{List, [], ◌∷◌, ◌++◌, map}
 use mathlib.Core.Option.{Option, none, some}
-use Prim.Native.Nat.{ℕ, zero, suc, ◌+◌, ◌*◌, ◌<◌, ◌≤◌, ◌%◌}
+use Prim.Native.Nat.{ℕ, zero, suc, ◌+◌, ◌-◌, ◌*◌, ◌<◌, ◌≤◌, ◌%◌}
 use native.Mathlib.Omega.{arith}
-use borrow.Author.Tests.{lt-ltb, le-ltb, eq-eqb}
+use borrow.Author.Tests.{lt-ltb, eq-eqb}
 use lib.Dec.{ltb, eqb}
-use lib.ListN.{length, get_or, set, take, drop, length-append, length-drop, length-map, length-set, get_or-map}
+use lib.ListN.{length, get_or, set, drop, length-append, length-drop, length-map, length-set, get_or-map}
 use lib.Seq.{sets, map-set_same}
 use Rattle.model.specs.Basics.{◌&◌}
 use Rattle.model.specs.Table.{Table}
@@ -17,12 +17,12 @@ use Rattle.model.proofs.Basics.Tests.{both}
 use Rattle.sides.proofs.Lists.{map_set}
 use Rattle.format.specs.Lines.{Input, between, when, with_table, on_n, on_v}
 use Rattle.reading.specs.declared.Places.{Places}
-use Rattle.reading.specs.Fields.{names_side}
-use Rattle.reading.specs.Lists.{Lists, lists, laid, places_of, Holds, AfterIs}
-use Rattle.reading.proofs.TestLaws.{three_fail, last_fails, inside, passes, fails}
+use Rattle.std.specs.declared.option.Option.TheVariants.{Some, None}
+use Rattle.reading.specs.Lists.{Lists, lists, laid, places_of, Holds, AfterIs, adds, AddIs}
+use Rattle.reading.proofs.TestLaws.{first_fails, second_fails, inside, below, passes, fails}
 use Rattle.reading.proofs.LaidLaws.{laid_more}
-use Rattle.reading.proofs.NamedLaws.{Names}
-use Rattle.reading.proofs.AnswerLaws.{is_fault, is_next, not_taken, taken_to, places, same_places, same_lists, others_of, size_of}
+use Rattle.reading.proofs.NamedLaws.{Names, not_added, added}
+use Rattle.reading.proofs.AnswerLaws.{is_fault, is_next, places, same_places, same_lists}
 
 -- A SIDE'S TABLE WITH WORDS MORE
 -- what holds of every count holds with one of them put anew
@@ -81,31 +81,45 @@ more_nodes i s vs = let t = get_or i.loads.tables s no_table in record { nodes =
 abbrev more_pool : Input → ℕ → List ℕ → Table
 more_pool i s vs = let t = get_or i.loads.tables s no_table in record { nodes = t.nodes; pool = t.pool ++ vs }
 
+-- a line's test, by the number of its side and how many words the side has
+abbrev test : (high size wide rank : ℕ) (ns : List ℕ) (k count : ℕ) → Bool
+test high size wide rank ns k count = between 1 high rank & (eqb (length ns) size & (between 1 (length all_sides) k & ltb count wide))
+
+module _ (high size wide rank : ℕ) (ns counts : List ℕ) where
+  -- it fails where the code's does
+  test_fails : between 1 high rank & adds size wide counts ns ≡ false → (s n : ℕ) → get_or ns 0 0 ≡ suc s → get_or counts s 0 ≡ n → test high size wide rank ns (suc s) n ≡ false
+  unfolding adds
+  test_fails e s n q m =
+      let place : get_or ns 0 0 - 1 ≡ s = omega arith in
+      ap₂ (test high size wide rank ns) (sym q) (sym (ap (λ (k : ℕ). get_or counts k 0) place ∙ m)) ∙ e
+
+  test_passes : (s n : ℕ) → Names size wide counts ns s → get_or counts s 0 ≡ n → between 1 high rank ≡ true → test high size wide rank ns (suc s) n ≡ true
+  test_passes s n f m r = both _ _ r (both _ _ (eq-eqb (length ns) size f.sized) (both _ _ (inside 1 (length all_sides) (suc s) (omega arith) (omega (arith, f.place))) (lt-ltb n wide (omega (arith, f.room)))))
+
 module _ (i : Input) (ns : List ℕ) where
-  pub n_none : names_side 2 6 i.rank ns ≡ false → on_n i ns ≡ none
-  unfolding on_n names_side
-  n_none e = fails _ _ (three_fail _ _ _ _ e)
-
-  pub v_none : names_side 3 2 i.rank ns ≡ false → on_v i ns ≡ none
-  unfolding on_v names_side
-  v_none e = fails _ _ (three_fail _ _ _ _ e)
-
-  module _ (s : ℕ) (k : get_or ns 0 0 ≡ suc s) where
-    n_full : 1285 ≤ length (get_or i.loads.tables s no_table).nodes → on_n i ns ≡ none
-    unfolding on_n
-    n_full m = ap (node_line i ns) k ∙ fails _ _ (last_fails _ _ _ _ (le-ltb _ 1285 m))
-
-    v_full : 1025 ≤ length (get_or i.loads.tables s no_table).pool → on_v i ns ≡ none
-    unfolding on_v
-    v_full m = ap (pool_line i ns) k ∙ fails _ _ (last_fails _ _ _ _ (le-ltb _ 1025 m))
-
-  n_some : (s : ℕ) → Names 2 6 i.rank ns s → length (get_or i.loads.tables s no_table).nodes < 1285 → on_n i ns ≡ some (put_table 2 i s (more_nodes i s (drop 1 ns)))
+  pub n_none : between 1 2 i.rank & adds 6 1285 (places_of i).nodes ns ≡ false → on_n i ns ≡ none
   unfolding on_n
-  n_some s f m = ap (node_line i ns) f.number ∙ passes _ _ (both _ _ f.ranked (both _ _ (eq-eqb (length ns) 6 f.sized) (both _ _ (inside 1 (length all_sides) (suc s) (omega arith) (omega (arith, f.place))) (lt-ltb _ 1285 m))))
+  n_none e = go (get_or ns 0 0) refl
+    where
+      go : (k : ℕ) → get_or ns 0 0 ≡ k → node_line i ns k ≡ none
+      go zero q = fails _ _ (second_fails _ _ (second_fails _ _ (first_fails _ _ (below 1 (length all_sides) 0 (omega arith)))))
+      go (suc s) q = fails _ _ (test_fails 2 6 1285 i.rank ns (places_of i).nodes e s _ q (count (λ (x : Table). x.nodes) i.loads.tables s refl))
 
-  v_some : (s : ℕ) → Names 3 2 i.rank ns s → length (get_or i.loads.tables s no_table).pool < 1025 → on_v i ns ≡ some (put_table 3 i s (more_pool i s (drop 1 ns)))
+  pub v_none : between 1 3 i.rank & adds 2 1025 (places_of i).pools ns ≡ false → on_v i ns ≡ none
   unfolding on_v
-  v_some s f m = ap (pool_line i ns) f.number ∙ passes _ _ (both _ _ f.ranked (both _ _ (eq-eqb (length ns) 2 f.sized) (both _ _ (inside 1 (length all_sides) (suc s) (omega arith) (omega (arith, f.place))) (lt-ltb _ 1025 m))))
+  v_none e = go (get_or ns 0 0) refl
+    where
+      go : (k : ℕ) → get_or ns 0 0 ≡ k → pool_line i ns k ≡ none
+      go zero q = fails _ _ (second_fails _ _ (second_fails _ _ (first_fails _ _ (below 1 (length all_sides) 0 (omega arith)))))
+      go (suc s) q = fails _ _ (test_fails 3 2 1025 i.rank ns (places_of i).pools e s _ q (count (λ (x : Table). x.pool) i.loads.tables s refl))
+
+  n_some : (s : ℕ) → between 1 2 i.rank ≡ true → Names 6 1285 (places_of i).nodes ns s → on_n i ns ≡ some (put_table 2 i s (more_nodes i s (drop 1 ns)))
+  unfolding on_n
+  n_some s r f = ap (node_line i ns) f.number ∙ passes _ _ (test_passes 2 6 1285 i.rank ns (places_of i).nodes s _ f (count (λ (x : Table). x.nodes) i.loads.tables s refl) r)
+
+  v_some : (s : ℕ) → between 1 3 i.rank ≡ true → Names 2 1025 (places_of i).pools ns s → on_v i ns ≡ some (put_table 3 i s (more_pool i s (drop 1 ns)))
+  unfolding on_v
+  v_some s r f = ap (pool_line i ns) f.number ∙ passes _ _ (test_passes 3 2 1025 i.rank ns (places_of i).pools s _ f (count (λ (x : Table). x.pool) i.loads.tables s refl) r)
 
 -- WHAT THE LISTS HOLD THEN
 module _ (i : Input) (old l : Lists) (h : Holds i old l) (s : ℕ) (vs : List ℕ) (place : s < length all_sides) where
@@ -155,63 +169,55 @@ module _ (i : Input) (old l : Lists) (h : Holds i old l) (s : ℕ) (vs : List �
             (ap (λ (x : Lists). x.steps) h.lists);
       }
 
--- places with a node more, or a word of the pool, for the side of place s
-abbrev nodes_more : Places → (s : ℕ) → Places
-nodes_more p s = places 2 p.wrapper (set p.nodes s (get_or p.nodes s 0 + 5)) p.pools p.steps p.words
-
-abbrev pool_more : Places → (s : ℕ) → Places
-pool_more p s = places 3 p.wrapper p.nodes (set p.pools s (get_or p.pools s 0 + 1)) p.steps p.words
-
 -- AN N LINE AND A V LINE
-module _ (i : Input) (p : Places) (old l : Lists) (at : p ≡ places_of i) (h : Holds i old l) (len : ℕ) (ws : List ℕ) (full : length ws ≡ 21) where
-  pub n_nowhere : names_side 2 6 p.rank (take len ws) ≡ false → AfterIs i (on_n i (take len ws)) (not_taken p) old l
-  n_nowhere e = is_fault i _ p old l at h (n_none i (take len ws) (ap (λ (x : Places). names_side 2 6 x.rank (take len ws)) (sym at) ∙ e))
+abbrev with_nodes : Places → List ℕ → Places
+with_nodes p ns = places 2 p.wrapper ns p.pools p.steps p.words
 
-  pub v_nowhere : names_side 3 2 p.rank (take len ws) ≡ false → AfterIs i (on_v i (take len ws)) (not_taken p) old l
-  v_nowhere e = is_fault i _ p old l at h (v_none i (take len ws) (ap (λ (x : Places). names_side 3 2 x.rank (take len ws)) (sym at) ∙ e))
+abbrev with_pools : Places → List ℕ → Places
+with_pools p ns = places 3 p.wrapper p.nodes ns p.steps p.words
 
-  module _ (s : ℕ) (f : Names 2 6 p.rank (take len ws) s) where
-    n_count : get_or p.nodes s 0 ≡ length (get_or i.loads.tables s no_table).nodes
-    n_count = ap (λ (x : Places). get_or x.nodes s 0) at ∙ count (λ (x : Table). x.nodes) i.loads.tables s refl
+module _ (i : Input) (p : Places) (old l : Lists) (at : p ≡ places_of i) (h : Holds i old l) (ns : List ℕ) where
+  -- behind a line of another rank
+  pub n_late : between 1 2 p.rank ≡ false → AfterIs i (on_n i ns) None old l
+  n_late e = is_fault i _ p old l at h (n_none i ns (first_fails _ _ (ap (λ (x : Places). between 1 2 x.rank) (sym at) ∙ e)))
 
-    pub n_no_room : 1285 ≤ get_or p.nodes s 0 → AfterIs i (on_n i (take len ws)) (not_taken p) old l
-    n_no_room m = is_fault i _ p old l at h (n_full i (take len ws) s f.number (omega (arith, n_count)))
+  pub v_late : between 1 3 p.rank ≡ false → AfterIs i (on_v i ns) None old l
+  v_late e = is_fault i _ p old l at h (v_none i ns (first_fails _ _ (ap (λ (x : Places). between 1 3 x.rank) (sym at) ∙ e)))
 
-    pub n_taken : get_or p.nodes s 0 < 1285 → (new : List ℕ) → new ≡ sets l.nodes (1285 * s + get_or p.nodes s 0) (take 5 (drop 1 ws)) →
-        AfterIs i (on_n i (take len ws)) (taken_to (nodes_more p s)) old (lists new l.pools l.steps)
-    n_taken m new e =
-        let vs = drop 1 (take len ws) in
-        let ts = i.loads.tables in
-        let t = more_nodes i s vs in
-        let size : length vs ≡ 5 = omega (arith, f.sized, length-drop 1 (take len ws)) in
-        let room : get_or (places_of i).nodes s 0 < 1285 = subst (λ (x : Places). get_or x.nodes s 0 < 1285) at m in
-        let put : new ≡ sets l.nodes (1285 * s + get_or (places_of i).nodes s 0) vs =
-        e ∙ ap (λ (x : Places). sets l.nodes (1285 * s + get_or x.nodes s 0) (take 5 (drop 1 ws))) at
-        ∙ ap (sets l.nodes (1285 * s + get_or (places_of i).nodes s 0)) (others_of len 5 ws (omega (arith, f.sized, size_of len ws full))) in
-        is_next i _ _ old _ (put_table 2 i s t)
-        (n_some i (take len ws) s (subst (λ (x : Places). Names 2 6 x.rank (take len ws) s) at f) (omega (arith, n_count, m)))
-        (ap (λ (x : Places). nodes_more x s) at ∙ same_places _ _ _ _ _ _ _ _ _ _ (counts (λ (x : Table). x.nodes) ts s refl t vs refl 5 size) (ap (map length) (sym (map-set_same (λ (x : Table). x.pool) ts s t no_table refl))) refl refl)
-        (subst (λ (x : List ℕ). Holds (put_table 2 i s t) old (lists x l.pools l.steps)) (sym put) (nodes_held i old l h s vs f.place size room))
+  pub n_fault : (new : List ℕ) → AddIs 6 1285 p.nodes ns l.nodes new None → AfterIs i (on_n i ns) None old (lists new l.pools l.steps)
+  n_fault new a =
+      let f = not_added _ _ _ _ _ _ a in
+      let e : adds 6 1285 (places_of i).nodes ns ≡ false = ap (λ (x : Places). adds 6 1285 x.nodes ns) (sym at) ∙ f.0 in
+      subst (λ (x : List ℕ). AfterIs i (on_n i ns) None old (lists x l.pools l.steps)) (sym f.1) (is_fault i _ p old l at h (n_none i ns (second_fails _ _ e)))
 
-  module _ (s : ℕ) (f : Names 3 2 p.rank (take len ws) s) where
-    v_count : get_or p.pools s 0 ≡ length (get_or i.loads.tables s no_table).pool
-    v_count = ap (λ (x : Places). get_or x.pools s 0) at ∙ count (λ (x : Table). x.pool) i.loads.tables s refl
+  pub v_fault : (new : List ℕ) → AddIs 2 1025 p.pools ns l.pools new None → AfterIs i (on_v i ns) None old (lists l.nodes new l.steps)
+  v_fault new a =
+      let f = not_added _ _ _ _ _ _ a in
+      let e : adds 2 1025 (places_of i).pools ns ≡ false = ap (λ (x : Places). adds 2 1025 x.pools ns) (sym at) ∙ f.0 in
+      subst (λ (x : List ℕ). AfterIs i (on_v i ns) None old (lists l.nodes x l.steps)) (sym f.1) (is_fault i _ p old l at h (v_none i ns (second_fails _ _ e)))
 
-    pub v_no_room : 1025 ≤ get_or p.pools s 0 → AfterIs i (on_v i (take len ws)) (not_taken p) old l
-    v_no_room m = is_fault i _ p old l at h (v_full i (take len ws) s f.number (omega (arith, v_count)))
+  pub n_taken : (new counts : List ℕ) → between 1 2 p.rank ≡ true → AddIs 6 1285 p.nodes ns l.nodes new (Some counts) → AfterIs i (on_n i ns) (Some (with_nodes p counts)) old (lists new l.pools l.steps)
+  n_taken new counts_then r a =
+      let b = subst (λ (x : Places). AddIs 6 1285 x.nodes ns l.nodes new (Some counts_then)) at a in
+      let f = added _ _ _ _ _ _ _ b in
+      let s = f.0 in
+      let ts = i.loads.tables in
+      let vs = drop 1 ns in
+      let t = more_nodes i s vs in
+      let size : length vs ≡ 5 = omega (arith, f.1.sized, length-drop 1 ns) in
+      is_next i _ _ old _ (put_table 2 i s t) (n_some i ns s (ap (λ (x : Places). between 1 2 x.rank) (sym at) ∙ r) f.1)
+      (ap (λ (x : Places). with_nodes x counts_then) at ∙ same_places _ _ _ _ _ _ _ _ _ _ (f.2 ∙ counts (λ (x : Table). x.nodes) ts s refl t vs refl 5 size) (ap (map length) (sym (map-set_same (λ (x : Table). x.pool) ts s t no_table refl))) refl refl)
+      (subst (λ (x : List ℕ). Holds (put_table 2 i s t) old (lists x l.pools l.steps)) (sym f.3) (nodes_held i old l h s vs f.1.place size f.1.room))
 
-    pub v_taken : get_or p.pools s 0 < 1025 → (new : List ℕ) → new ≡ sets l.pools (1025 * s + get_or p.pools s 0) (take 1 (drop 1 ws)) →
-        AfterIs i (on_v i (take len ws)) (taken_to (pool_more p s)) old (lists l.nodes new l.steps)
-    v_taken m new e =
-        let vs = drop 1 (take len ws) in
-        let ts = i.loads.tables in
-        let t = more_pool i s vs in
-        let size : length vs ≡ 1 = omega (arith, f.sized, length-drop 1 (take len ws)) in
-        let room : get_or (places_of i).pools s 0 < 1025 = subst (λ (x : Places). get_or x.pools s 0 < 1025) at m in
-        let put : new ≡ sets l.pools (1025 * s + get_or (places_of i).pools s 0) vs =
-        e ∙ ap (λ (x : Places). sets l.pools (1025 * s + get_or x.pools s 0) (take 1 (drop 1 ws))) at
-        ∙ ap (sets l.pools (1025 * s + get_or (places_of i).pools s 0)) (others_of len 1 ws (omega (arith, f.sized, size_of len ws full))) in
-        is_next i _ _ old _ (put_table 3 i s t)
-        (v_some i (take len ws) s (subst (λ (x : Places). Names 3 2 x.rank (take len ws) s) at f) (omega (arith, v_count, m)))
-        (ap (λ (x : Places). pool_more x s) at ∙ same_places _ _ _ _ _ _ _ _ _ _ (ap (map length) (sym (map-set_same (λ (x : Table). x.nodes) ts s t no_table refl))) (counts (λ (x : Table). x.pool) ts s refl t vs refl 1 size) refl refl)
-        (subst (λ (x : List ℕ). Holds (put_table 3 i s t) old (lists l.nodes x l.steps)) (sym put) (pool_held i old l h s vs f.place size room))
+  pub v_taken : (new counts : List ℕ) → between 1 3 p.rank ≡ true → AddIs 2 1025 p.pools ns l.pools new (Some counts) → AfterIs i (on_v i ns) (Some (with_pools p counts)) old (lists l.nodes new l.steps)
+  v_taken new counts_then r a =
+      let b = subst (λ (x : Places). AddIs 2 1025 x.pools ns l.pools new (Some counts_then)) at a in
+      let f = added _ _ _ _ _ _ _ b in
+      let s = f.0 in
+      let ts = i.loads.tables in
+      let vs = drop 1 ns in
+      let t = more_pool i s vs in
+      let size : length vs ≡ 1 = omega (arith, f.1.sized, length-drop 1 ns) in
+      is_next i _ _ old _ (put_table 3 i s t) (v_some i ns s (ap (λ (x : Places). between 1 3 x.rank) (sym at) ∙ r) f.1)
+      (ap (λ (x : Places). with_pools x counts_then) at ∙ same_places _ _ _ _ _ _ _ _ _ _ (ap (map length) (sym (map-set_same (λ (x : Table). x.nodes) ts s t no_table refl))) (f.2 ∙ counts (λ (x : Table). x.pool) ts s refl t vs refl 1 size) refl refl)
+      (subst (λ (x : List ℕ). Holds (put_table 3 i s t) old (lists l.nodes x l.steps)) (sym f.3) (pool_held i old l h s vs f.1.place size f.1.room))

@@ -6,21 +6,22 @@ use mathlib.Core.Option.{none}
 use Prim.Native.Nat.{ℕ, ◌+◌, ◌-◌, ◌<◌, ◌≤◌}
 use native.Mathlib.Nat.{zero-add}
 use native.Mathlib.Omega.{arith}
-use borrow.Author.Tests.{leb-true, ltb-true}
+use borrow.Author.Tests.{leb-true, ltb-true, lt-ltb, le-ltb}
 use lib.Dec.{ltb}
 use lib.ListN.{length, get_or, take, drop, set, length-append, length-drop}
 use lib.Seq.{sets, take-take, length-take-le}
 use Rattle.model.specs.Basics.{◌&◌}
 use Rattle.model.specs.Step.{Step}
-use Rattle.model.proofs.Basics.Tests.{fst, snd}
+use Rattle.model.proofs.Basics.Tests.{fst, snd, both}
 use Rattle.sides.proofs.Sets.{sets_append}
 use Rattle.format.specs.Words.{step_words, all_step_words}
 use Rattle.format.specs.Lines.{Input, between, step_of, on_s}
 use Rattle.reading.specs.declared.Places.{Places}
 use Rattle.reading.specs.Lists.{Lists, lists, places_of, Holds, AfterIs}
 use Rattle.delimiters.proofs.SliceLaws.{take_of_drop}
+use Rattle.std.specs.declared.option.Option.TheVariants.{Some, None}
 use Rattle.reading.proofs.TestLaws.{first_fails, second_fails, inside, below, above, passes, fails}
-use Rattle.reading.proofs.AnswerLaws.{is_fault, is_next, not_taken, taken_to, places, same_places, same_lists, size_of}
+use Rattle.reading.proofs.AnswerLaws.{is_fault, is_next, places, same_places, same_lists, size_of}
 
 -- the words of a step more
 all_words : (xs : List Step) (x : Step) → all_step_words (xs ++ (x ∷ [])) ≡ all_step_words xs ++ step_words x
@@ -61,19 +62,21 @@ run_of a c x y l e =
 abbrev fits_test : (len rank steps : ℕ) → Bool
 fits_test len rank steps = between 1 4 rank & (between 4 21 len & ltb steps 1024)
 
-module _ (len rank steps : ℕ) (few : len ≤ 21) where
-  pub fits_no_rank : rank ≡ 0 → false ≡ fits_test len rank steps
-  fits_no_rank e = sym (first_fails _ _ (below 1 4 rank (omega arith)))
+module _ (len rank steps : ℕ) where
+  pub fits_no_rank : rank ≡ 0 → fits_test len rank steps ≡ false
+  fits_no_rank e = first_fails _ _ (below 1 4 rank (omega arith))
 
-  pub fits_rank : 4 < rank → false ≡ fits_test len rank steps
-  fits_rank e = sym (first_fails _ _ (above 1 4 rank e))
+  pub fits_rank : 4 < rank → fits_test len rank steps ≡ false
+  fits_rank e = first_fails _ _ (above 1 4 rank e)
 
-  pub fits_short : len < 4 → false ≡ fits_test len rank steps
-  fits_short e = sym (second_fails _ _ (first_fails _ _ (below 4 21 len e)))
+  pub fits_short : len < 4 → fits_test len rank steps ≡ false
+  fits_short e = second_fails _ _ (first_fails _ _ (below 4 21 len e))
 
-  pub fits_last : (rank ≡ 0 → ⊥) → rank ≤ 4 → 4 ≤ len → ltb steps 1024 ≡ fits_test len rank steps
-  unfolding ◌&◌
-  fits_last a b c = rw (inside 1 4 rank (omega arith) b, inside 4 21 len c few) refl
+  pub fits_full : 1024 ≤ steps → fits_test len rank steps ≡ false
+  fits_full e = second_fails _ _ (second_fails _ _ (le-ltb steps 1024 e))
+
+  pub fits_all : (rank ≡ 0 → ⊥) → rank ≤ 4 → 4 ≤ len → len ≤ 21 → steps < 1024 → fits_test len rank steps ≡ true
+  fits_all a b c d e = both _ _ (inside 1 4 rank (omega arith) b) (both _ _ (inside 4 21 len c d) (lt-ltb steps 1024 e))
 
 -- what it tells where it passes
 pub fits_facts : (len rank steps : ℕ) → fits_test len rank steps ≡ true → (4 ≤ len) × (steps < 1024)
@@ -94,13 +97,13 @@ module _ (i : Input) (p : Places) (old l : Lists) (at : p ≡ places_of i) (h : 
       let n : length (take len ws) ≡ len = omega (arith, size_of len ws full) in
       ap (λ (k : ℕ). fits_test k i.rank (length i.steps)) n ∙ ap (λ (x : Places). fits_test len x.rank x.steps) (sym at)
 
-  pub s_fault : fits_test len p.rank p.steps ≡ false → AfterIs i (on_s i (take len ws)) (not_taken p) old l
+  pub s_fault : fits_test len p.rank p.steps ≡ false → AfterIs i (on_s i (take len ws)) None old l
   s_fault e = is_fault i _ p old l at h (s_none i (take len ws) (same_test ∙ e))
 
   -- the first four numbers, the count of the value words, and these, stored one behind the other
   pub s_taken : (three : List ℕ) → fits_test len p.rank p.steps ≡ true →
       three ≡ sets (set (sets l.steps p.words (take 4 ws)) (p.words + 4) (len - 4)) (p.words + 5) (take (len - 4) (drop 4 ws)) →
-      AfterIs i (on_s i (take len ws)) (taken_to (step_more p len)) old (lists l.nodes l.pools three)
+      AfterIs i (on_s i (take len ws)) (Some (step_more p len)) old (lists l.nodes l.pools three)
   unfolding on_s
   s_taken three e put =
       let enough = (fits_facts len p.rank p.steps e).0 in

@@ -1,18 +1,13 @@
--- A line's numbers in a lent list, one after the other.
+-- Words stored in a list.
 use mathlib.Core.Path.{◌≡◌, sym, ap, ◌∙◌}
-use mathlib.Core.List.{List}
-use Prim.Native.Nat.{ℕ, ◌+◌, ◌-◌, ◌<◌, ◌≤◌}
-use native.Mathlib.Omega.{arith}
-use lib.ListN.{length, get_or, take, drop, set, length-drop}
-use lib.Seq.{sets, get_or-drop}
-use Rattle.sides.proofs.Sets.{sets_turn}
+use mathlib.Core.List.{List, append_assoc}
+use Prim.Native.Nat.{ℕ, ◌+◌, ◌≤◌}
+use lib.ListN.{length, take, drop}
+use lib.Seq.{sets, sets-eq, drop-drop}
+use borrow.Rule.Slice.PartMut.{put_mid}
 
-pub stored_more : (at from j k : ℕ) (old list ws : List ℕ) → from ≤ k → k < length ws → j ≡ at + (k - from) → list ≡ sets old at (take (k - from) (drop from ws)) →
-    set list j (get_or ws k 0) ≡ sets old at (take (k + 1 - from) (drop from ws))
-stored_more at from j k old list ws h m a e =
-    let n = k - from in
-    let q : k + 1 - from ≡ n + 1 = omega arith in
-    let s : from + n ≡ k = omega arith in
-    let t : get_or (drop from ws) n 0 ≡ get_or ws k 0 = get_or-drop from ws n 0 ∙ ap (λ (x : ℕ). get_or ws x 0) s in
-    ap (λ (x : ℕ). set list x (get_or ws k 0)) a ∙ ap (set list (at + n)) (sym t)
-    ∙ sets_turn old (drop from ws) list at n 0 (omega (arith, length-drop from ws)) e ∙ ap (λ (x : ℕ). sets old at (take x (drop from ws))) (sym q)
+-- a run of words in place of a part that is as long
+pub copied : (old ws part : List ℕ) (at k : ℕ) → at + length ws ≤ length old → k ≡ length ws → part ≡ ws → put_mid at k old part ≡ sets old at ws
+copied old ws part at k h m e =
+    let behind : drop k (drop at old) ≡ drop (at + length ws) old = ap (λ (n : ℕ). drop n (drop at old)) m ∙ drop-drop (length ws) at old in
+    rw (e, behind) (sym (sets-eq ws old at h ∙ append_assoc (take at old) ws (drop (at + length ws) old)))

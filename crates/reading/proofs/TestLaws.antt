@@ -39,13 +39,3 @@ pub same_either : {A : Type 0} (t : Bool) (a : A) → choose t a a ≡ a
 unfolding choose
 same_either true a = refl
 same_either false a = refl
-
--- three tests before a fourth
-pub three_fail : (a b c d : Bool) → a & (b & c) ≡ false → a & (b & (c & d)) ≡ false
-unfolding ◌&◌
-three_fail true true c d e = first_fails c d e
-three_fail true false c d e = refl
-three_fail false b c d e = refl
-
-pub last_fails : (a b c d : Bool) → d ≡ false → a & (b & (c & d)) ≡ false
-last_fails a b c d e = second_fails a _ (second_fails b _ (second_fails c d e))

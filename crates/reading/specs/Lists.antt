@@ -1,16 +1,18 @@
 -- What the lent lists hold, and how far they are filled.
-use Rattle.std.specs.Prelude.{◌≡◌, Bool, true, false, List, [], ◌∷◌, map, ℕ, ◌+◌, ◌*◌, ◌≤◌, ◌%◌, length, get_or}
+use Rattle.std.specs.Prelude.{◌≡◌, Bool, List, [], ◌∷◌, map, ℕ, ◌+◌, ◌-◌, ◌*◌, ◌≤◌, ◌%◌, ltb, eqb, length, get_or, set, drop}
+use Rattle.std.specs.declared.option.Option as code
 use Rattle.std.proofs.Math.Option.{Option, none, some}
 use Rattle.std.proofs.lemmas.List.Edits.{sets}
+use Rattle.model.specs.Basics.{◌&◌, choose}
 use Rattle.model.specs.Wrapper.{all_sides}
 use Rattle.format.specs.Words.{all_step_words}
 use Rattle.format.specs.Lines as format
-use Rattle.format.specs.Lines.{Input, fault, whole, reading, read_so_far}
+use Rattle.format.specs.Lines.{Input, when, between, fault, whole, reading, read_so_far}
 use Rattle.reading.specs.declared.Places.{Places}
-use Rattle.reading.specs.declared.Reading.{Reading}
-use Rattle.reading.specs.declared.Verdict.{Verdict}
-use Rattle.reading.specs.declared.Verdict.TheVariants.{Fault, Whole}
-use Rattle.reading.specs.declared.lines.After.{After}
+use Rattle.std.specs.declared.result.Result.{Result}
+use Rattle.std.specs.declared.result.Result.TheVariants.{Ok, Err}
+use Rattle.reading.specs.declared.Fault.{Fault}
+use Rattle.reading.specs.Fields.{option_of}
 
 -- the lent lists: the nodes of all sides in one, their pools in one, and the steps
 pub record Lists : Type 0 where
@@ -70,28 +72,42 @@ abbrev pub kept : Input → (o : Option Input) → Input
 kept i none = i
 kept i (some j) = j
 
--- whether a line is taken
-abbrev pub is_taken : Option Input → Bool
-is_taken none = false
-is_taken (some i) = true
+-- how far the lists are filled with what a line gives, if it gives any
+abbrev pub places_after : Option Input → Option Places
+places_after none = none
+places_after (some i) = some (places_of i)
 
 -- r is the answer of a line that gives o behind lines that give i, and the lent lists hold what is read then
-pub record AfterIs (i : Input) (o : Option Input) (r : After) (old new : Lists) : Type 0 where
-  pub taken : r.taken ≡ is_taken o
-  pub places : r.places ≡ places_of (kept i o)
+pub record AfterIs (i : Input) (o : Option Input) (r : code.Option Places) (old new : Lists) : Type 0 where
+  pub places : option_of r ≡ places_after o
   pub holds : Holds (kept i o) old new
 
 -- r is the answer of a line that gives f i behind lines that give i: the lent lists were l before the line, and are m after it
-abbrev pub LineIs : Places → (f : Input → Option Input) → (l m : Lists) → After → Type 0
+abbrev pub LineIs : Places → (f : Input → Option Input) → (l m : Lists) → code.Option Places → Type 0
 LineIs p f l m r = (i : Input) (old : Lists) → p ≡ places_of i → Holds i old l → AfterIs i (f i) r old m
 
--- what a verdict says is read: the number of the line at fault, or all of i, which the lines before the first fault give
-abbrev pub reading_of : Verdict → (i : Input) → format.Reading
-reading_of (Fault n) i = fault n
-reading_of Whole i = whole i
+-- whether a line of `size` numbers names a side, whose part of `wide` words is not full
+unfoldable pub adds : (size wide : ℕ) (counts ns : List ℕ) → Bool
+adds size wide counts ns = eqb (length ns) size & (between 1 (length all_sides) (get_or ns 0 0) & ltb (get_or counts (get_or ns 0 0 - 1) 0) wide)
+
+-- r is the answer of a line that names a side: the counts with its other numbers, which stand behind the side's words in the
+-- list then; none, and the list as it was, where the line does not add them
+pub record AddIs (size wide : ℕ) (counts ns old new : List ℕ) (r : code.Option (List ℕ)) : Type 0 where
+  pub counts_after : option_of r ≡ when (adds size wide counts ns) (set counts (get_or ns 0 0 - 1) (get_or counts (get_or ns 0 0 - 1) 0 + (size - 1)))
+  pub list : new ≡ choose (adds size wide counts ns) (sets old (wide * (get_or ns 0 0 - 1) + get_or counts (get_or ns 0 0 - 1) 0) (drop 1 ns)) old
+
+-- what an answer says is read: the number of the line at fault, or all of i, which the lines before the first fault give
+abbrev pub reading_of : Result Places Fault → (i : Input) → format.Reading
+reading_of (Ok p) i = whole i
+reading_of (Err f) i = fault f.line
+
+-- how far the lent lists are filled then
+abbrev pub places_in : Result Places Fault → Places
+places_in (Ok p) = p
+places_in (Err f) = f.places
 
 -- r is the answer of an input, and the lent lists hold what the lines before the first fault give
-pub record ReadIs (input : List ℕ) (r : Reading) (old new : Lists) : Type 0 where
-  pub verdict : reading_of r.verdict (read_so_far input) ≡ reading input
-  pub places : r.places ≡ places_of (read_so_far input)
+pub record ReadIs (input : List ℕ) (r : Result Places Fault) (old new : Lists) : Type 0 where
+  pub verdict : reading_of r (read_so_far input) ≡ reading input
+  pub places : places_in r ≡ places_of (read_so_far input)
   pub holds : Holds (read_so_far input) old new

@@ -4,9 +4,9 @@
 mod fields;
 mod lines;
 
-ghost use Rattle.std.specs.Prelude.{◌≡◌, [], ◌∷◌};
-ghost use Rattle.format.specs.Lines.{Input, no_input, read_from};
-ghost use Rattle.reading.specs.Lists.{lists, places_of, reading_of, ReadIs};
+ghost use Rattle.std.specs.Prelude.{◌≡◌};
+ghost use Rattle.format.specs.Lines.{no_input};
+ghost use Rattle.reading.specs.Lists.{lists, places_of, ReadIs};
 
 use fields::line_at;
 use lines::on_line;
@@ -16,6 +16,7 @@ use sides::Sides;
 // words of the list of steps.
 #[derive(Clone, Copy)]
 pub struct Places {
+    // Stays a number: by the contract of `read` (places_of) it is the rank of the definitions' Input, which is one.
     pub rank: usize,
     pub wrapper: u32,
     pub nodes: [usize; Sides::COUNT],
@@ -24,17 +25,11 @@ pub struct Places {
     pub words: usize,
 }
 
-// Whether all lines are read, or the number of the first line at fault.
+// The number of the first line at fault, from 1 on, or 0 where the input is too long; and how far the lent lists are filled with
+// the lines before it.
 #[derive(Clone, Copy)]
-pub enum Verdict {
-    Fault(usize),
-    Whole,
-}
-
-// What is read, and how far the lent lists are filled; where a line is at fault, with the lines before it.
-#[derive(Clone, Copy)]
-pub struct Reading {
-    pub verdict: Verdict,
+pub struct Fault {
+    pub line: usize,
     pub places: Places,
 }
 
@@ -67,44 +62,31 @@ impl Places {
     }
 }
 
-// The verdict on an input that ends behind line n - 1, of some rank.
-fn at_end(rank: usize, n: usize) -> Verdict
-    ensures { (i : Input) → rank ≡ i.rank → reading_of result i ≡ read_from n i ([] ∷ []) }
-{
-    if rank == 0 {
-        return Verdict::Fault(n);
-    }
-    Verdict::Whole
-}
-
-// Reads a whole input into the lent lists. Side n's part of the nodes begins at 1285 (n - 1), of the pools at 1025 (n - 1).
+// Reads a whole input into the lent lists, and says how far they are filled, or which line is at fault. Side n's part of the nodes
+// begins at 1285 (n - 1), of the pools at 1025 (n - 1).
 pub fn read(
     input: &[u8],
     nodes: &mut [u32; Places::NODES],
     pools: &mut [u32; Places::POOLS],
     steps: &mut [u32; Places::STEPS],
-) -> Reading
+) -> Result<Places, Fault>
     ensures { ReadIs input.now result (lists nodes.old pools.old steps.old) (lists nodes.new pools.new steps.new) }
 {
-    let len = input.len();
     let mut places = Places::none();
-    if 65536 < len {
-        let verdict = Verdict::Fault(0);
-        return Reading { verdict, places };
+    if 65536 < input.len() {
+        return Err(Fault { line: 0, places });
     }
-    let mut n: usize = 1;
+    let mut line: usize = 1;
     let mut at: usize = 0;
-    while at < len {
-        let l = line_at(input, at);
-        let a = on_line(l, places, nodes, pools, steps);
-        places = a.places;
-        if !a.taken {
-            let verdict = Verdict::Fault(n);
-            return Reading { verdict, places };
-        }
-        n += 1;
+    while at < input.len() {
+        let fault = Fault { line, places };
+        let l = line_at(input, at).ok_or(fault)?;
+        places = on_line(&l, places, nodes, pools, steps).ok_or(fault)?;
+        line += 1;
         at = l.end + 1;
     }
-    let verdict = at_end(places.rank, n);
-    Reading { verdict, places }
+    if places.rank == 0 {
+        return Err(Fault { line, places });
+    }
+    Ok(places)
 }

@@ -20,22 +20,18 @@ const WORDS: [u32; 1] = [20];
 
 // How a line begins.
 fn begin(good: bool, name: &[u8]) {
-    if good {
-        write(b"allowed tables ");
+    write(if good {
+        b"allowed tables "
     } else {
-        write(b"broken tables ");
-    }
+        b"broken tables "
+    });
     write(name);
     write(b":");
 }
 
 // Both sides send `mid` up.
 fn sends() -> State {
-    let nodes = SOUND;
-    let pool = WORDS;
-    let n = &nodes[..];
-    let p = &pool[..];
-    let a = load(2, [n, n], [p, p]);
+    let a = load(2, [&SOUND, &SOUND], [&WORDS, &WORDS]);
     a.state
 }
 
@@ -58,14 +54,10 @@ fn table_case<'n, 'p>(
 
 // Refusal 1, but for the wrapper's.
 fn sizes() {
-    let nodes: [u32; 1285] = [0; 1285];
-    let pool: [u32; 1025] = [20; 1025];
-    let sound = SOUND;
-    let words = WORDS;
-    let n = &nodes[..];
-    let p = &pool[..];
-    let t = &sound[..];
-    let w = &words[..];
+    let n = &[0u32; 1285];
+    let p = &[20u32; 1025];
+    let t = &SOUND;
+    let w = &WORDS;
     table_case(true, b"one node, 1024 words", &n[..5], &p[..1024], t, w);
     table_case(false, b"1025 words", &n[..5], p, t, w);
     table_case(false, b"no node", &n[..0], &p[..1], t, w);
@@ -75,27 +67,20 @@ fn sizes() {
 
 // A table of one node and one word.
 fn node_case(good: bool, name: &[u8], node: [u32; 5], value: u32) {
-    let pool: [u32; 1] = [value];
-    let sound = SOUND;
-    let words = WORDS;
-    table_case(good, name, &node, &pool, &sound, &words);
+    table_case(good, name, &node, &[value], &SOUND, &WORDS);
 }
 
 // Two nodes, of which the second is no child.
 fn no_child() {
     let nodes: [u32; 10] = [0; 10];
-    let sound = SOUND;
-    let words = WORDS;
-    table_case(false, b"no child", &nodes, &words, &sound, &words);
+    table_case(false, b"no child", &nodes, &WORDS, &SOUND, &WORDS);
 }
 
 // A pattern that binds a name twice.
 fn repeated_name() {
     let nodes: [u32; 10] = [5, 2, 1, 0, 1, 0, 0, 0, 0, 0];
     let pool: [u32; 3] = [4000002, 20, 20];
-    let sound = SOUND;
-    let words = WORDS;
-    table_case(false, b"repeated name", &nodes, &pool, &sound, &words);
+    table_case(false, b"repeated name", &nodes, &pool, &SOUND, &WORDS);
 }
 
 // Refusals 2 to 5.
@@ -113,43 +98,26 @@ fn nodes() {
     repeated_name();
 }
 
-// The words of at most 18 nodes.
-#[derive(Clone, Copy)]
-struct ChainWords {
-    nodes: [u32; 90],
-}
-
-// n nodes of a kind, box or new, each about the next, and nil in the last.
-fn chain(kind: u32, n: usize) -> ChainWords
+// The words of at most 18 nodes: n of a kind, box or new, each about the next, and nil in the others.
+fn chain(kind: u32, n: usize) -> [u32; 90]
     requires { n ≤ 17 }
 {
-    let mut nodes: [u32; 90] = [0; 90];
-    let mut child: u32 = 1;
-    let mut k: usize = 0;
-    while k < n {
+    let mut nodes = [0u32; 90];
+    for k in 0..n {
         let at = 5 * k;
         nodes[at] = kind;
         nodes[at + 1] = 5;
-        nodes[at + 2] = child;
-        child += 1;
-        k += 1;
+        nodes[at + 2] = k as u32 + 1;
     }
-    ChainWords { nodes }
+    nodes
 }
 
 // A table of n such nodes and nil.
 fn chain_case(good: bool, name: &[u8], kind: u32, n: usize)
     requires { n ≤ 17 }
 {
-    let c = chain(kind, n);
-    let nodes = c.nodes;
-    let sound = SOUND;
-    let words = WORDS;
-    let t = &nodes[..];
-    let e = 5 * n + 5;
-    if e <= t.len() {
-        table_case(good, name, &t[0..e], &words, &sound, &words);
-    }
+    let nodes = chain(kind, n);
+    table_case(good, name, &nodes[..5 * n + 5], &WORDS, &SOUND, &WORDS);
 }
 
 // Refusals 6 and 7.
@@ -183,18 +151,14 @@ fn piped_line(good: bool, name: &[u8], nodes: &[u32], pool: &[u32], s: State) {
 
 // The same under the filter, with no words for side 2.
 fn filtered_line(good: bool, name: &[u8], nodes: &[u32], pool: &[u32], s: State) {
-    let n = &nodes[..0];
-    let p = &pool[..0];
-    line(good, name, 1, nodes, pool, n, p, s);
+    line(good, name, 1, nodes, pool, &[], &[], s);
 }
 
 // Wrappers; a state of the filter and one of the pipeline under the other wrappers. One of the filter at its start suits the logging wrapper.
 fn wrappers() {
-    let nodes = SOUND;
-    let pool = WORDS;
-    let n = &nodes[..];
-    let p = &pool[..];
-    let no = &n[..0];
+    let n = &SOUND;
+    let p = &WORDS;
+    let no: &[u32] = &[];
     let a = load(1, [n, no], [p, no]);
     let f = a.state;
     let s = sends();
@@ -214,11 +178,9 @@ fn wrappers() {
 
 // States that suit their tables, under others.
 fn other_tables() {
-    let nodes = SOUND;
-    let pool = WORDS;
-    let n = &nodes[..];
-    let p = &pool[..];
-    let no = &n[..0];
+    let n = &SOUND;
+    let p = &WORDS;
+    let no: &[u32] = &[];
     begin(false, b"pipeline, state of other tables");
     start_answered(Start::Pipeline, 2, n, p, n, p);
     write(b"\n");

@@ -2,6 +2,8 @@
 // step. The lent words are 7 before. Then runs beside the trials, and last, what trial B strands, by words.
 #![tactic(auto)]
 
+ghost use Rattle.std.specs.Prelude.{◌≤◌};
+
 mod more; // lengths, uses of bound names, descending, minted names
 mod stranded; // trial B
 
@@ -10,12 +12,10 @@ use test_schedules::shown::{number, outcome, write};
 
 // From which place on all words are 7.
 fn unchanged_from(out: &[u32]) -> usize {
-    let mut n = out.len();
-    while 0 < n {
-        if out[n - 1] != 7 {
-            return n;
+    for n in (0..out.len()).rev() {
+        if out[n] != 7 {
+            return n + 1;
         }
-        n -= 1;
     }
     0
 }
@@ -37,76 +37,47 @@ fn lent<'a>(wrapper: u32, pool1: &'a [u32], pool2: &'a [u32], steps: &[u32], out
     write(b"\n");
 }
 
-// The same with the first n words of a list of steps, and 60 lent words; then with 39, 40, 45, 19 and 20.
-fn lent_60<'a>(wrapper: u32, pool1: &'a [u32], pool2: &'a [u32], steps: &[u32], n: usize) {
-    let mut out = [7u32; 60];
+// The same with the first n words of a list of steps, and N lent words, at most 60.
+fn lent_words<'a, const N: usize>(
+    wrapper: u32,
+    pool1: &'a [u32],
+    pool2: &'a [u32],
+    steps: &[u32],
+    n: usize,
+)
+    requires { N ≤ 60 }
+{
+    let mut out = [7u32; N];
     if n <= steps.len() {
-        lent(wrapper, pool1, pool2, &steps[0..n], &mut out);
-    }
-}
-
-fn lent_39<'a>(wrapper: u32, pool1: &'a [u32], pool2: &'a [u32], steps: &[u32], n: usize) {
-    let mut out = [7u32; 39];
-    if n <= steps.len() {
-        lent(wrapper, pool1, pool2, &steps[0..n], &mut out);
-    }
-}
-
-fn lent_40<'a>(wrapper: u32, pool1: &'a [u32], pool2: &'a [u32], steps: &[u32], n: usize) {
-    let mut out = [7u32; 40];
-    if n <= steps.len() {
-        lent(wrapper, pool1, pool2, &steps[0..n], &mut out);
-    }
-}
-
-fn lent_45<'a>(wrapper: u32, pool1: &'a [u32], pool2: &'a [u32], steps: &[u32], n: usize) {
-    let mut out = [7u32; 45];
-    if n <= steps.len() {
-        lent(wrapper, pool1, pool2, &steps[0..n], &mut out);
-    }
-}
-
-fn lent_19<'a>(wrapper: u32, pool1: &'a [u32], pool2: &'a [u32], steps: &[u32], n: usize) {
-    let mut out = [7u32; 19];
-    if n <= steps.len() {
-        lent(wrapper, pool1, pool2, &steps[0..n], &mut out);
-    }
-}
-
-fn lent_20<'a>(wrapper: u32, pool1: &'a [u32], pool2: &'a [u32], steps: &[u32], n: usize) {
-    let mut out = [7u32; 20];
-    if n <= steps.len() {
-        lent(wrapper, pool1, pool2, &steps[0..n], &mut out);
+        lent(wrapper, pool1, pool2, &steps[..n], &mut out);
     }
 }
 
 // A list of two steps, cut after each of its 13 words.
 fn cut(pool: &[u32], steps: &[u32]) {
-    let mut k: usize = 0;
-    while k < 14 {
-        lent_60(2, pool, pool, steps, k);
-        k += 1;
+    for k in 0..14 {
+        lent_words::<60>(2, pool, pool, steps, k);
     }
 }
 
 // Lent words for two answers and for one: too few, just enough, and more.
-fn lent_words(pool: &[u32], steps: &[u32]) {
-    lent_39(2, pool, pool, steps, 13);
-    lent_40(2, pool, pool, steps, 13);
-    lent_45(2, pool, pool, steps, 13);
-    lent_19(2, pool, pool, steps, 6);
-    lent_20(2, pool, pool, steps, 6);
-    lent_19(2, pool, pool, steps, 0);
+fn too_few(pool: &[u32], steps: &[u32]) {
+    lent_words::<39>(2, pool, pool, steps, 13);
+    lent_words::<40>(2, pool, pool, steps, 13);
+    lent_words::<45>(2, pool, pool, steps, 13);
+    lent_words::<19>(2, pool, pool, steps, 6);
+    lent_words::<20>(2, pool, pool, steps, 6);
+    lent_words::<19>(2, pool, pool, steps, 0);
 }
 
 // A wrapper that is none, a pool that is too short on side 2, and how these stand to a list that breaks off and to lent words
 // that are too few.
 fn refused<'a>(pool: &'a [u32], short: &'a [u32], steps: &[u32]) {
-    lent_60(4, pool, pool, steps, 13);
-    lent_60(2, pool, short, steps, 13);
-    lent_60(4, pool, pool, steps, 0);
-    lent_39(4, pool, pool, steps, 13);
-    lent_39(4, pool, pool, steps, 12);
+    lent_words::<60>(4, pool, pool, steps, 13);
+    lent_words::<60>(2, pool, short, steps, 13);
+    lent_words::<60>(4, pool, pool, steps, 0);
+    lent_words::<39>(4, pool, pool, steps, 13);
+    lent_words::<39>(4, pool, pool, steps, 12);
 }
 
 fn parts() {
@@ -115,11 +86,11 @@ fn parts() {
     // two messages enter
     let steps = [1u32, 1, 0, 0, 1, 20, 1, 1, 0, 0, 2, 4000001, 21];
     cut(&pool, &steps);
-    lent_words(&pool, &steps);
+    too_few(&pool, &steps);
     refused(&pool, &short, &steps);
     // a count that no list has words for
     let most = [1u32, 1, 0, 0, 4294967295];
-    lent_60(2, &pool, &pool, &most, 5);
+    lent_words::<60>(2, &pool, &pool, &most, 5);
 }
 
 fn main() {

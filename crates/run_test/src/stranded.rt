@@ -1,23 +1,19 @@
 // Trial B by words: side 2 sends `mid` up, it can go nowhere, and its position is asked for.
-use stranding::{After, stranded_after};
+use stranding::{AfterError, stranded_after};
 use test_schedules::shown::{number, words, write};
 
-fn side_number(n: u32) -> usize {
-    n as usize
-}
-
 // How many positions, load's refusal, that the steps break off, or 22.
-fn told(a: After) {
+fn told(a: Result<usize, AfterError>) {
     match a {
-        After::Count(n) => number(n),
-        After::Unloaded(k, side, node) => {
+        Ok(n) => number(n),
+        Err(AfterError::Unloaded(k, side, node)) => {
             write(b" refused");
             number(k);
-            number(side_number(side));
+            number(side as usize);
             number(node);
         },
-        After::BrokenOff => write(b" broken off"),
-        After::TooShort => write(b" too short (22)"),
+        Err(AfterError::BrokenOff) => write(b" broken off"),
+        Err(AfterError::TooShort) => write(b" too short (22)"),
     }
 }
 

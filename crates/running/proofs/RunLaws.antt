@@ -2,14 +2,17 @@
 use mathlib.Core.Path.{◌≡◌, refl, sym, ap, ap₂, subst, ◌∙◌}
 use mathlib.Core.Bool.{Bool, true, false}
 use mathlib.Core.List.{List, [], ◌∷◌, ◌++◌, append-nil, append_assoc}
-use mathlib.Core.Option.{Option, none, some}
+use mathlib.Core.Option as maybe
 use Prim.Native.Nat.{ℕ, ◌+◌, ◌-◌, ◌*◌, ◌/◌, ◌<◌, ◌≤◌}
 use native.Mathlib.Omega.{arith}
-use native.Mathlib.Numerals.{add-one}
 use borrow.Author.Tests.{lt-ltb, le-ltb}
 use lib.Dec.{ltb}
-use lib.ListN.{length, get_or, take, drop, set, replicate, length-append, take-append-drop}
-use lib.Seq.{paste, take_all, length-take-le, drop-drop, paste-suc, length-paste, take-paste, drop-paste}
+use lib.ListN.{length, get_or, take, drop, replicate, length-append, take-append-drop}
+use lib.Seq.{paste, take_all, length-take-le, drop-drop, length-paste, take-paste, drop-paste}
+use Rattle.std.specs.Prelude.{Some, None, Ok, Err}
+use Rattle.std.specs.declared.option.Option.{Option}
+use Rattle.std.specs.declared.result.Result.{Result}
+use Rattle.std.proofs.lemmas.Option.{none-some, same_Some}
 use Rattle.model.specs.Basics.{choose}
 use Rattle.model.specs.Side.{State as MState}
 use Rattle.model.specs.Load.{Composition, refused, ok, load}
@@ -25,46 +28,38 @@ use Rattle.steps.specs.declared.Said.TheVariants as said
 use Rattle.answers.specs.Answers.{said_of, given_for}
 use Rattle.execution.specs.Execution.{record_end}
 use Rattle.execution.proofs.RecordEnds.{steps_found, steps_broken}
-use Rattle.running.specs.declared.Ran.{Ran}
-use Rattle.running.specs.declared.Ran.TheVariants as ran
-use Rattle.running.specs.Running.{count_of, words_in, Put, RunIs}
+use Rattle.running.specs.declared.RunError.{RunError}
+use Rattle.running.specs.declared.RunError.TheVariants as error
+use Rattle.running.specs.Running.{count_of, Put, RunIs}
 
 -- HOW MANY STEPS
 -- n steps before a count
 abbrev pub plus : ℕ → Option ℕ → Option ℕ
-plus n none = none
-plus n (some m) = some (n + m)
+plus n None = None
+plus n (Some m) = Some (n + m)
 
 pub plus_none : (r : Option ℕ) → r ≡ plus 0 r
-plus_none none = refl
-plus_none (some m) = ap some (omega arith)
+plus_none None = refl
+plus_none (Some m) = ap Some (omega arith)
 
-count_before : (n : ℕ) (x : Step) (r : Option (List Step)) → plus n (count_of (before x r)) ≡ plus (n + 1) (count_of r)
+count_before : (n : ℕ) (x : Step) (r : maybe.Option (List Step)) → plus n (count_of (before x r)) ≡ plus (n + 1) (count_of r)
 unfolding before
-count_before n x none = refl
-count_before n x (some xs) = ap some (omega arith)
+count_before n x maybe.none = refl
+count_before n x (maybe.some xs) = ap Some (omega arith)
 
 -- a record is found, with which a step is counted
-pub count_next : (l : List ℕ) (p n e : ℕ) (z : Option ℕ) → record_end 4 l p ≡ some e → z ≡ plus n (count_of (steps_of (drop p l))) → z ≡ plus (n + 1) (count_of (steps_of (drop e l)))
+pub count_next : (l : List ℕ) (p n e : ℕ) (z : Option ℕ) → record_end 4 l p ≡ Some e → z ≡ plus n (count_of (steps_of (drop p l))) → z ≡ plus (n + 1) (count_of (steps_of (drop e l)))
 count_next l p n e z f h =
     h
-    ∙ ap (λ (r : Option (List Step)). plus n (count_of r)) (steps_found l p e f)
+    ∙ ap (λ (r : maybe.Option (List Step)). plus n (count_of r)) (steps_found l p e f)
     ∙ count_before n (step_at l p) (steps_of (drop e l))
 
 -- or none, where words are left
-pub count_broken : (l : List ℕ) (p n : ℕ) (z : Option ℕ) → p < length l → record_end 4 l p ≡ none → z ≡ plus n (count_of (steps_of (drop p l))) → none ≡ z
-count_broken l p n z a f h = sym (h ∙ ap (λ (r : Option (List Step)). plus n (count_of r)) (steps_broken l p a f))
+pub count_broken : (l : List ℕ) (p n : ℕ) (z : Option ℕ) → p < length l → record_end 4 l p ≡ None → z ≡ plus n (count_of (steps_of (drop p l))) → None ≡ z
+count_broken l p n z a f h = sym (h ∙ ap (λ (r : maybe.Option (List Step)). plus n (count_of r)) (steps_broken l p a f))
 
-pub count_end : (l : List ℕ) (p n : ℕ) (z : Option ℕ) → length l ≤ p → z ≡ plus n (count_of (steps_of (drop p l))) → some n ≡ z
-count_end l p n z h e = sym (e ∙ ap (λ (r : Option (List Step)). plus n (count_of r)) (steps_end l p h) ∙ ap some (omega arith))
-
--- COPIES
-pub copy_next : (l d : List ℕ) (at m : ℕ) (ws : List ℕ) (k : ℕ) → length d ≡ m → l ≡ paste d at ws k → at + k < m → k < length ws →
-    set l (at + k) (get_or ws k 0) ≡ paste d at ws (k + 1)
-copy_next l d at m ws k z e a b = ap (λ (x : List ℕ). set x (at + k) (get_or ws k 0)) e ∙ paste-suc d at ws k 0 (omega arith) b ∙ ap (paste d at ws) (sym (add-one k))
-
-pub copy_all : (l d : List ℕ) (at : ℕ) (ws : List ℕ) (k n : ℕ) → k ≡ n → l ≡ paste d at ws k → l ≡ paste d at ws n
-copy_all l d at ws k n q e = e ∙ ap (paste d at ws) q
+pub count_end : (l : List ℕ) (p n : ℕ) (z : Option ℕ) → length l ≤ p → z ≡ plus n (count_of (steps_of (drop p l))) → Some n ≡ z
+count_end l p n z h e = sym (e ∙ ap (λ (r : maybe.Option (List Step)). plus n (count_of r)) (steps_end l p h) ∙ ap Some (omega arith))
 
 -- AN ANSWER IN WORDS
 two_said : (y : Said) → said_words (said_of y) ≡ get_or (said_words (said_of y)) 0 0 ∷ get_or (said_words (said_of y)) 1 0 ∷ []
@@ -74,49 +69,38 @@ two_said said.Out = refl
 two_said said.Log = refl
 two_said (said.Refused n) = refl
 
--- its first four words, before zeros
-abbrev pub head_of : (said number side len : ℕ) → List ℕ
-head_of a b s n = set (set (set (set (replicate 20 0) 0 a) 1 b) 2 s) 3 n
-
-pub words_made : (y : Said) (a b s n m : ℕ) (ws l : List ℕ) → n ≡ m → a ≡ get_or (said_words (said_of y)) 0 0 → b ≡ get_or (said_words (said_of y)) 1 0 → length ws ≡ 16 →
-    l ≡ paste (head_of a b s n) 4 ws 16 → l ≡ words_in y s m ws
-words_made y a b s n m ws l z p q e h =
-    h
-    ∙ append-nil (a ∷ b ∷ s ∷ n ∷ take 16 ws)
-    ∙ ap (λ (x : List ℕ). a ∷ b ∷ s ∷ n ∷ x) (take_all 16 ws (omega arith))
-    ∙ ap (λ (x : ℕ). x ∷ b ∷ s ∷ n ∷ ws) p
-    ∙ ap (λ (x : ℕ). get_or (said_words (said_of y)) 0 0 ∷ x ∷ s ∷ n ∷ ws) q
+-- its four words before the value's, and these with zeros past them
+pub words_made : (y : Said) (a b s n : ℕ) (l ws : List ℕ) → a ≡ get_or (said_words (said_of y)) 0 0 → b ≡ get_or (said_words (said_of y)) 1 0 → n ≡ length l →
+    ws ≡ l ++ replicate (16 - length l) 0 → a ∷ b ∷ s ∷ n ∷ ws ≡ given_words (given_for y s l)
+words_made y a b s n l ws p q z e =
+    ap₂ (λ (i j : ℕ). i ∷ j ∷ s ∷ n ∷ ws) p q
     ∙ ap (λ (x : List ℕ). x ++ (s ∷ n ∷ ws)) (sym (two_said y))
-    ∙ ap (λ (x : ℕ). words_in y s x ws) z
+    ∙ ap₂ (λ (i : ℕ) (x : List ℕ). said_words (said_of y) ++ (s ∷ i ∷ x)) z e
 
 -- a value has at most 16 words, since with the zeros behind it there are 16
 pub value_short : (v ws : List ℕ) → ws ≡ v ++ replicate (16 - length v) 0 → length ws ≡ 16 → length v ≤ 16
 value_short v ws e h = omega (arith, ap length e, length-append v (replicate (16 - length v) 0))
 
--- an answer with zeros past its words
-pub answer_words_lem : (y : Said) (s : ℕ) (l ws of : List ℕ) (n : ℕ) → n ≡ length l → ws ≡ l ++ replicate (16 - length l) 0 → of ≡ words_in y s n ws → of ≡ given_words (given_for y s l)
-answer_words_lem y s l ws of n p q h = h ∙ ap (λ (m : ℕ). words_in y s m ws) p ∙ ap (words_in y s (length l)) q
-
 -- THE RUN
 -- the words written so far, and the steps still to come
 pub record Running (b : Composition) (s : MState) (l lent : List ℕ) (n k p : ℕ) (t : MState) (out : List ℕ) : Type 0 where
   pub rest : List Step
-  pub left : steps_of (drop p l) ≡ some rest
+  pub left : steps_of (drop p l) ≡ maybe.some rest
   pub many : k + length rest ≡ n
   pub size : length out ≡ length lent
   pub same : drop (20 * k) out ≡ drop (20 * k) lent
-  pub total : (xs : List Step) → steps_of l ≡ some xs → all_answer_words (answers b s xs) ≡ take (20 * k) out ++ all_answer_words (answers b t rest)
+  pub total : (xs : List Step) → steps_of l ≡ maybe.some xs → all_answer_words (answers b s xs) ≡ take (20 * k) out ++ all_answer_words (answers b t rest)
 
-pub run_start : (b : Composition) (s : MState) (l lent : List ℕ) (n : ℕ) → count_of (steps_of l) ≡ some n → Running b s l lent n 0 0 s lent
+pub run_start : (b : Composition) (s : MState) (l lent : List ℕ) (n : ℕ) → count_of (steps_of l) ≡ Some n → Running b s l lent n 0 0 s lent
 run_start b s l lent n e = by (steps_of l) refl
   where
-    by : (o : Option (List Step)) → steps_of l ≡ o → Running b s l lent n 0 0 s lent
-    by none q = let z : none ≡ some n = sym (ap count_of q) ∙ e in let w : ◌≡◌ {A = ℕ} 0 1 = cc in absurd (omega arith)
-    by (some xs) q =
+    by : (o : maybe.Option (List Step)) → steps_of l ≡ o → Running b s l lent n 0 0 s lent
+    by maybe.none q = absurd (none-some _ (sym (ap count_of q) ∙ e))
+    by (maybe.some xs) q =
         record {
           rest = xs;
           left = q;
-          many = omega (arith, some_inj (sym (ap count_of q) ∙ e));
+          many = omega (arith, same_Some _ _ (sym (ap count_of q) ∙ e));
           size = refl;
           same = refl;
           total = λ ys f. ap (λ (zs : List Step). all_answer_words (answers b s zs)) (some_inj (sym f ∙ q));
@@ -133,7 +117,7 @@ module _ {b : Composition} {s : MState} {l lent : List ℕ} {n k p : ℕ} {t : M
   pub coming : k < n → Coming l p h.rest
   coming lt = by h.rest h.left h.many
     where
-      by : (r : List Step) → steps_of (drop p l) ≡ some r → k + length r ≡ n → Coming l p r
+      by : (r : List Step) → steps_of (drop p l) ≡ maybe.some r → k + length r ≡ n → Coming l p r
       by [] e m = absurd (omega arith)
       by (x ∷ xs) e m = record { first = x; others = xs; is = refl; next = next_step l p x xs e }
 
@@ -171,7 +155,7 @@ module _ {b : Composition} {s : MState} {l lent : List ℕ} {n k p : ℕ} {t : M
             ∙ ap (λ (z : List ℕ). z ++ all_answer_words (answers b u y.others)) (sym taken);
       }
 
-  pub run_end : n ≤ k → 20 * n ≤ length lent → (xs : List Step) → steps_of l ≡ some xs → Put (all_answer_words (answers b s xs)) n lent out
+  pub run_end : n ≤ k → 20 * n ≤ length lent → (xs : List Step) → steps_of l ≡ maybe.some xs → Put (all_answer_words (answers b s xs)) n lent out
   unfolding answers
   run_end le room xs f = by h.rest refl
     where
@@ -204,31 +188,31 @@ pub has_room : (m n : ℕ) → n ≤ m / 20 → 20 * n ≤ m
 has_room m n h = omega arith
 
 -- a list that has n steps
-pub record Has (o : Option (List Step)) (n : ℕ) : Type 0 where
+pub record Has (o : maybe.Option (List Step)) (n : ℕ) : Type 0 where
   pub steps : List Step
-  pub is : o ≡ some steps
+  pub is : o ≡ maybe.some steps
   pub many : length steps ≡ n
 
-pub has_steps : (o : Option (List Step)) (n : ℕ) → count_of o ≡ some n → Has o n
-has_steps none n e = let z : ◌≡◌ {A = ℕ} 0 1 = cc in absurd (omega arith)
-has_steps (some xs) n e = record { steps = xs; is = refl; many = some_inj e }
+pub has_steps : (o : maybe.Option (List Step)) (n : ℕ) → count_of o ≡ Some n → Has o n
+has_steps maybe.none n e = absurd (none-some _ e)
+has_steps (maybe.some xs) n e = record { steps = xs; is = refl; many = same_Some _ _ e }
 
-no_steps : (o : Option (List Step)) → count_of o ≡ none → o ≡ none
-no_steps none e = refl
-no_steps (some xs) e = let z : ◌≡◌ {A = ℕ} 0 1 = cc in absurd (omega arith)
+no_steps : (o : maybe.Option (List Step)) → count_of o ≡ None → o ≡ maybe.none
+no_steps maybe.none e = refl
+no_steps (maybe.some xs) e = absurd (none-some _ (sym e))
 
-run_by : {x y : FRan} {lent new : List ℕ} {r : Ran} → x ≡ y → RunIs y lent new r → RunIs x lent new r
+run_by : {x y : FRan} {lent new : List ℕ} {r : Result ℕ RunError} → x ≡ y → RunIs y lent new r → RunIs x lent new r
 run_by {lent = lent} {new = new} {r = r} e h = subst (λ (z : FRan). RunIs z lent new r) (sym e) h
 
 module _ (b : Composition) (l lent : List ℕ) where
-  pub run_broken : count_of (steps_of l) ≡ none → RunIs (run_of b l (length lent)) lent lent ran.BrokenOff
+  pub run_broken : count_of (steps_of l) ≡ None → RunIs (run_of b l (length lent)) lent lent (Err error.BrokenOff)
   run_broken e = run_by (ap (run_steps b (length lent)) (no_steps (steps_of l) e)) (record { answer = refl; put = record { size = refl; words = refl } })
 
   module _ (n : ℕ) (h : Has (steps_of l) n) where
     by_room : (t : Bool) → ltb (length lent) (20 * length h.steps) ≡ t → run_of b l (length lent) ≡ choose t too_short (run_from b h.steps (load b))
     by_room t e = ap (run_steps b (length lent)) h.is ∙ ap (λ (x : Bool). choose x too_short (run_from b h.steps (load b))) e
 
-    pub run_short : length lent / 20 < n → RunIs (run_of b l (length lent)) lent lent ran.TooShort
+    pub run_short : length lent / 20 < n → RunIs (run_of b l (length lent)) lent lent (Err error.TooShort)
     unfolding choose
     run_short lt = run_by (by_room true (lt-ltb (length lent) (20 * length h.steps) (omega (arith, h.many)))) (record { answer = refl; put = record { size = refl; words = refl } })
 
@@ -236,11 +220,11 @@ module _ (b : Composition) (l lent : List ℕ) where
     unfolding choose
     room_left room = by_room false (le-ltb (length lent) (20 * length h.steps) (omega (arith, h.many)))
 
-    pub run_refused : n ≤ length lent / 20 → (k i m : ℕ) → load b ≡ refused (record { number = k; side = i; node = m }) → RunIs (run_of b l (length lent)) lent lent (ran.Refused k i m)
+    pub run_refused : n ≤ length lent / 20 → (k i m : ℕ) → load b ≡ refused (record { number = k; side = i; node = m }) → RunIs (run_of b l (length lent)) lent lent (Err (error.Refused k i m))
     run_refused room k i m e = run_by (room_left room ∙ ap (run_from b h.steps) e) (record { answer = refl; put = record { size = refl; words = refl } })
 
     pub run_done : n ≤ length lent / 20 → (s : MState) → load b ≡ ok s → (new : List ℕ) →
-        Put (all_answer_words (answers b s h.steps)) n lent new → RunIs (run_of b l (length lent)) lent new (ran.Done n)
+        Put (all_answer_words (answers b s h.steps)) n lent new → RunIs (run_of b l (length lent)) lent new (Ok n)
     run_done room s e new w =
         let ys = answers b s h.steps in
         let ws = all_answer_words ys in

@@ -1,5 +1,5 @@
 -- What the steps of a list of words ask of what is lent, and what they leave.
-use Rattle.std.specs.Prelude.{◌≡◌, List, ℕ, ◌*◌, ◌≤◌, length}
+use Rattle.std.specs.Prelude.{◌≡◌, List, ℕ, ◌*◌, ◌≤◌, length, Some}
 use Rattle.std.proofs.Math.Option.{some}
 use Rattle.model.specs.Side.{State}
 use Rattle.model.specs.Load.{Composition, ok, load}
@@ -10,7 +10,7 @@ use Rattle.running.specs.Running.{count_of, Put}
 
 -- a list of words has n steps, and the lent words have room for their answers
 pub record HasRoom (l : List ℕ) (n : ℕ) (lent : List ℕ) : Type 0 where
-  pub count : count_of (steps_of l) ≡ some n
+  pub count : count_of (steps_of l) ≡ Some n
   pub room : 20 * n ≤ length lent
 
 -- the answers to the n steps of a list, from the state s on, are put at the start of the lent words

@@ -1,8 +1,8 @@
 -- The names in force, found upwards from parent to parent, the last eight of them.
 use mathlib.Core.Path.{◌≡◌, refl, sym, ap, ap₂, ◌∙◌}
-use mathlib.Core.Bool.{Bool, true, false, not, cond}
+use mathlib.Core.Bool.{Bool, true, false, not, cond, ◌||◌}
 use mathlib.Core.List.{List, [], ◌∷◌, ◌++◌}
-use Prim.Native.Nat.{ℕ, zero, suc, ◌+◌, ◌-◌, ◌<◌, ◌≤◌}
+use Prim.Native.Nat.{ℕ, zero, suc, ◌+◌, ◌-◌, ◌<◌, ◌≤◌, min}
 use native.Mathlib.Omega.{arith}
 use native.Mathlib.Numerals.{add-one}
 use borrow.Author.Tests.{not-true, not-false, le-leb, lt-leb, leb-true, leb-false, eq-eqb, ne_eqb}
@@ -14,10 +14,10 @@ use Rattle.model.specs.Table.{Table, field, child_times, bound, scope_up}
 use Rattle.model.proofs.Basics.Checked.{up_acc}
 use Rattle.tables.specs.declared.nodes.Node.{Node}
 use Rattle.tables.specs.Nodes.{table, NodeIs, pattern_names}
-use Rattle.tables.specs.Fields.{use_of, child_of}
+use Rattle.tables.specs.Fields.{use_of, child_of, any_field}
 use Rattle.tables.proofs.FieldLaws.{child_is}
 use Rattle.scopes.specs.declared.names.Names.{Names}
-use Rattle.scopes.specs.Names.{view_names, last_eight, is_child, any_of, is_parent}
+use Rattle.scopes.specs.Names.{view_names, last_eight, is_child, is_parent}
 
 -- THE LAST EIGHT
 pub last_few : (l : List ℕ) → length l ≤ 8 → last_eight l ≡ l
@@ -61,20 +61,19 @@ module _ (rows : List ℕ) (n w : ℕ) (full : length rows ≡ 8) where
   pub view_few : length (view_names (names rows n)) ≤ 8
   view_few = omega (arith, length-drop n rows)
 
-  pub outer_in : 0 < n → n ≤ 8 → view_names (names (set rows (n - 1) w) (n - 1)) ≡ last_eight (w ∷ drop n rows)
-  outer_in h l =
-      let e : suc (n - 1) ≡ n = omega arith in
-      drop-cons (set rows (n - 1) w) (n - 1) 0 (rw (length-set rows (n - 1) w) (omega arith)) ∙
-      ap₂ (λ (x : ℕ) (y : List ℕ). x ∷ y) (get_or-set_same rows (n - 1) w 0 (omega arith))
-      (drop-set-lt (suc (n - 1)) rows (n - 1) w (omega arith) ∙ ap (λ (k : ℕ). drop k rows) e) ∙
+  pub outer_in : (m : ℕ) → m ≡ min n 8 → 0 < m → view_names (names (set rows (m - 1) w) (m - 1)) ≡ last_eight (w ∷ drop n rows)
+  outer_in m q h =
+      let e : suc (m - 1) ≡ m = omega arith in
+      drop-cons (set rows (m - 1) w) (m - 1) 0 (rw (length-set rows (m - 1) w) (omega arith)) ∙
+      ap₂ (λ (x : ℕ) (y : List ℕ). x ∷ y) (get_or-set_same rows (m - 1) w 0 (omega arith))
+      (drop-set-lt (suc (m - 1)) rows (m - 1) w (omega arith) ∙ ap (λ (k : ℕ). drop k rows) e ∙ past (leb n 8) refl) ∙
       sym (last_few (w ∷ drop n rows) (omega (arith, length-drop n rows)))
-
-  pub outer_over : 8 < n → view_names (names (set rows 7 w) 7) ≡ last_eight (w ∷ drop n rows)
-  outer_over h =
-      drop-cons (set rows 7 w) 7 0 (rw (length-set rows 7 w) (omega arith)) ∙
-      ap₂ (λ (x : ℕ) (y : List ℕ). x ∷ y) (get_or-set_same rows 7 w 0 (omega arith))
-      (drop-set-lt 8 rows 7 w (omega arith) ∙ drop_of_length-le rows {i = 8} (omega arith) ∙ sym (drop_of_length-le rows {i = n} (omega arith))) ∙
-      sym (last_few (w ∷ drop n rows) (omega (arith, length-drop n rows)))
+    where
+      past : (b : Bool) → leb n 8 ≡ b → drop m rows ≡ drop n rows
+      past true e = let z : m ≡ n = omega (arith, leb-true n 8 e) in ap (λ (k : ℕ). drop k rows) z
+      past false e =
+          let l : 8 < n = leb-false n 8 e in
+          drop_of_length-le rows {i = m} (omega arith) ∙ sym (drop_of_length-le rows {i = n} (omega arith))
 
   pub outer_full : n ≤ 0 → view_names (names rows n) ≡ last_eight (w ∷ drop n rows)
   outer_full h =
@@ -127,32 +126,20 @@ module _ (ns pool : List ℕ) (n : ℕ) (x : Node) (i : NodeIs ns n x) where
   bound_none e h = rw (← i.k, ne_eqb x.kind 3 e, lt-leb 5 x.kind h)
 
 -- WHETHER A NODE IS THE PARENT
-pub child_yes : (u w m : ℕ) → u ≡ 1 → eqb w m ≡ is_child u w m
-child_yes u w m e = rw (eq-eqb u 1 e)
+-- a test of one field, as many as one of them names the child
+pub parent_by : (x : Node) (m : ℕ) → any_field (λ u w. is_child u w m) x ≡ is_parent x m
+unfolding is_parent any_field
+parent_by x m = go (is_child (use_of x 0) x.a m) (is_child (use_of x 1) x.b m) (is_child (use_of x 2) x.c m) (is_child (use_of x 3) x.d m)
+  where
+    more : (s : ℕ) → 0 < s → true ≡ not (eqb s 0)
+    more s h = ap not (sym (ne_eqb s 0 (λ q. omega arith)))
 
-pub child_no : (u w m : ℕ) → ((u ≡ 1) → ⊥) → false ≡ is_child u w m
-child_no u w m e = rw (ne_eqb u 1 e)
-
-pub parent_by : (x : Node) (m : ℕ) (a b c d : Bool) → a ≡ is_child (use_of x 0) x.a m → b ≡ is_child (use_of x 1) x.b m → c ≡ is_child (use_of x 2) x.c m → d ≡ is_child (use_of x 3) x.d m → any_of a b c d ≡ is_parent x m
-unfolding is_parent
-parent_by x m a b c d p q r s = rw (p, q, r, s)
-
-module _ (a b c d : Bool) where
-  pub any_1 : a ≡ true → true ≡ any_of a b c d
-  any_1 e = rw e (ap not (sym (ne_eqb (1 + (cond b 1 0 + (cond c 1 0 + cond d 1 0))) 0 (λ q. omega arith))))
-
-  pub any_2 : a ≡ false → b ≡ true → true ≡ any_of a b c d
-  any_2 e f = rw (e, f) (ap not (sym (ne_eqb (0 + (1 + (cond c 1 0 + cond d 1 0))) 0 (λ q. omega arith))))
-
-  pub any_3 : a ≡ false → b ≡ false → c ≡ true → true ≡ any_of a b c d
-  any_3 e f g = rw (e, f, g) (ap not (sym (ne_eqb (0 + (0 + (1 + cond d 1 0))) 0 (λ q. omega arith))))
-
-  pub any_4 : a ≡ false → b ≡ false → c ≡ false → d ≡ any_of a b c d
-  any_4 e f g = rw (e, f, g) (go d)
-    where
-      go : (d : Bool) → d ≡ not (eqb (0 + (0 + (0 + cond d 1 0))) 0)
-      go true = refl
-      go false = refl
+    go : (a b c d : Bool) → a || (b || (c || d)) ≡ not (eqb (cond a 1 0 + (cond b 1 0 + (cond c 1 0 + cond d 1 0))) 0)
+    go true b c d = more (1 + (cond b 1 0 + (cond c 1 0 + cond d 1 0))) (omega arith)
+    go false true c d = more (0 + (1 + (cond c 1 0 + cond d 1 0))) (omega arith)
+    go false false true d = more (0 + (0 + (1 + cond d 1 0))) (omega arith)
+    go false false false true = refl
+    go false false false false = refl
 
 -- THE WALK UP
 module _ (ns pool : List ℕ) (k cur : ℕ) (x : Node) (i : NodeIs ns k x) (acc : List ℕ) where

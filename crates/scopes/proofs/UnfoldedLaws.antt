@@ -1,7 +1,10 @@
 -- What the term at a node unfolds to, by the node's kind: one law for each way that the code goes.
-use mathlib.Core.Path.{◌≡◌, refl, sym, subst}
+use mathlib.Core.Path.{◌≡◌, refl, sym, ap, subst}
 use mathlib.Core.List.{List}
-use Prim.Native.Nat.{ℕ, zero, suc, ◌-◌, ◌<◌, ◌≤◌}
+use mir.Val.{bool_byte}
+use Prim.Native.Nat.{ℕ, zero, suc, ◌+◌, ◌-◌, ◌<◌}
+use borrow.Author.Tests.{le-leb}
+use lib.Dec.{leb}
 use native.Mathlib.Omega.{arith}
 use Rattle.model.specs.Table.{Table, count, Term, build, term}
 use Rattle.tables.specs.declared.nodes.Node.{Node}
@@ -16,9 +19,6 @@ use Rattle.scopes.proofs.TermSize.{unfolds_few}
 
 abbrev three : ℕ → ℕ → ℕ → Unfolded
 three p b n = record { particles = p; boxes = b; names = n }
-
-pub small : (p b n : ℕ) → p ≤ 256 → b ≤ 256 → n ≤ 256 → Few (three p b n)
-small p b n h k l = record { particles = h; boxes = k; names = l }
 
 module _ (ns pool : List ℕ) (n : ℕ) (o : Passes (table ns pool) × (n < count (table ns pool))) (x : Node) (i : NodeIs ns n x) where
   abbrev t : Table
@@ -72,35 +72,27 @@ module _ (ns pool : List ℕ) (n : ℕ) (o : Passes (table ns pool) × (n < coun
       same q (sum_of a b) z
       (whole 1 e (sum_of a b) (record { particles = omega (arith, u.particles, v.particles); boxes = omega (arith, u.boxes, v.boxes); names = omega (arith, u.names, v.names) }))
 
-  pub box_is : (a q : Unfolded) → x.kind ≡ 2 → Is x.b a → q ≡ sum_of (three 0 1 0) a → Is n q
+  pub box_is : (a : Unfolded) → x.kind ≡ 2 → Is x.b a → Is n (three a.particles (a.boxes + 1) a.names)
   unfolding build
-  box_is a q e h z =
+  box_is a e h =
       let u = child x.b _ a i.f2 h in
-      same q (sum_of (three 0 1 0) a) z
-      (whole 2 e (sum_of (three 0 1 0) a) (record { particles = omega (arith, u.particles); boxes = omega (arith, u.boxes); names = omega (arith, u.names) }))
+      whole 2 e (three a.particles (a.boxes + 1) a.names) (record { particles = u.particles; boxes = omega (arith, u.boxes); names = u.names })
 
-  pub new_is : (a q : Unfolded) → x.kind ≡ 3 → Is x.b a → q ≡ sum_of (three 0 0 1) a → Is n q
+  pub new_is : (a : Unfolded) → x.kind ≡ 3 → Is x.b a → Is n (three a.particles a.boxes (a.names + 1))
   unfolding build
-  new_is a q e h z =
+  new_is a e h =
       let u = child x.b _ a i.f2 h in
-      same q (sum_of (three 0 0 1) a) z
-      (whole 3 e (sum_of (three 0 0 1) a) (record { particles = omega (arith, u.particles); boxes = omega (arith, u.boxes); names = omega (arith, u.names) }))
+      whole 3 e (three a.particles a.boxes (a.names + 1)) (record { particles = u.particles; boxes = u.boxes; names = omega (arith, u.names) })
 
-  pub particle_is : 4 ≤ x.kind → Is n (three 1 0 0)
+  -- an output or an input is a particle, and nil is nothing
+  pub last_is : (p : ℕ) → p ≡ bool_byte (leb 4 x.kind) → ((x.kind ≡ 1) → ⊥) → ((x.kind ≡ 2) → ⊥) → ((x.kind ≡ 3) → ⊥) → Is n (three p 0 0)
   unfolding build
-  particle_is h = go x.kind refl h
+  last_is p q a b c = same (three p 0 0) (three (bool_byte (leb 4 x.kind)) 0 0) (ap (λ (m : ℕ). three m 0 0) q) (go x.kind refl a b c)
     where
-      go : (κ : ℕ) → x.kind ≡ κ → 4 ≤ κ → Is n (three 1 0 0)
-      go zero e h = absurd (omega arith)
-      go (suc zero) e h = absurd (omega arith)
-      go (suc (suc zero)) e h = absurd (omega arith)
-      go (suc (suc (suc zero))) e h = absurd (omega arith)
-      go (suc (suc (suc (suc zero)))) e h = whole 4 e _ (record { particles = refl; boxes = refl; names = refl })
-      go (suc (suc (suc (suc (suc k))))) e h = whole _ e _ (record { particles = refl; boxes = refl; names = refl })
-
-  pub nil_is : ((x.kind ≡ 1) → ⊥) → ((x.kind ≡ 2) → ⊥) → ((x.kind ≡ 3) → ⊥) → x.kind < 4 → Is n (three 0 0 0)
-  unfolding build
-  nil_is a b c h = whole 0 (none x.kind a b c h) _ (record { particles = refl; boxes = refl; names = refl })
-    where
-      none : (κ : ℕ) → ((κ ≡ 1) → ⊥) → ((κ ≡ 2) → ⊥) → ((κ ≡ 3) → ⊥) → κ < 4 → κ ≡ 0
-      none κ a b c h = omega arith
+      go : (κ : ℕ) → x.kind ≡ κ → ((κ ≡ 1) → ⊥) → ((κ ≡ 2) → ⊥) → ((κ ≡ 3) → ⊥) → Is n (three (bool_byte (leb 4 κ)) 0 0)
+      go zero e a b c = whole 0 e _ (record { particles = refl; boxes = refl; names = refl })
+      go (suc zero) e a b c = absurd (a refl)
+      go (suc (suc zero)) e a b c = absurd (b refl)
+      go (suc (suc (suc zero))) e a b c = absurd (c refl)
+      go (suc (suc (suc (suc zero)))) e a b c = whole 4 e _ (record { particles = refl; boxes = refl; names = refl })
+      go (suc (suc (suc (suc (suc k))))) e a b c = rw (le-leb 4 (suc (suc (suc (suc (suc k))))) (omega arith)) (whole _ e (three 1 0 0) (record { particles = refl; boxes = refl; names = refl }))

@@ -1,5 +1,5 @@
 -- The names in force as the struct holds them, and the search for a node's parent.
-use Rattle.std.specs.Prelude.{Bool, not, cond, ◌&&◌, List, ℕ, ◌+◌, ◌-◌, eqb, length, drop}
+use Rattle.std.specs.Prelude.{Bool, not, ◌&&◌, List, ℕ, ◌-◌, eqb, length, drop}
 use Rattle.tables.specs.Fields.{child_of}
 use Rattle.tables.specs.declared.nodes.Node.{Node}
 use Rattle.scopes.specs.declared.names.Names.{Names}
@@ -15,10 +15,6 @@ last_eight l = drop (length l - 8) l
 -- a field of use u, a word w, is the child m
 abbrev pub is_child : (u w m : ℕ) → Bool
 is_child u w m = eqb u 1 && eqb w m
-
--- one of four tests passes: as many pass as are not none
-abbrev pub any_of : Bool → Bool → Bool → Bool → Bool
-any_of a b c d = not (eqb (cond a 1 0 + (cond b 1 0 + (cond c 1 0 + cond d 1 0))) 0)
 
 -- m is a child of a node
 unfoldable pub is_parent : Node → ℕ → Bool

@@ -11,42 +11,24 @@ use tables::nodes::node_at;
 use tables::pool::words_at;
 use values::Leaf;
 
-// A word as a number.
-fn wide(x: u32) -> usize
-    ensures { result ≡ x }
-{
-    x as usize
-}
-
 // Whether channel and tag name nothing in the set.
 fn outside(ts: NameSet, channel: usize, tag: usize) -> bool
     ensures { result ≡ name_clear ts.on channel & tag_clear ts.on tag }
 {
-    if ts.has(channel) {
-        false
-    } else if tag < 2 {
-        true
-    } else if ts.has(tag - 2) {
-        false
-    } else {
-        true
-    }
+    !ts.has(channel) && (tag < 2 || !ts.has(tag - 2))
 }
 
 // The set without the names of a pattern, which hides them.
-fn hide_names(ts: NameSet, s: &[u32]) -> NameSet
+fn hide_names(mut ts: NameSet, s: &[u32]) -> NameSet
     ensures { result.on ≡ hide ts.on (binders s.now) }
 {
-    let mut on = ts.on;
-    let mut i: usize = 0;
-    while i < s.len() {
-        let x = wide(s[i]);
+    for &w in s {
+        let x = w as usize;
         if x < NameSet::NAMES {
-            on[x] = false;
+            ts.on[x] = false;
         }
-        i += 1;
     }
-    NameSet { on }
+    ts
 }
 
 // Whether no name in the set is free as a channel, tag or box name in the term at node n. The nodes above n are the falling
@@ -57,16 +39,10 @@ pub fn clear(nodes: &[u32], pool: &[u32], n: usize, ts: NameSet) -> bool
 {
     let x = node_at(nodes, n);
     if x.kind == 1 {
-        if clear(nodes, pool, x.a, ts) {
-            return clear(nodes, pool, x.b, ts);
-        }
-        return false;
+        return clear(nodes, pool, x.a, ts) && clear(nodes, pool, x.b, ts);
     }
     if x.kind == 2 {
-        if ts.has(x.a) {
-            return false;
-        }
-        return clear(nodes, pool, x.b, ts);
+        return !ts.has(x.a) && clear(nodes, pool, x.b, ts);
     }
     if x.kind == 3 {
         return clear(nodes, pool, x.b, ts.put(x.a, false));
@@ -75,11 +51,13 @@ pub fn clear(nodes: &[u32], pool: &[u32], n: usize, ts: NameSet) -> bool
         return outside(ts, x.a, x.b);
     }
     if 5 <= x.kind {
-        if outside(ts, x.a, x.b) {
-            let below = hide_names(ts, words_at(Leaf::Pattern, pool, x.c));
-            return clear(nodes, pool, x.d, below);
-        }
-        return false;
+        return outside(ts, x.a, x.b)
+            && clear(
+                nodes,
+                pool,
+                x.d,
+                hide_names(ts, words_at(Leaf::Pattern, pool, x.c)),
+            );
     }
     true
 }

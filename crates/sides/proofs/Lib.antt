@@ -1,7 +1,6 @@
 pub mod Lists
 pub mod Lobbies
 pub mod Marks
-pub mod Tagged
 pub mod Sets
 pub mod Parts
 pub mod Storing

@@ -1,15 +1,17 @@
 -- Laws on lists that are stored in an array and a length: adding last, closing the gap, an element put anew, a test of every element. For every element type.
-use Prim.Native.Nat.{ℕ, zero, suc, ◌+◌, ◌<◌, ◌≤◌}
+use Prim.Native.Nat.{ℕ, zero, suc, ◌+◌, ◌-◌, ◌<◌, ◌≤◌}
 use mathlib.Core.Path.{◌≡◌, refl, sym, ◌∙◌, ap}
-use mathlib.Core.Bool.{Bool, true, false}
-use mathlib.Core.List.{List, [], ◌∷◌, ◌++◌, map, map-append, append_assoc, append-nil}
+use mathlib.Core.Bool.{Bool, true, false, ◌&&◌}
+use mathlib.Core.List.{List, [], ◌∷◌, ◌++◌, map, map-append}
 use mathlib.Core.Option.{some}
 use native.Mathlib.Numerals.{add-one}
 use native.Mathlib.Omega.{arith}
-use borrow.Author.Tests.{le-leb, lt-leb, leb-true}
+use borrow.Author.Tests.{le-leb}
 use lib.Dec.{leb}
-use lib.ListN.{length, take, drop, get_or, get_elem?, set, length-map}
-use lib.Seq.{take-suc-set, take-suc, take-set-lt, drop-append-le, drop-set-lt, drop-drop, get_or-drop, take-take, slice, slice_empty, length-take-le}
+use lib.ListN.{length, take, drop, get_or, get_elem?, set, length-map, length-drop}
+use lib.Seq.{drop-cons, take-suc-set, take-suc, take-set-lt, take-take, paste, take-paste, length-take-le}
+use Rattle.std.proofs.lemmas.List.{drop-take}
+use Rattle.std.specs.List.{list_all, range_with_len}
 use Rattle.model.specs.Basics.{◌&◌, every, remove}
 use Rattle.model.proofs.Basics.Tests.{fst, snd, both, every_append, every_one, every_remove, every_set}
 
@@ -88,38 +90,25 @@ every_fails f (x ∷ l) (suc k) (suc n) d h m e = go (f x) (every_fails f l k n 
     go true q = q
     go false q = refl
 
--- s is l while the gap at i closes: what lies below k has moved down, the rest stands
-pub record Gap {A : Type 0} (l : List A) (i k : ℕ) (s : List A) : Type 0 where
-  pub low : take k s ≡ take i l ++ slice (i + 1) (k + 1) l
-  pub high : drop k s ≡ drop k l
+-- place i gone: the elements above it, copied a place down
+pub gap_closed : {A : Type 0} (l : List A) (i n : ℕ) → i < n → n ≤ length l → take (n - 1) (paste l i (drop (i + 1) l) (n - (i + 1))) ≡ remove (take n l) i
+gap_closed l i n h m =
+    let k : i + (n - (i + 1)) ≡ n - 1 = omega arith in
+    let j : i + 1 + (n - (i + 1)) ≡ n = omega arith in
+    let s = drop (i + 1) l in
+    ap (λ (y : ℕ). take y (paste l i s (n - (i + 1)))) (sym k) ∙ take-paste l i s (n - (i + 1)) (omega arith) (omega (arith, length-drop (i + 1) l)) ∙
+    ap (λ (y : List _). y ++ take (n - (i + 1)) s) (sym (take-take i n l (omega arith))) ∙
+    ap (λ (y : List _). take i (take n l) ++ y) (sym (drop-take (i + 1) (n - (i + 1)) l) ∙ ap (λ (y : ℕ). drop (i + 1) (take y l)) j) ∙ remove_split (take n l) i
 
-module _ {A : Type 0} (l : List A) (i : ℕ) where
-  pub gap_start : Gap l i i l
-  gap_start = record { low = rw (slice_empty, append-nil); high = refl }
+module _ {A : Type 0} (l s : List A) (i n : ℕ) (h : i < n) (m : n ≤ length l) (e : s ≡ paste l i (drop (i + 1) l) (n - (i + 1))) where
+  gap_done : take (n - 1) s ≡ remove (take n l) i
+  gap_done = ap (take (n - 1)) e ∙ gap_closed l i n h m
 
-  pub gap_more : (k : ℕ) (s : List A) (d : A) → i ≤ k → k + 1 < length l → length s ≡ length l → Gap l i k s → Gap l i (k + 1) (set s k (get_or s (k + 1) d))
-  gap_more k s d h m e g =
-      let v : A = get_or s (k + 1) d in
-      let same : v ≡ get_or l (k + 1) d = sym (get_or-drop k s 1 d) ∙ ap (λ (x : List A). get_or x 1 d) g.high ∙ get_or-drop k l 1 d in
-      let room : k < length s = omega arith in
-      let part : i + 1 ≤ length (take (k + 1) l) = rw (length-take-le (k + 1) l (omega arith)) (omega arith) in
-      let one : take (k + 1) (set s k v) ≡ take k s ++ (v ∷ []) = ap (λ (n : ℕ). take n (set s k v)) (add-one k) ∙ take-suc-set s k v room in
-      let grow : slice (i + 1) (k + 1 + 1) l ≡ slice (i + 1) (k + 1) l ++ (get_or l (k + 1) d ∷ []) = rw (add-one (k + 1), take-suc l (k + 1) d, drop-append-le) in
-      record {
-        low = one ∙ rw (g.low, same, grow, append_assoc);
-        high = drop-set-lt (k + 1) s k v (omega arith) ∙ sym (drop-drop 1 k s) ∙ ap (drop 1) g.high ∙ drop-drop 1 k l;
-      }
+  pub gap_view : {B : Type 0} (f : A → B) → map f (take (n - 1) s) ≡ remove (map f (take n l)) i
+  gap_view f = rw gap_done (map_remove f (take n l) i)
 
-  -- what the loop leaves: the list without its place i
-  pub gap_done : (k n m : ℕ) (s : List A) → i ≤ k → n ≡ k + 1 → m ≡ k → Gap l i k s → take m s ≡ remove (take n l) i
-  gap_done k n m s h e z g =
-      ap (λ (j : ℕ). take j s) z ∙ g.low ∙ rw (e, ← take-take i (k + 1) l (omega arith)) (remove_split (take (k + 1) l) i)
-
-  pub gap_view : {B : Type 0} (f : A → B) (k n m : ℕ) (s : List A) → i ≤ k → n ≡ k + 1 → m ≡ k → Gap l i k s → map f (take m s) ≡ remove (map f (take n l)) i
-  gap_view f k n m s h e z g = rw (gap_done k n m s h e z g) (map_remove f (take n l) i)
-
-  pub gap_every : (f : A → Bool) (k n m : ℕ) (s : List A) → i ≤ k → n ≡ k + 1 → m ≡ k → Gap l i k s → every f (take n l) ≡ true → every f (take m s) ≡ true
-  gap_every f k n m s h e z g p = rw (gap_done k n m s h e z g) (every_remove f (take n l) i p)
+  pub gap_every : (f : A → Bool) → every f (take n l) ≡ true → every f (take (n - 1) s) ≡ true
+  gap_every f p = rw gap_done (every_remove f (take n l) i p)
 
 -- a conjunction, test by test
 pub stops : (a b : Bool) → a ≡ false → false ≡ a & b
@@ -129,6 +118,33 @@ stops a b e = rw e
 pub goes_on : (a b r : Bool) → a ≡ true → r ≡ b → r ≡ a & b
 unfolding ◌&◌
 goes_on a b r e p = rw e p
+
+-- the code's `&&`: the test t of the first passes, and r is what the second says; it fails
+pub and_then : (a b : Bool) {t r : Bool} → t ≡ a → t ≡ true → r ≡ b → r ≡ a & b
+and_then a b e p q = goes_on a b _ (sym e ∙ p) q
+
+pub and_else : (a b : Bool) {t : Bool} → t ≡ a → t ≡ false → t ≡ a & b
+and_else a b e p = p ∙ stops a b (sym e ∙ p)
+
+-- the library's `all` of a list, and of the places of a list
+and_same : (b : Bool) {x y : Bool} → x ≡ y → b && x ≡ b & y
+unfolding ◌&◌
+and_same true e = e
+and_same false e = refl
+
+pub all_every : {A : Type 0} (f : A → Bool) (l : List A) → list_all f l ≡ every f l
+all_every f [] = refl
+all_every f (x ∷ l) = and_same (f x) (all_every f l)
+
+module _ {A : Type 0} (f : A → Bool) (g : ℕ → Bool) (l : List A) (d : A) where
+  all_from : (a n : ℕ) → a + n ≤ length l → ((k : ℕ) → k < a + n → g k ≡ f (get_or l k d)) → list_all g (range_with_len a n) ≡ every f (take n (drop a l))
+  all_from a zero h e = refl
+  all_from a (suc n) h e =
+      let rest = all_from (a + 1) n (omega arith) (λ k m. e k (omega arith)) in
+      rw (drop-cons l a d (omega arith), ← add-one a, e a (omega arith)) (and_same (f (get_or l a d)) rest)
+
+  pub all_places : (n : ℕ) → n ≤ length l → ((k : ℕ) → k < n → g k ≡ f (get_or l k d)) → list_all g (range_with_len 0 n) ≡ every f (take n l)
+  all_places n h e = all_from 0 n (omega arith) (λ k m. e k (omega arith))
 
 -- THE LAWS OF A COUNT WITHIN ITS ARRAY, with a test of every held element
 module _ {A : Type 0} (g : A → Bool) (l : List A) (cap : ℕ) (full : length l ≡ cap) where
@@ -140,19 +156,5 @@ module _ {A : Type 0} (g : A → Bool) (l : List A) (cap : ℕ) (full : length l
   pub fits_put : (n i : ℕ) (a : A) → i < n → (leb n cap & every g (take n l)) & g a ≡ true → leb n cap & every g (take n (set l i a)) ≡ true
   fits_put n i a h p = both _ _ (fst _ _ (fst _ _ p)) (every_put g l n i a h (snd _ _ (fst _ _ p)) (snd _ _ p))
 
-  pub fits_gap : (i k n m : ℕ) (s : List A) → i ≤ k → n ≡ k + 1 → m ≡ k → Gap l i k s → leb n cap & every g (take n l) ≡ true → leb m cap & every g (take m s) ≡ true
-  fits_gap i k n m s h e z d p =
-      let q = leb-true n cap (fst _ _ p) in
-      both _ _ (le-leb m cap (omega arith)) (gap_every l i g k n m s h e z d (snd _ _ p))
-
-  -- the ways that a test in a loop ends
-  pub fits_long : (n : ℕ) → cap < n → false ≡ leb n cap & every g (take n l)
-  unfolding ◌&◌
-  fits_long n h = rw (lt-leb n cap h)
-
-  pub fits_fails : (k n : ℕ) (d : A) → k < n → n ≤ cap → g (get_or l k d) ≡ false → false ≡ leb n cap & every g (take n l)
-  unfolding ◌&◌
-  fits_fails k n d h m e = rw (le-leb n cap m) (sym (every_fails g l k n d h (omega arith) e))
-
-  pub fits_all : (k n : ℕ) → k ≡ n → n ≤ cap → every g (take k l) ≡ true → true ≡ leb n cap & every g (take n l)
-  fits_all k n e h p = sym (both _ _ (le-leb n cap h) (rw e at p))
+  pub fits_gap : (s : List A) (i n : ℕ) → i < n → n ≤ cap → s ≡ paste l i (drop (i + 1) l) (n - (i + 1)) → leb n cap & every g (take n l) ≡ true → leb (n - 1) cap & every g (take (n - 1) s) ≡ true
+  fits_gap s i n h m e p = both _ _ (le-leb (n - 1) cap (omega arith)) (gap_every l s i n h (omega arith) e g (snd _ _ p))

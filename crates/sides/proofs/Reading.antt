@@ -1,12 +1,13 @@
 -- What each function that reads answers, as the definitions of specs/Layout.antt and specs/Environments.antt say it.
-use Prim.Native.Nat.{ℕ, suc, ◌+◌, ◌-◌, ◌*◌, ◌<◌, ◌≤◌, min}
+use Prim.Native.Nat.{ℕ, zero, suc, ◌+◌, ◌-◌, ◌*◌, ◌<◌, ◌≤◌, min}
 use mathlib.Core.Path.{◌≡◌, refl, sym, ◌∙◌, ap}
-use mathlib.Core.Bool.{Bool, true}
+use mathlib.Core.Bool.{Bool, true, false}
 use mathlib.Core.List.{List, []}
+use mathlib.Core.Logic.{◌≢◌}
 use native.Mathlib.Nat.{add-sub_cancel_left}
 use native.Mathlib.Omega.{arith}
-use borrow.Author.Tests.{eq-eqb, ne_eqb, leb-true}
-use lib.Dec.{leb}
+use borrow.Author.Tests.{eq-eqb, ne_eqb, eqb-true, eqb-false, leb-true}
+use lib.Dec.{leb, eqb}
 use lib.ListN.{length, take, drop, get_or, length-drop}
 use lib.Seq.{take_all, length-take-le, drop-drop}
 use Rattle.model.specs.Basics.{◌&◌, every}
@@ -34,13 +35,13 @@ pub place_short : (v : List ℕ) → fits_place v ≡ true → get_or v 0 0 ≤ 
 unfolding fits_place
 place_short v e = leb-true (get_or v 0 0) 16 e
 
-pub value_read : (v : List ℕ) (n e : ℕ) (r : Value) → n ≡ get_or v 0 0 → e ≡ n + 1 → length v ≡ 17 → fits_place v ≡ true → Stores (take (e - 1) (drop 1 v)) r → ValueIs (view_place v) r
+pub value_read : (v : List ℕ) (r : Value) → length v ≡ 17 → fits_place v ≡ true → Stores (take (get_or v 0 0 + 1 - 1) (drop 1 v)) r → ValueIs (view_place v) r
 unfolding view_place
-value_read v n e r p q h f s =
+value_read v r h f s =
     let m = place_short v f in
     let x : List ℕ = take (get_or v 0 0) (drop 1 v) in
-    let en : e - 1 ≡ get_or v 0 0 = omega arith in
-    let same : take (e - 1) (drop 1 v) ≡ x = ap (λ (k : ℕ). take k (drop 1 v)) en in
+    let en : get_or v 0 0 + 1 - 1 ≡ get_or v 0 0 = omega arith in
+    let same : take (get_or v 0 0 + 1 - 1) (drop 1 v) ≡ x = ap (λ (k : ℕ). take k (drop 1 v)) en in
     let xl : length x ≡ get_or v 0 0 = length-take-le (get_or v 0 0) (drop 1 v) (omega (arith, length-drop 1 v)) in
     let count : min 17 r.len ≡ min 17 (length x) = s.count ∙ ap (λ (y : List ℕ). min 17 (length y)) same in
     record { view = s.words ∙ ap (take 16) same ∙ take_all 16 x (omega arith); short = omega arith }
@@ -79,20 +80,27 @@ pub row_fits_output : (r : List ℕ) → get_or r 0 0 ≡ 1 → leb (get_or r 8 
 unfolding fits_row
 row_fits_output r e = rw (eq-eqb (get_or r 0 0) 1 e) (sym (place_fits r 0 _ (omega arith) refl))
 
-pub row_fits_input : (r : List ℕ) (n : ℕ) (b : Bool) → n ≡ get_or r 6 0 → (get_or r 0 0 ≡ 1 → ⊥) → b ≡ leb n 8 & every fits_place (take n (places_of r)) → b ≡ fits_row r
+pub row_fits_input : (r : List ℕ) (b : Bool) → (get_or r 0 0 ≡ 1 → ⊥) → b ≡ leb (get_or r 6 0) 8 & every fits_place (take (get_or r 6 0) (places_of r)) → b ≡ fits_row r
 unfolding fits_row
-row_fits_input r n b z m e = rw (ne_eqb (get_or r 0 0) 1 m, ← z) e
+row_fits_input r b m e = rw (ne_eqb (get_or r 0 0) 1 m) e
 
--- THE LAST PLACE OF A NAME, from the last name down
-module _ (e : List ℕ) (w d x : ℕ) where
-  pub last_hit : (k j : ℕ) → suc j ≡ k → get_or e j 0 ≡ w → x ≡ last_of e k w d → j ≡ x
+-- THE LAST PLACE OF A NAME
+module _ (e : List ℕ) (w d : ℕ) where
+  pub last_none : (n : ℕ) → ((j : ℕ) → j < n → get_or e j 0 ≢ w) → d ≡ last_of e n w d
   unfolding last_of
-  last_hit k j z q p = sym (p ∙ ap (λ (m : ℕ). last_of e m w d) (sym z) ∙ rw (eq-eqb (get_or e j 0) w q))
+  last_none zero h = refl
+  last_none (suc n) h = rw (ne_eqb (get_or e n 0) w (h n (omega arith))) (last_none n (λ j m. h j (omega arith)))
 
-  pub last_miss : (k j : ℕ) → suc j ≡ k → (get_or e j 0 ≡ w → ⊥) → x ≡ last_of e k w d → x ≡ last_of e j w d
+  pub last_is : (n k : ℕ) → k < n → get_or e k 0 ≡ w → ((j : ℕ) → k < j → j < n → get_or e j 0 ≢ w) → k ≡ last_of e n w d
   unfolding last_of
-  last_miss k j z q p = p ∙ ap (λ (m : ℕ). last_of e m w d) (sym z) ∙ rw (ne_eqb (get_or e j 0) w q)
-
-  pub last_none : (k : ℕ) → k ≡ 0 → x ≡ last_of e k w d → d ≡ x
-  unfolding last_of
-  last_none k z p = sym (p ∙ ap (λ (m : ℕ). last_of e m w d) z)
+  last_is zero k m p h = absurd (omega arith)
+  last_is (suc n) k m p h = go (eqb k n) refl (λ b. last_is n k b p (λ j a c. h j a (omega arith)))
+    where
+      go : (t : Bool) → eqb k n ≡ t → (k < n → k ≡ last_of e n w d) → k ≡ last_of e (suc n) w d
+      go true z f =
+          let same : k ≡ n = eqb-true k n z in
+          rw (eq-eqb (get_or e n 0) w (ap (λ (j : ℕ). get_or e j 0) (sym same) ∙ p)) same
+      go false z f =
+          let other : k ≡ n → ⊥ = eqb-false k n z in
+          let below : k < n = omega arith in
+          rw (ne_eqb (get_or e n 0) w (h n below (omega arith))) (f below)

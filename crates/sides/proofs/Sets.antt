@@ -7,7 +7,7 @@ use native.Mathlib.Numerals.{add-one}
 use native.Mathlib.Omega.{arith}
 use borrow.Rule.Slice.PartMut.{mid_of, post_of, put_mid, put_same}
 use lib.ListN.{length, take, drop, get_or, set, length-set}
-use lib.Seq.{sets, sets-eq, take_at, drop_at, take-suc, length-take-le, set-append_left, set_comm, take-set-le, take-set-lt, drop-set-lt, drop-set-add, get_or-set_same, get_or-set_other}
+use lib.Seq.{sets, sets-eq, paste, take_at, drop_at, take-suc, length-take-le, set-append_left, set_comm, take-set-le, take-set-lt, drop-set-lt, drop-set-add, get_or-set_same, get_or-set_other}
 
 -- where a run's second store stands
 next : (i : ℕ) (n : ℕ) → i + suc n ≡ suc i + n
@@ -24,6 +24,12 @@ sets_turn l s x i k z h q =
     let e : length (take k s) ≡ k = length-take-le k s (omega arith) in
     ap (λ (y : List ℕ). set y (i + k) (get_or s k z)) q ∙ ap (λ (j : ℕ). set (sets l i (take k s)) (i + j) (get_or s k z)) (sym e) ∙
     sets_append (take k s) (get_or s k z ∷ []) l i ∙ ap (sets l i) (sym (take-suc s k z h) ∙ ap (λ (n : ℕ). take n s) (sym (add-one k)))
+
+-- words written over a part in one go
+pub paste_sets : (l s : List ℕ) (a n : ℕ) → n ≤ length s → a + n ≤ length l → paste l a s n ≡ sets l a (take n s)
+paste_sets l s a n h m =
+    let e : length (take n s) ≡ n = length-take-le n s h in
+    sym (sets-eq (take n s) l a (rw e m) ∙ ap (λ (k : ℕ). take a l ++ take n s ++ drop (a + k) l) e)
 
 -- a store below a run may come first
 pub set_sets : (vs l : List ℕ) (i j a : ℕ) → i < j → set (sets l j vs) i a ≡ sets (set l i a) j vs

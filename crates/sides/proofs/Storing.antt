@@ -1,53 +1,46 @@
 -- What each function that writes leaves, as the definitions of specs/Stored.antt say it.
 use Prim.Native.Nat.{ℕ, suc, ◌+◌, ◌-◌, ◌*◌, ◌<◌, ◌≤◌}
-use mathlib.Core.Path.{◌≡◌, sym, ◌∙◌, ap}
+use mathlib.Core.Path.{◌≡◌, refl, sym, ◌∙◌, ap}
 use mathlib.Core.List.{List, [], ◌∷◌}
 use native.Mathlib.Nat.{add-zero, zero-add}
 use native.Mathlib.Numerals.{add-one}
 use native.Mathlib.Omega.{arith}
 use borrow.Rule.Slice.PartMut.{mid_of, put_mid}
 use lib.ListN.{length, take, drop, get_or, set, length-set, length-take, length-drop}
-use lib.Seq.{sets, length-sets, length-take-le, take_all, get_or-drop}
+use lib.Seq.{sets, paste, length-sets, length-take-le, take_all, get_or-drop}
+use Rattle.std.proofs.lemmas.Slice.{put_mid-paste}
 use Rattle.values.specs.declared.Value.{Value}
 use Rattle.values.specs.Env.{view_value}
 use Rattle.sides.specs.declared.Tag.{Tag}
 use Rattle.sides.specs.declared.Output.{Output}
 use Rattle.sides.specs.Layout.{row_at}
 use Rattle.sides.specs.Stored.{kind_of, name_of, placed, head_put, sent_put, output_put, moved_to, box_put, shelf_put, values_put, input_put, row_gone}
-use Rattle.sides.proofs.Sets.{set_sets, sets_turn, get_d_sets_above, sets_lent, run_lent}
+use Rattle.sides.proofs.Sets.{set_sets, sets_turn, paste_sets, sets_lent, run_lent}
 use Rattle.sides.proofs.Parts.{part_lent, part_behind, part_length}
-
--- a value in its place, when the loop ends
-pub value_stored : (v s : List ℕ) (x : Value) (k : ℕ) → k ≡ x.len → x.len ≤ 16 → length x.words ≡ 16 → s ≡ sets (set v 0 x.len) 1 (take k x.words) → s ≡ placed v 0 (view_value x)
-unfolding placed
-value_stored v s x k z h full e =
-    let n : length (view_value x) ≡ x.len = length-take-le x.len x.words (omega arith) in
-    e ∙ ap (λ (j : ℕ). sets (set v 0 x.len) 1 (take j x.words)) z ∙ ap (λ (j : ℕ). sets (set v 0 j) 1 (view_value x)) (sym n)
-
--- words copied, when the loop ends
-pub all_stored : (v s x : List ℕ) (i k : ℕ) → k ≡ length s → x ≡ sets v i (take k s) → x ≡ sets v i s
-all_stored v s x i k z e = e ∙ ap (sets v i) (take_all k s (omega arith))
 
 -- a turn of a loop that copies from place j of s on
 pub part_turn : (l s x : List ℕ) (i j k : ℕ) → j + k < length s → x ≡ sets l i (take k (drop j s)) → set x (i + k) (get_or s (j + k) 0) ≡ sets l i (take (k + 1) (drop j s))
 part_turn l s x i j k h e = ap (set x (i + k)) (sym (get_or-drop j s k 0)) ∙ sets_turn l (drop j s) x i k 0 (omega (arith, length-drop j s)) e
 
--- values copied, when the loop ends
-pub values_stored : (d s x : List ℕ) (n k : ℕ) → k ≡ 17 * n → x ≡ sets d 8 (take k (drop 8 s)) → x ≡ values_put d 0 s n
+-- the words s copied over the k words at a
+pub copied : (l r s : List ℕ) (a k : ℕ) → k ≡ length s → a + k ≤ length l → r ≡ s → put_mid a k l r ≡ sets l a s
+copied l r s a k e h q = put_mid-paste a k l r s k q refl e ∙ paste_sets l s a k (omega arith) h ∙ ap (sets l a) (take_all k s (omega arith))
+
+-- the first n values of s copied
+pub values_copied : (d s r : List ℕ) (n : ℕ) → length d ≡ 144 → length s ≡ 144 → n ≤ 8 → r ≡ take (8 + 17 * n - 8) (drop 8 s) → put_mid 8 (8 + 17 * n - 8) d r ≡ values_put d 0 s n
 unfolding values_put
-values_stored d s x n k z e = e ∙ ap (λ (j : ℕ). sets d 8 (take j (drop 8 s))) z
+values_copied d s r n hd hs h q =
+    let k : 8 + 17 * n - 8 ≡ 17 * n = omega arith in
+    let e : length (take (17 * n) (drop 8 s)) ≡ 17 * n = length-take-le (17 * n) (drop 8 s) (omega (arith, length-drop 8 s)) in
+    copied d r (take (17 * n) (drop 8 s)) 8 (8 + 17 * n - 8) (k ∙ sym e) (omega arith) (q ∙ ap (λ (j : ℕ). take j (drop 8 s)) k)
 
--- a turn of the loop that closes a gap of w words at a: what it reads stands as it stood
-pub gap_turn : (l x : List ℕ) (a w k : ℕ) → a + w + k < length l → x ≡ sets l a (take k (drop (a + w) l)) → set x (a + k) (get_or x (a + w + k) 0) ≡ sets l a (take (k + 1) (drop (a + w) l))
-gap_turn l x a w k h e =
-    let s : List ℕ = take k (drop (a + w) l) in
-    let m : length s ≤ k = omega (arith, length-take k (drop (a + w) l)) in
-    let same : get_or x (a + w + k) 0 ≡ get_or l (a + w + k) 0 = ap (λ (y : List ℕ). get_or y (a + w + k) 0) e ∙ get_d_sets_above s l a (a + w + k) 0 (omega arith) in
-    ap (set x (a + k)) same ∙ part_turn l l x a (a + w) k h e
-
-pub gap_closed : (l x : List ℕ) (i n k : ℕ) → k ≡ 144 * (n - 1 - i) → x ≡ sets l (144 * i) (take k (drop (144 * i + 144) l)) → x ≡ row_gone l i n
+-- the rows above row i, moved down a row
+pub rows_down : (l : List ℕ) (i n : ℕ) → length l ≡ 5184 → i < n → n ≤ 32 → paste l (144 * i) (drop (144 * i + 144) l) (144 * n - (144 * i + 144)) ≡ row_gone l i n
 unfolding row_gone
-gap_closed l x i n k z e = e ∙ ap (λ (j : ℕ). sets l (144 * i) (take j (drop (144 * i + 144) l))) z
+rows_down l i n long h m =
+    let k : 144 * n - (144 * i + 144) ≡ 144 * (n - 1 - i) = omega arith in
+    let s : List ℕ = drop (144 * i + 144) l in
+    ap (paste l (144 * i) s) k ∙ paste_sets l s (144 * i) (144 * (n - 1 - i)) (omega (arith, length-drop (144 * i + 144) l)) (omega arith)
 
 -- words put into a place after they are appended: the length comes last
 pub words_stored : (v y s : List ℕ) (n : ℕ) → n ≡ 0 + length s → y ≡ sets v (1 + 0) s → set y 0 n ≡ placed v 0 s
@@ -73,7 +66,7 @@ move_stored l a box t k n p q =
     ap (set (set (set l (a + 1) box) (a + 3) (kind_of t)) (suc (a + 3))) q
 
 -- how long a value that fits is
-value_length : (x : Value) → x.len ≤ 16 → length (view_value x) ≤ 16
+pub value_length : (x : Value) → x.len ≤ 16 → length (view_value x) ≤ 16
 value_length x h = omega (arith, length-take x.len x.words)
 
 -- a place lent: a value put there is put at its place of the whole
@@ -92,20 +85,6 @@ shelf_back l v i x long h m e =
     let mid : length (mid_of a k l) ≡ 17 = ap length (part_behind 17 32 4640 l i h) ∙ part_length 17 32 (drop 4640 l) i h (omega (arith, length-drop 4640 l)) in
     ap (put_mid a k l) e ∙ place_back l a k (view_value x) (omega arith) (omega (arith, value_length x m))
 
--- an output in the words of a row, its first place lent
-pub output_stored : (r v : List ℕ) (o : Output) (k n : ℕ) → length r ≡ 144 → o.value.len ≤ 16 → k ≡ kind_of o.tag → n ≡ name_of o.tag →
-    v ≡ placed (mid_of 8 17 (sets r 0 (1 ∷ o.at ∷ o.channel ∷ k ∷ n ∷ []))) 0 (view_value o.value) →
-    put_mid 8 17 (sets r 0 (1 ∷ o.at ∷ o.channel ∷ k ∷ n ∷ [])) v ≡ output_put r 0 o
-unfolding head_put sent_put output_put
-output_stored r v o k n h m p q e =
-    let x : List ℕ = view_value o.value in
-    let s : List ℕ = sets r 0 (1 ∷ o.at ∷ o.channel ∷ k ∷ n ∷ []) in
-    let sl : length s ≡ 144 = length-sets r 0 (1 ∷ o.at ∷ o.channel ∷ k ∷ n ∷ []) ∙ h in
-    let short : length x ≤ 16 = value_length o.value m in
-    let mid : length (mid_of 8 17 s) ≡ 17 = length-take-le 17 (drop 8 s) (omega (arith, length-drop 8 s)) in
-    ap (put_mid 8 17 s) e ∙ place_back s 8 17 x (omega arith) (omega arith) ∙ ap (λ (j : ℕ). placed (sets r 0 (1 ∷ o.at ∷ o.channel ∷ j ∷ n ∷ [])) 8 x) p ∙
-    ap (λ (j : ℕ). placed (sets r 0 (1 ∷ o.at ∷ o.channel ∷ kind_of o.tag ∷ j ∷ [])) 8 x) q
-
 -- A ROW LENT: what is written there is written at its place of the whole
 module _ (l : List ℕ) (i : ℕ) (long : length l ≡ 5184) (h : i < 32) where
   -- the row at a place, as the words that are lent
@@ -117,21 +96,6 @@ module _ (l : List ℕ) (i : ℕ) (long : length l ≡ 5184) (h : i < 32) where
 
   mid_length : length (mid_of (144 * i) (144 * i + 144 - 144 * i) l) ≡ 144
   mid_length = ap length row_lent ∙ row_length
-
-  pub output_back : (b : List ℕ) (o : Output) → o.value.len ≤ 16 → b ≡ output_put (mid_of (144 * i) (144 * i + 144 - 144 * i) l) 0 o →
-      put_mid (144 * i) (144 * i + 144 - 144 * i) l b ≡ output_put l (144 * i) o
-  unfolding placed head_put sent_put output_put
-  output_back b o m e =
-      let a : ℕ = 144 * i in
-      let w : ℕ = a + 144 - a in
-      let r : List ℕ = mid_of a w l in
-      let x : List ℕ = view_value o.value in
-      let t : List ℕ = 1 ∷ o.at ∷ o.channel ∷ kind_of o.tag ∷ name_of o.tag ∷ [] in
-      let ml : length r ≡ 144 = mid_length in
-      let short : length x ≤ 16 = value_length o.value m in
-      let start : a ≤ length l = omega arith in
-      ap (put_mid a w l) e ∙ sets_lent a w l start (length x ∷ x) (sets r 0 t) 8 (omega (arith, length-sets r 0 t)) ∙
-      ap (λ (y : List ℕ). sets y (a + 8) (length x ∷ x)) (run_lent a w l start t 0 (omega arith) ∙ ap (λ (j : ℕ). sets l j t) (add-zero a))
 
   -- the first words and the first place, lent one after the other
   pub sent_back : (b v : List ℕ) (box channel : ℕ) (t : Tag) (x : List ℕ) → length x ≤ 16 →

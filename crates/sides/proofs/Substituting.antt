@@ -91,15 +91,15 @@ module _ (e : List ℕ) (n w : ℕ) (long : length e ≡ 144) (h : n ≤ 8) wher
         omega (arith, place_word e k k8)
 
     -- the words that a slot lends
-    pub slot_words : (z : ℕ) → k ≡ last_of e n w n → z ≡ get_or e (8 + 17 * k) 0 → take (8 + 17 * k + 1 + z - (8 + 17 * k + 1)) (drop (8 + 17 * k + 1) e) ≡ value (env_of e n) w
+    pub slot_words : k ≡ last_of e n w n → let a = 8 + 17 * k in take (a + 1 + get_or e a 0 - (a + 1)) (drop (a + 1) e) ≡ value (env_of e n) w
     unfolding view_place
-    slot_words z p q =
+    slot_words p =
         let a : ℕ = 8 + 17 * k in
+        let z : ℕ = get_or e a 0 in
         let k8 : k < 8 = omega arith in
-        let small : get_or e a 0 ≤ 16 = slot_size in
+        let small : z ≤ 16 = slot_size in
         let place : get_or (places_of e) k [] ≡ take 17 (drop a e) = parts_at 17 8 (drop 8 e) k k8 ∙ ap (take 17) (drop-drop (17 * k) 8 e) in
-        let size : get_or (get_or (places_of e) k []) 0 0 ≡ z = place_word e k k8 ∙ sym q in
-        let view : view_place (get_or (places_of e) k []) ≡ take z (drop 1 (take 17 (drop a e))) = ap (λ (j : ℕ). take j (drop 1 (get_or (places_of e) k []))) size ∙ ap (λ (y : List ℕ). take z (drop 1 y)) place in
+        let view : view_place (get_or (places_of e) k []) ≡ take z (drop 1 (take 17 (drop a e))) = ap (λ (j : ℕ). take j (drop 1 (get_or (places_of e) k []))) (place_word e k k8) ∙ ap (λ (y : List ℕ). take z (drop 1 y)) place in
         ap (λ (j : ℕ). take j (drop (a + 1) e)) (add-sub_cancel_left (a + 1) z) ∙ ap (take z) (sym (drop-drop 1 a e)) ∙ sym (part_of_part z 1 17 (drop a e) (omega arith)) ∙ sym view ∙
         sym (slot_in e n w k m) ∙ sym (slot_says k p)
 

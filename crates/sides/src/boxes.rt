@@ -4,7 +4,6 @@ ghost use Rattle.sides.specs.Layout.{boxes_of, view_box};
 ghost use Rattle.sides.specs.Stored.{box_put};
 
 use crate::Rows;
-use crate::places::wide;
 
 // The name of box j.
 pub fn box_name(rows: &[u32], j: usize) -> u32
@@ -19,7 +18,7 @@ pub fn box_parent(rows: &[u32], j: usize) -> usize
     requires { (length rows.now ≡ 5184) × (j < 16) }
     ensures { (result ≡ (view_box (get_or (boxes_of rows.now) j [])).parent) × (result < 2 ^ 32) }
 {
-    wide(rows[Rows::BOXES + Rows::BOX * j + 1])
+    rows[Rows::BOXES + Rows::BOX * j + 1] as usize
 }
 
 // Box j: its name, and the box that it stands in.

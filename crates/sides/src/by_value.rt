@@ -11,10 +11,9 @@ impl Side {
     pub fn empty() -> Self
         ensures { SideIs no_side result }
     {
-        let rest = Rest::empty();
         Side {
             words: [0; Rows::WORDS],
-            rest,
+            rest: Rest::empty(),
             left: [false; Sides::MARKS],
         }
     }
@@ -25,13 +24,12 @@ impl Rest {
     pub fn empty() -> Self
         ensures { Nothing result }
     {
-        let lobby = Lobby::empty();
         Rest {
             particles: 0,
             boxes: 0,
             shelved: 0,
             minted: 0,
-            lobby,
+            lobby: Lobby::empty(),
             taken: [false; Sides::TAKEN],
         }
     }

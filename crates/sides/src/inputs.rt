@@ -9,12 +9,8 @@ pub(crate) fn copy_values(d: &mut [u32], s: &[u32], n: usize)
     requires { (length d.old ≡ 144) × (length s.now ≡ 144) × (n ≤ 8) }
     ensures { d.new ≡ values_put d.old 0 s.now n }
 {
-    let m = Rows::PLACE * n;
-    let mut k: usize = 0;
-    while k < m {
-        d[Rows::HEAD + k] = s[Rows::HEAD + k];
-        k += 1;
-    }
+    let z = Rows::HEAD + Rows::PLACE * n;
+    d[Rows::HEAD..z].copy_from_slice(&s[Rows::HEAD..z]);
 }
 
 // A waiting input into a row, with the first n values of e.

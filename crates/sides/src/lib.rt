@@ -38,7 +38,7 @@ pub struct Row;
 #[derive(Clone, Copy)]
 pub struct Sides;
 
-#[derive(Clone, Copy)]
+#[derive(Clone, Copy, PartialEq, Eq)]
 pub enum Status {
     Down,
     Arrived,
@@ -53,13 +53,15 @@ pub struct Message {
 }
 
 // At most 16 messages.
+// Stays an array with a length beside it: fixed memory, no heap. A caller may give a state with any length here; `fits_arrays` of
+// specs/Sides.antt is false of one past 16.
 #[derive(Clone, Copy)]
 pub struct Lobby {
     pub msgs: [Message; Side::LOBBY],
     pub len: usize,
 }
 
-#[derive(Clone, Copy)]
+#[derive(Clone, Copy, PartialEq, Eq)]
 pub enum Tag {
     Within,
     ToParent,
@@ -79,6 +81,7 @@ pub struct Output {
 
 // A side but for its words: how many particles, boxes and shelf values it has, how many names it has minted, its lobby, and which
 // shelf places it has taken.
+// Stays counts apart from the words that they count: fixed memory, no heap; and callers lend the words alone.
 #[derive(Clone, Copy)]
 pub struct Rest {
     pub particles: usize,

@@ -1,4 +1,5 @@
 // The limits of a side.
+// Stays a test for each limit: a shared one would be `n <= most`, which is what each body says.
 ghost use Rattle.std.specs.Prelude.{◌≡◌, leb};
 ghost use Rattle.model.specs.Basics.{◌&◌};
 
@@ -37,16 +38,13 @@ impl Side {
     }
 
     // Whether a side may have so many particles, boxes and minted names.
+    #[tactic(auto, using(crate::proofs::Lists::and_then, crate::proofs::Lists::and_else))]
     pub fn contents_within(particles: usize, boxes: usize, minted: usize) -> bool
         ensures { result ≡ leb particles 32 & (leb boxes 16 & leb minted 256) }
     {
-        if Side::particles_within(particles) {
-            if Side::boxes_within(boxes) {
-                return Side::minted_within(minted);
-            }
-            return false;
-        }
-        false
+        Side::particles_within(particles)
+            && Side::boxes_within(boxes)
+            && Side::minted_within(minted)
     }
 
     // Whether a side may have n lobby messages.

@@ -9,11 +9,21 @@ ghost use Rattle.sides.specs.Environments.{env_of};
 
 use crate::environment::put_substituted;
 use crate::inputs::{copy_values, write_input};
-use crate::outputs::{put_head, write_output};
-use crate::places::{value_in, wide};
+use crate::outputs::put_head;
+use crate::places::{put_value, value_in};
 use crate::tags::{tag_kind, tag_name, tag_of};
 use crate::{Output, Row, Rows, Side, Tag};
 use values::Value;
+
+// The words of row i.
+fn row(rows: &[u32], i: usize) -> &[u32]
+    requires { (length rows.now ≡ 5184) × (i < 32) }
+    ensures { (result.now ≡ row_at rows.now i) × (length result.now ≡ 144) }
+{
+    let a = Rows::WIDTH * i;
+    let z = a + Rows::WIDTH;
+    &rows[a..z]
+}
 
 // Word k of row i.
 pub fn word_at(rows: &[u32], i: usize, k: usize) -> u32
@@ -39,16 +49,6 @@ pub fn value_at(rows: &[u32], i: usize, k: usize) -> Value
     let a = Rows::WIDTH * i + Rows::HEAD + Rows::PLACE * k;
     let e = a + Rows::PLACE;
     value_in(&rows[a..e])
-}
-
-// An output at row i.
-pub(crate) fn put_output(rows: &mut [u32], i: usize, o: Output)
-    requires { (length rows.old ≡ 5184) × (i < 32) × (o.at < 2 ^ 32) × (o.value.len ≤ 16) }
-    ensures { rows.new ≡ output_put rows.old (144 * i) o }
-{
-    let a = Rows::WIDTH * i;
-    let e = a + Rows::WIDTH;
-    write_output(&mut rows[a..e], o);
 }
 
 // An output at row i, its value a table's with its bound names replaced. The caller has seen that it has at most 16 words then.
@@ -88,7 +88,11 @@ pub fn add_output(rows: &mut [u32], n: usize, o: Output) -> usize
     requires { (length rows.old ≡ 5184) × (n < 32) × (o.at < 2 ^ 32) × (o.value.len ≤ 16) }
     ensures { (result ≡ n + 1) × (rows.new ≡ output_put rows.old (144 * n) o) }
 {
-    put_output(rows, n, o);
+    let a = Rows::WIDTH * n;
+    let b = a + Rows::HEAD;
+    let z = b + Rows::PLACE;
+    put_head(&mut rows[a..b], o.at, o.channel, o.tag);
+    put_value(&mut rows[b..z], o.value);
     n + 1
 }
 
@@ -98,12 +102,9 @@ pub fn remove_row(rows: &mut [u32], i: usize, n: usize) -> usize
     ensures { (result ≡ n - 1) × (rows.new ≡ row_gone rows.old i n) }
 {
     let a = Rows::WIDTH * i;
-    let m = Rows::WIDTH * (n - 1 - i);
-    let mut k: usize = 0;
-    while k < m {
-        rows[a + k] = rows[a + Rows::WIDTH + k];
-        k += 1;
-    }
+    let b = a + Rows::WIDTH;
+    let z = Rows::WIDTH * n;
+    rows.copy_within(b..z, a);
     n - 1
 }
 
@@ -122,9 +123,7 @@ pub fn take_values(e: &mut [u32], rows: &[u32], i: usize, n: usize)
     requires { (length e.old ≡ 144) × (length rows.now ≡ 5184) × (i < 32) × (n ≤ 8) }
     ensures { e.new ≡ values_put e.old 0 (row_at rows.now i) n }
 {
-    let a = Rows::WIDTH * i;
-    let z = a + Rows::WIDTH;
-    copy_values(e, &rows[a..z], n);
+    copy_values(e, row(rows, i), n);
 }
 
 // Whether a row's counts are within their places.
@@ -133,21 +132,11 @@ fn row_fits(r: &[u32]) -> bool
     ensures { result ≡ fits_row r.now }
 {
     if r[Row::OUTPUT] == 1 {
-        return Value::length_within(wide(r[Rows::HEAD]));
+        return Value::length_within(r[Rows::HEAD] as usize);
     }
-    let n = wide(r[Row::HELD]);
-    if Rows::VALUES < n {
-        return false;
-    }
-    let mut k: usize = 0;
-    while k < n {
-        if Value::length_within(wide(r[Rows::HEAD + Rows::PLACE * k])) {
-            k += 1;
-        } else {
-            return false;
-        }
-    }
-    true
+    let n = r[Row::HELD] as usize;
+    n <= Rows::VALUES
+        && (0..n).all(|k| Value::length_within(r[Rows::HEAD + Rows::PLACE * k] as usize))
 }
 
 // The array test: at most 32 rows are held, and each one's counts are within their places.
@@ -155,18 +144,5 @@ pub fn rows_fit(rows: &[u32], n: usize) -> bool
     requires { length rows.now ≡ 5184 }
     ensures { result ≡ fits_rows rows.now n }
 {
-    if !Side::particles_within(n) {
-        return false;
-    }
-    let mut k: usize = 0;
-    while k < n {
-        let a = Rows::WIDTH * k;
-        let z = a + Rows::WIDTH;
-        if row_fits(&rows[a..z]) {
-            k += 1;
-        } else {
-            return false;
-        }
-    }
-    true
+    Side::particles_within(n) && (0..n).all(|k| row_fits(row(rows, k)))
 }

@@ -7,11 +7,10 @@ ghost use Rattle.sides.specs.Holding.{LobbyIs};
 use crate::{Lobby, Message, Side, Status};
 use values::Value;
 
-fn message_fits(m: Message) -> bool
-    ensures { result ≡ fits_message m }
+fn message_fits(m: &Message) -> bool
+    ensures { result ≡ fits_message m.now }
 {
-    let v = m.value;
-    Value::length_within(v.len)
+    Value::length_within(m.value.len)
 }
 
 impl Message {
@@ -31,13 +30,8 @@ impl Lobby {
     pub fn empty() -> Self
         ensures { LobbyIs [] 0 true result }
     {
-        let v = Value::none();
         Lobby {
-            msgs: [Message {
-                status: Status::Down,
-                channel: 0,
-                value: v,
-            }; Side::LOBBY],
+            msgs: [Message::new(Status::Down, 0, Value::none()); Side::LOBBY],
             len: 0,
         }
     }
@@ -47,9 +41,8 @@ impl Lobby {
         requires { self.len < 16 }
         ensures { LobbyIs (view_lobby self ++ (view_message m ∷ [])) (self.len + 1) (fits_lobby self & fits_message m) result }
     {
-        let at = self.len;
-        self.msgs[at] = m;
-        self.len = at + 1;
+        self.msgs[self.len] = m;
+        self.len += 1;
         self
     }
 
@@ -58,14 +51,9 @@ impl Lobby {
         requires { (i < self.len) × (self.len ≤ 16) }
         ensures { LobbyIs (remove (view_lobby self) i) (self.len - 1) (fits_lobby self) result }
     {
-        let last = self.len - 1;
-        let mut k = i;
-        while k < last {
-            let m = self.msgs[k + 1];
-            self.msgs[k] = m;
-            k += 1;
-        }
-        self.len = last;
+        let n = self.len;
+        self.msgs.copy_within(i + 1..n, i);
+        self.len = n - 1;
         self
     }
 
@@ -82,19 +70,6 @@ impl Lobby {
     pub fn fits(self) -> bool
         ensures { result ≡ fits_lobby self }
     {
-        let n = self.len;
-        if !Side::lobby_within(n) {
-            return false;
-        }
-        let mut k: usize = 0;
-        while k < n {
-            let x = self.msgs[k];
-            if message_fits(x) {
-                k += 1;
-            } else {
-                return false;
-            }
-        }
-        true
+        Side::lobby_within(self.len) && self.msgs[..self.len].iter().all(message_fits)
     }
 }

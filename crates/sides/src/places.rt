@@ -7,21 +7,13 @@ ghost use Rattle.sides.specs.Stored.{placed};
 
 use values::Value;
 
-// A word as a number of places.
-pub(crate) fn wide(x: u32) -> usize
-    ensures { result ≡ x }
-{
-    x as usize
-}
-
 // The value in a place.
 pub(crate) fn value_in(v: &[u32]) -> Value
     requires { (length v.now ≡ 17) × (fits_place v.now ≡ true) }
     ensures { ValueIs (view_place v.now) result }
 {
-    let n = wide(v[0]);
-    let e = n + 1;
-    Value::of(&v[1..e])
+    let n = v[0] as usize;
+    Value::of(&v[1..=n])
 }
 
 // A value into a place: the words behind it stay.
@@ -29,13 +21,7 @@ pub(crate) fn put_value(v: &mut [u32], x: Value)
     requires { (length v.old ≡ 17) × (x.len ≤ 16) }
     ensures { v.new ≡ placed v.old 0 (view_value x) }
 {
-    let n = x.len;
-    v[0] = n as u32;
-    let mut k: usize = 0;
-    while k < n {
-        v[1 + k] = x.words[k];
-        k += 1;
-    }
+    put_words(v, &x.words[..x.len]);
 }
 
 // The words s into a place: the words behind them stay.
@@ -52,11 +38,8 @@ pub(crate) fn append_words(v: &mut [u32], m: usize, s: &[u32]) -> usize
     requires { (length v.old ≡ 17) × (m + length s.now ≤ 16) }
     ensures { (result ≡ m + length s.now) × (v.new ≡ sets v.old (1 + m) s.now) }
 {
-    let n = s.len();
-    let mut k: usize = 0;
-    while k < n {
-        v[1 + m + k] = s[k];
-        k += 1;
-    }
-    m + n
+    let a = 1 + m;
+    let z = a + s.len();
+    v[a..z].copy_from_slice(s);
+    m + s.len()
 }

@@ -4,7 +4,7 @@ ghost use Rattle.values.specs.Env.{view_value};
 ghost use Rattle.sides.specs.Layout.{shelf_of, view_place, fits_place, fits_shelf, ValueIs};
 ghost use Rattle.sides.specs.Stored.{shelf_put};
 
-use crate::places::{put_value, value_in, wide};
+use crate::places::{put_value, value_in};
 use crate::{Rows, Side};
 use values::Value;
 
@@ -33,16 +33,6 @@ pub fn shelf_fits(rows: &[u32], n: usize) -> bool
     requires { length rows.now ≡ 5184 }
     ensures { result ≡ fits_shelf rows.now n }
 {
-    if !Side::shelf_within(n) {
-        return false;
-    }
-    let mut k: usize = 0;
-    while k < n {
-        if Value::length_within(wide(rows[Rows::SHELF + Rows::PLACE * k])) {
-            k += 1;
-        } else {
-            return false;
-        }
-    }
-    true
+    Side::shelf_within(n)
+        && (0..n).all(|k| Value::length_within(rows[Rows::SHELF + Rows::PLACE * k] as usize))
 }

@@ -76,14 +76,11 @@ fn is_for(at: usize, start: Start, side: u32) -> bool {
 
 // The lines of a part of the list.
 pub fn cases(start: Start, side: u32, from: usize, to: usize)
-    requires { to ≤ 55 }
+    requires { (from ≤ to) × (to ≤ 55) }
 {
-    let mut k = from;
-    while k < to {
-        let row = ROWS[k];
-        if is_for(row[0], start, side) {
-            case(row[1] == 1, start, side, row[2], row[3]);
+    for &[at, good, what, n] in &ROWS[from..to] {
+        if is_for(at, start, side) {
+            case(good == 1, start, side, what, n);
         }
-        k += 1;
     }
 }

@@ -35,10 +35,7 @@ const INPUTS: [[usize; 5]; 27] = [
 
 // The lines of the list.
 pub fn inputs(start: Start, side: u32) {
-    let mut k: usize = 0;
-    while k < 27 {
-        let row = INPUTS[k];
-        input_case(row[0] == 1, start, side, row[1], row[2], row[3], row[4]);
-        k += 1;
+    for &[good, at, node, n, w] in &INPUTS {
+        input_case(good == 1, start, side, at, node, n, w);
     }
 }

@@ -1,23 +1,19 @@
 // Load, a step and the question `stranded`, with one pool for both sides, and how the lines about them begin.
-ghost use Rattle.std.specs.Prelude.{◌≤◌};
-
 use interpreter::{Stepped, load, step, stranded};
-use listing::Listed;
+use listing::TooShort;
 use sides::State;
 use test_output::{number, word, write};
 use test_schedules::shown::words;
 
-// So many, or none.
-fn count_if(lent: bool, n: usize) -> usize
-    ensures { result ≤ n }
-{
-    if lent { n } else { 0 }
+// The words where they are lent, else none.
+fn lent_if(lent: bool, words: &[u32]) -> &[u32] {
+    if lent { words } else { &[] }
 }
 
 // The state that load gives. Where side 2 has no nodes it has no pool.
 pub fn start<'a>(wrapper: u32, nodes1: &'a [u32], nodes2: &'a [u32], pool: &[u32]) -> State {
-    let n = count_if(0 < nodes2.len(), pool.len());
-    let a = load(wrapper, [nodes1, nodes2], [pool, &pool[0..n]]);
+    let pool2 = lent_if(!nodes2.is_empty(), pool);
+    let a = load(wrapper, [nodes1, nodes2], [pool, pool2]);
     a.state
 }
 
@@ -32,13 +28,12 @@ pub fn stepped<'a>(
     side: u32,
     i: usize,
 ) -> Stepped {
-    let n = count_if(0 < nodes2.len(), pool.len());
-    let m = count_if(kind == 1, pool.len());
-    let given = &pool[0..m];
+    let pool2 = lent_if(!nodes2.is_empty(), pool);
+    let given = lent_if(kind == 1, pool);
     step(
         wrapper,
         [nodes1, nodes2],
-        [pool, &pool[0..n]],
+        [pool, pool2],
         s,
         kind,
         side,
@@ -65,20 +60,15 @@ pub fn after<'a>(
 
 // A wrapper's name, or its number where it is none.
 fn wrapper_name(wrapper: u32) {
-    if wrapper == 1 {
-        write(b" filter");
-        return;
+    match wrapper {
+        1 => write(b" filter"),
+        2 => write(b" pipeline"),
+        3 => write(b" logging"),
+        _ => {
+            write(b" wrapper");
+            word(wrapper);
+        },
     }
-    if wrapper == 2 {
-        write(b" pipeline");
-        return;
-    }
-    if wrapper == 3 {
-        write(b" logging");
-        return;
-    }
-    write(b" wrapper");
-    word(wrapper);
 }
 
 // How a line begins: what is asked, the wrapper, the side that is asked, and what the state or the tables are.
@@ -93,10 +83,10 @@ pub fn begin(question: &[u8], name: &[u8], wrapper: u32, side: u32) {
 }
 
 // How many positions there are, or 22.
-fn count(l: Listed) {
+fn count(l: Result<usize, TooShort>) {
     match l {
-        Listed::Count(n) => number(n),
-        Listed::TooShort => write(b" too short (22)"),
+        Ok(n) => number(n),
+        Err(TooShort) => write(b" too short (22)"),
     }
 }
 
@@ -113,18 +103,10 @@ pub fn line<'a>(
     room: usize,
 ) {
     begin(b"stranded", name, wrapper, side);
-    let n = count_if(0 < nodes2.len(), pool.len());
+    let pool2 = lent_if(!nodes2.is_empty(), pool);
     let mut list = [7u32; 18];
-    if room <= 18 {
-        let lent = &mut list[0..room];
-        count(stranded(
-            wrapper,
-            [nodes1, nodes2],
-            [pool, &pool[0..n]],
-            s,
-            side,
-            lent,
-        ));
+    if let Some(lent) = list.get_mut(..room) {
+        count(stranded(wrapper, [nodes1, nodes2], [pool, pool2], s, side, lent));
         write(b",");
         words(lent);
         write(b"\n");

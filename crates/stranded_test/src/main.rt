@@ -24,31 +24,20 @@ fn sender_nodes(nodes: &mut [u32; 4400]) {
     node(nodes, 7, 4, 10, 1, 0, 0);
 }
 
-// What is stranded, and what a refused step answers, with the first n words of a list as the handler's nodes; beside them nil, and a
-// node of an unknown kind.
-fn asked<'a>(list: &'a [u32], n: usize, nil: &'a [u32], unknown: &'a [u32]) {
+// What is stranded, and what a refused step answers, with the handler's nodes; beside them nil, and a node of an unknown kind.
+fn asked<'a>(nodes: &'a [u32], nil: &'a [u32], unknown: &'a [u32]) {
     let pool = [20u32];
-    if n <= list.len() {
-        let nodes = &list[0..n];
-        lobbies::lines(nodes, &pool);
-        lists::lines(nodes, &pool);
-        unready::lines(nodes, &pool, nil, unknown);
-        refusals::lines(nodes, &pool, unknown);
-    }
-}
-
-// The same with a list of its fixed length.
-fn asked_list<'a>(list: &'a [u32; 4400], n: usize, nil: &'a [u32], unknown: &'a [u32]) {
-    asked(list, n, nil, unknown);
+    lobbies::lines(nodes, &pool);
+    lists::lines(nodes, &pool);
+    unready::lines(nodes, &pool, nil, unknown);
+    refusals::lines(nodes, &pool, unknown);
 }
 
 // The questions with that handler.
 fn questions() {
     let mut nodes = [0u32; 4400];
     sender_nodes(&mut nodes);
-    let nil = [0u32; 5];
-    let unknown = [7u32, 0, 0, 0, 0];
-    asked_list(&nodes, 40, &nil, &unknown);
+    asked(&nodes[..40], &[0; 5], &[7, 0, 0, 0, 0]);
 }
 
 fn main() {

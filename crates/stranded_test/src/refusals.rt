@@ -25,11 +25,7 @@ fn answer(said: Said, side: u32, len: usize, kept: bool) {
     word(side);
     write(b" length");
     number(len);
-    if kept {
-        write(b" kept\n");
-    } else {
-        write(b" changed\n");
-    }
+    write(if kept { b" kept\n" } else { b" changed\n" });
 }
 
 // A line: a side is asked to let the pool enter, the name 20.

@@ -6,6 +6,10 @@ use mathlib.Core.Option.{Option, none, some}
 use Prim.Native.Nat.{ℕ, ◌-◌, ◌<◌, ◌≤◌}
 use native.Mathlib.Omega.{arith}
 use lib.ListN.{length, get_or, drop, get_or-map}
+use Rattle.std.specs.Prelude.{Some, None, Err}
+use Rattle.std.specs.declared.option.Option as rust
+use Rattle.std.specs.declared.result.Result.{Result}
+use Rattle.std.proofs.lemmas.Option.{none-some, same_Some}
 use Rattle.model.specs.Side.{Message, no_side, side}
 use Rattle.model.specs.Side.{Side as MSide, State as MState}
 use Rattle.model.specs.Wrapper.{all_sides, described, has_side}
@@ -19,7 +23,6 @@ use Rattle.format.proofs.StepWords.{steps_end}
 use Rattle.sides.specs.declared.Rest.{Rest}
 use Rattle.sides.specs.declared.Lobby.{Lobby}
 use Rattle.sides.specs.Views.{view_lobby}
-use Rattle.sides.specs.Holding.{LobbyIs}
 use Rattle.sides.proofs.Lobbies.{lobby_short}
 use Rattle.steps.proofs.Held.{side_lobby}
 use Rattle.loading.proofs.Faults.{map_at}
@@ -28,13 +31,13 @@ use Rattle.dispatch.specs.Sharing.{sides_in, state_in}
 use Rattle.dispatch.proofs.AllSides.{side_by_lem}
 use Rattle.execution.specs.Execution.{record_end, MayRun}
 use Rattle.execution.proofs.RecordEnds.{steps_found, steps_broken}
-use Rattle.listing.specs.declared.Listed.{Listed}
+use Rattle.listing.specs.declared.TooShort.{TooShort}
+use Rattle.std.specs.Prelude.{Result}
 use Rattle.listing.specs.Listing.{listed_of, ListedIs}
-use Rattle.stranding.specs.declared.After.{After}
-use Rattle.stranding.specs.declared.After.TheVariants as after
-use Rattle.stranding.specs.declared.ended_steps.End.{End}
+use Rattle.stranding.specs.declared.AfterError.{AfterError}
+use Rattle.stranding.specs.declared.AfterError.TheVariants as error
 use Rattle.stranding.specs.Stranding.{behind, Ended, broken_off, told, positions_in, positions_from, stranded_after, after_of, AfterIs}
-use Rattle.stranding.specs.Ending.{lobbies_in, lobby_in, loaded_behind, ended_by, EndIs}
+use Rattle.stranding.specs.Ending.{lobbies_in, lobby_in, loaded_behind, EndIs}
 
 -- THE STATE BEHIND THE STEPS is that behind those from place p on, from the state t
 end_before : (b : Composition) (t : MState) (x : Step) (o : Option (List Step)) → behind b t (before x o) ≡ behind b (step b t x).after o
@@ -43,14 +46,14 @@ end_before b t x none = refl
 end_before b t x (some xs) = refl
 
 module _ (b : Composition) (l : List ℕ) (p : ℕ) (t : MState) (z : Option MState) (h : z ≡ behind b t (steps_of (drop p l))) where
-  pub end_next : (e : ℕ) → record_end 4 l p ≡ some e → (u : MState) → u ≡ (step b t (step_at l p)).after → z ≡ behind b u (steps_of (drop e l))
+  pub end_next : (e : ℕ) → record_end 4 l p ≡ Some e → (u : MState) → u ≡ (step b t (step_at l p)).after → z ≡ behind b u (steps_of (drop e l))
   end_next e f u after =
       h
       ∙ ap (behind b t) (steps_found l p e f)
       ∙ end_before b t (step_at l p) (steps_of (drop e l))
       ∙ ap (λ (y : MState). behind b y (steps_of (drop e l))) (sym after)
 
-  pub end_broken : p < length l → record_end 4 l p ≡ none → z ≡ none
+  pub end_broken : p < length l → record_end 4 l p ≡ None → z ≡ none
   end_broken lt f = h ∙ ap (behind b t) (steps_broken l p lt f)
 
   pub end_all : length l ≤ p → z ≡ some t
@@ -98,49 +101,55 @@ module _ {b : Composition} {ls : List (List ℕ)} {os : List Rest} {ms : List (L
 
 -- WHAT IS SAID OF THE END
 -- the list breaks off
-pub ends_broken : (b : Composition) (o : Option MState) (n : ℕ) → o ≡ none → (r : Lobby) → LobbyIs [] 0 true r → EndIs b o n (record { whole = false; lobby = r })
-unfolding lobby_asked
-ends_broken b o n z r is = rw z (record { whole = refl; lobby = is.view; short = omega (arith, is.len) })
+pub ends_broken : (b : Composition) (o : Option MState) (n : ℕ) → o ≡ none → EndIs b o n None
+ends_broken b o n z = rw z (record { lobby = refl; short = _ })
 
 -- all steps are made
 pub ends_there : {b : Composition} {ls : List (List ℕ)} {os : List Rest} {ms : List (List Bool)} {hs : List ℕ} → MayRun b ls os ms hs → (o : Option MState) (n : ℕ) → o ≡ some (state_in ls os ms) →
-    (r : Lobby) → view_lobby r ≡ lobby_in b.wrapper n os → r.len ≤ 16 → EndIs b o n (record { whole = true; lobby = r })
-ends_there m o n z r is short = rw z (record { whole = refl; lobby = is ∙ lobby_asked_lem m n; short = short })
+    (r : Lobby) → view_lobby r ≡ lobby_in b.wrapper n os → r.len ≤ 16 → EndIs b o n (Some r)
+ends_there m o n z r is short = rw z (record { lobby = ap Some (is ∙ lobby_asked_lem m n); short = short })
 
 -- from where load leads
-pub ends_loaded : (b : Composition) (ws : List ℕ) (s : MState) → load b ≡ ok s → (n : ℕ) (r : End) → EndIs b (behind b s (steps_of ws)) n r → EndIs b (loaded_behind b ws (load b)) n r
+pub ends_loaded : (b : Composition) (ws : List ℕ) (s : MState) → load b ≡ ok s → (n : ℕ) (r : rust.Option Lobby) → EndIs b (behind b s (steps_of ws)) n r → EndIs b (loaded_behind b ws (load b)) n r
 ends_loaded b ws s e n r is = subst (λ (l : Loaded). EndIs b (loaded_behind b ws l) n r) (sym e) is
 
 -- THE ANSWER
-after_by : {x y : Ended (List ℕ)} {lent new : List ℕ} {r : After} → x ≡ y → AfterIs y lent new r → AfterIs x lent new r
+after_by : {x y : Ended (List ℕ)} {lent new : List ℕ} {r : Result ℕ AfterError} → x ≡ y → AfterIs y lent new r → AfterIs x lent new r
 after_by {lent = lent} {new = new} {r = r} e h = subst (λ (z : Ended (List ℕ)). AfterIs z lent new r) (sym e) h
 
--- of what a struct tells
-by_whole : (e : End) (t : Bool) → e.whole ≡ t → ended_by e ≡ cond t (told (stranded_from 0 (view_lobby e.lobby))) broken_off
-by_whole e t z = ap (λ (x : Bool). cond x (told (stranded_from 0 (view_lobby e.lobby))) broken_off) z
+-- of the lobby behind the steps
+ended_by : rust.Option Lobby → Ended (List ℕ)
+ended_by None = broken_off
+ended_by (Some l) = told (stranded_from 0 (view_lobby l))
 
-module _ (e : End) (lent : List ℕ) where
-  pub told_broken : e.whole ≡ false → AfterIs (ended_by e) lent lent after.BrokenOff
-  told_broken z = after_by (by_whole e false z) (record { answer = refl; words = refl })
-
-  pub told_listed : e.whole ≡ true → (new : List ℕ) (r : Listed) → ListedIs (stranded_from 0 (view_lobby e.lobby)) lent new r →
-      (a : After) → after_of a ≡ told (listed_of r) → AfterIs (ended_by e) lent new a
-  told_listed z new r is a same = after_by (by_whole e true z) (record { answer = same ∙ ap told is.answer; words = is.words })
+at_end : (b : Composition) (o : Option MState) (n : ℕ) (r : rust.Option Lobby) → EndIs b o n r → ended_by r ≡ positions_in b n o
+unfolding ended_by
+at_end b none n None is = refl
+at_end b none n (Some l) is = absurd (none-some _ (sym is.lobby))
+at_end b (some s) n None is = absurd (none-some _ is.lobby)
+at_end b (some s) n (Some l) is = ap (λ (m : List Message). told (stranded_from 0 m)) (same_Some _ _ is.lobby)
 
 -- of a load and some steps
 module _ (b : Composition) (ws : List ℕ) (n : ℕ) (lent : List ℕ) where
-  pub after_refused : (k i m : ℕ) → load b ≡ refused (record { number = k; side = i; node = m }) → AfterIs (stranded_after b ws n) lent lent (after.Unloaded k i m)
+  pub after_refused : (k i m : ℕ) → load b ≡ refused (record { number = k; side = i; node = m }) → AfterIs (stranded_after b ws n) lent lent (Err (error.Unloaded k i m))
   unfolding stranded_after
   after_refused k i m e = after_by (ap (positions_from b ws n) e) (record { answer = refl; words = refl })
 
-  pub after_ended : is_ok (load b) ≡ true → (e : End) → EndIs b (loaded_behind b ws (load b)) n e → (new : List ℕ) (r : After) → AfterIs (ended_by e) lent new r → AfterIs (stranded_after b ws n) lent new r
-  unfolding stranded_after
-  after_ended h e is new r a = after_by (at_load (load b) h ∙ sym (at_end (loaded_behind b ws (load b)) is)) a
-    where
-      at_load : (x : Loaded) → is_ok x ≡ true → positions_from b ws n x ≡ positions_in b n (loaded_behind b ws x)
-      at_load (refused y) q = absurd (false≢true q)
-      at_load (ok s) q = refl
+  module _ (h : is_ok (load b) ≡ true) where
+    ended : (r : rust.Option Lobby) → EndIs b (loaded_behind b ws (load b)) n r → stranded_after b ws n ≡ ended_by r
+    unfolding stranded_after
+    ended r is = at_load (load b) h ∙ sym (at_end b (loaded_behind b ws (load b)) n r is)
+      where
+        at_load : (x : Loaded) → is_ok x ≡ true → positions_from b ws n x ≡ positions_in b n (loaded_behind b ws x)
+        at_load (refused y) q = absurd (false≢true q)
+        at_load (ok s) q = refl
 
-      at_end : (o : Option MState) → EndIs b o n e → ended_by e ≡ positions_in b n o
-      at_end none q = by_whole e false q.whole
-      at_end (some s) q = by_whole e true q.whole ∙ ap (λ (l : List Message). told (stranded_from 0 l)) q.lobby
+    module _ (r : rust.Option Lobby) (is : EndIs b (loaded_behind b ws (load b)) n r) where
+      pub after_broken : r ≡ None → AfterIs (stranded_after b ws n) lent lent (Err error.BrokenOff)
+      unfolding ended_by
+      after_broken e = after_by (ended r is ∙ ap ended_by e) (record { answer = refl; words = refl })
+
+      pub after_listed : (l : Lobby) → r ≡ Some l → (new : List ℕ) (q : Result ℕ TooShort) → ListedIs (stranded_from 0 (view_lobby l)) lent new q →
+          (a : Result ℕ AfterError) → after_of a ≡ told (listed_of q) → AfterIs (stranded_after b ws n) lent new a
+      unfolding ended_by
+      after_listed l e new q put a same = after_by (ended r is ∙ ap ended_by e) (record { answer = same ∙ ap told put.answer; words = put.words })

@@ -1,5 +1,6 @@
 -- What is stranded after a load and a list of steps by words (document 02, 2.5).
-use Rattle.std.specs.Prelude.{◌≡◌, List, ℕ}
+use Rattle.std.specs.Prelude.{◌≡◌, List, ℕ, Ok, Err}
+use Rattle.std.specs.declared.result.Result.{Result}
 use Rattle.std.proofs.Math.Option.{Option, none, some}
 use Rattle.model.specs.Basics.{Res, refuse, done}
 use Rattle.model.specs.Side.{State}
@@ -9,8 +10,8 @@ use Rattle.model.specs.Runs.{after_all}
 use Rattle.model.specs.Stranded.{stranded_all}
 use Rattle.format.specs.Words.{steps_of}
 use Rattle.listing.specs.Listing.{listing, listed_on}
-use Rattle.stranding.specs.declared.After.{After}
-use Rattle.stranding.specs.declared.After.TheVariants as after
+use Rattle.stranding.specs.declared.AfterError.{AfterError}
+use Rattle.stranding.specs.declared.AfterError.TheVariants.{Unloaded, BrokenOff, TooShort}
 
 -- the state behind some steps from s on; none where their list breaks off. A refused step changes nothing, and those after it go on
 abbrev pub behind : Composition → (s : State) → Option (List Step) → Option State
@@ -49,14 +50,14 @@ lent_after (unloaded e) lent = lent
 lent_after broken_off lent = lent
 lent_after (told ps) lent = listed_on ps lent
 
--- what the enum says
-abbrev pub after_of : After → Ended (Res ℕ)
-after_of (after.Count n) = told (done n)
-after_of (after.Unloaded k i m) = unloaded (record { number = k; side = i; node = m })
-after_of after.BrokenOff = broken_off
-after_of after.TooShort = told (refuse 22)
+-- what the result says
+abbrev pub after_of : Result ℕ AfterError → Ended (Res ℕ)
+after_of (Ok n) = told (done n)
+after_of (Err (Unloaded k i m)) = unloaded (record { number = k; side = i; node = m })
+after_of (Err BrokenOff) = broken_off
+after_of (Err TooShort) = told (refuse 22)
 
 -- r is the answer, and the lent list is as it is to be after it
-pub record AfterIs (x : Ended (List ℕ)) (lent after : List ℕ) (r : After) : Type 0 where
+pub record AfterIs (x : Ended (List ℕ)) (lent after : List ℕ) (r : Result ℕ AfterError) : Type 0 where
   pub answer : after_of r ≡ count_for x lent
   pub words : after ≡ lent_after x lent

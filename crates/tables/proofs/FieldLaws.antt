@@ -1,21 +1,20 @@
 -- The tests and counts of a node that was read are those of its table: checks 2 to 5, node by node.
 use mathlib.Core.Path.{◌≡◌, refl, sym, ap, ap₂, ◌∙◌}
-use mathlib.Core.Bool.{Bool, true, false, cond, ◌&&◌}
-use mathlib.Core.List.{List, []}
+use mathlib.Core.Bool.{Bool, true, false, ◌||◌}
+use mathlib.Core.List.{List}
 use mathlib.Core.Logic.{◌⊎◌, inl, inr}
 use Prim.Native.Nat.{ℕ, zero, suc, ◌+◌, ◌-◌, ◌<◌, ◌≤◌, min}
 use native.Mathlib.Omega.{arith}
 use native.Mathlib.Numerals.{add-one}
-use borrow.Author.Tests.{le-leb, lt-leb, lt-ltb, le-ltb, eq-eqb, ne_eqb, eqb-true, eqb-false}
-use lib.Dec.{leb, ltb, eqb}
-use lib.ListN.{length, get_or, set, length-set, get_or-eq_default}
-use lib.Seq.{get_or-set_same, get_or-set_other}
-use Rattle.model.specs.Basics.{◌&◌, ◌or◌, refuse, done, implies}
-use Rattle.model.specs.Table.{count, field, uses, field_uses, child_fields, child_times}
+use borrow.Author.Tests.{le-leb, lt-leb, eq-eqb, ne_eqb}
+use lib.Dec.{leb, eqb}
+use lib.ListN.{length, get_or}
+use Rattle.model.specs.Basics.{◌&◌, ◌or◌, refuse, done}
+use Rattle.model.specs.Table.{count, field, uses, child_fields, child_times}
 use Rattle.model.specs.Checks.{every_field, fields_ok, times_child, first_bad, check2, check3, check4, check5}
 use Rattle.tables.specs.declared.nodes.Node.{Node}
 use Rattle.tables.specs.Nodes.{table, NodeIs}
-use Rattle.tables.specs.Fields.{use_of, four_fields, unused_ok, kind_ok, child_ok, tree_ok, name_ok, place_ok, child_by, child_of, Counted}
+use Rattle.tables.specs.Fields.{use_of, four_fields, any_field, unused_ok, kind_ok, child_ok, tree_ok, name_ok, place_ok, child_by, child_of, Counted}
 use Rattle.values.proofs.Spans.{eqb_same}
 
 pub and_true : (a : Bool) → a & true ≡ a
@@ -46,97 +45,40 @@ module _ (f : ℕ → ℕ → Bool) (ns pool : List ℕ) (n : ℕ) (x : Node) (i
   unfolding four_fields
   fields_are o = rw (i.f1, i.f2, i.f3, i.f4, ← i.k) (by_kind x.kind 0 0 0 0 o ∙ rw (and_true (f (use_of x 3) (field (table ns pool) n 4))))
 
--- THE LAWS OF THE TABLE OF USES
-pub use_kind : (k f : ℕ) → 7 ≤ k → 0 ≡ get_or (uses k) f 0
-use_kind k f h = sym (ap (λ (l : List ℕ). get_or l f 0) (get_or-eq_default field_uses [] h))
+-- a test that says a, and the next test where it is asked
+module _ {a q v : Bool} (b : Bool) where
+  pub and_yes : q ≡ true → q ≡ a → v ≡ b → v ≡ a & b
+  unfolding ◌&◌
+  and_yes e f g = rw (← f, e) g
 
-pub use_field : (k f : ℕ) → k < 7 → 4 ≤ f → 0 ≡ get_or (uses k) f 0
-use_field zero f h l = sym (get_or-eq_default (uses 0) 0 l)
-use_field (suc zero) f h l = sym (get_or-eq_default (uses 1) 0 l)
-use_field (suc (suc zero)) f h l = sym (get_or-eq_default (uses 2) 0 l)
-use_field (suc (suc (suc zero))) f h l = sym (get_or-eq_default (uses 3) 0 l)
-use_field (suc (suc (suc (suc zero)))) f h l = sym (get_or-eq_default (uses 4) 0 l)
-use_field (suc (suc (suc (suc (suc zero))))) f h l = sym (get_or-eq_default (uses 5) 0 l)
-use_field (suc (suc (suc (suc (suc (suc zero)))))) f h l = sym (get_or-eq_default (uses 6) 0 l)
-use_field (suc (suc (suc (suc (suc (suc (suc k))))))) f h l = absurd (omega arith)
+  pub and_no : q ≡ false → q ≡ a → v ≡ q → v ≡ a & b
+  unfolding ◌&◌
+  and_no e f g = rw (← f, e) (g ∙ e)
 
--- four tests at once
-pub four_1 : (a b c d : Bool) → a ≡ false → false ≡ a & (b & (c & d))
+  pub or_yes : q ≡ true → q ≡ a → v ≡ q → v ≡ a || b
+  or_yes e f g = rw (← f, e) (g ∙ e)
+
+  pub or_no : q ≡ false → q ≡ a → v ≡ b → v ≡ a || b
+  or_no e f g = rw (← f, e) g
+
+-- `◌&◌` goes together either way
+and_assoc : (a b c : Bool) → (a & b) & c ≡ a & (b & c)
 unfolding ◌&◌
-four_1 a b c d e = rw e
+and_assoc true b c = refl
+and_assoc false b c = refl
 
-pub four_2 : (a b c d : Bool) → a ≡ true → b ≡ false → false ≡ a & (b & (c & d))
-unfolding ◌&◌
-four_2 a b c d e f = rw (e, f)
-
-pub four_3 : (a b c d : Bool) → a ≡ true → b ≡ true → c ≡ false → false ≡ a & (b & (c & d))
-unfolding ◌&◌
-four_3 a b c d e f g = rw (e, f, g)
-
-pub four_4 : (a b c d : Bool) → a ≡ true → b ≡ true → c ≡ true → d ≡ a & (b & (c & d))
-unfolding ◌&◌
-four_4 a b c d e f g = rw (e, f, g)
-
-pub fields_by : (f : ℕ → ℕ → Bool) (x : Node) (r a b c d : Bool) → r ≡ a & (b & (c & d)) → a ≡ f (use_of x 0) x.a → b ≡ f (use_of x 1) x.b → c ≡ f (use_of x 2) x.c → d ≡ f (use_of x 3) x.d → r ≡ four_fields f x
+pub all_four : (f : ℕ → ℕ → Bool) (x : Node) (r : Bool) → r ≡ ((f (use_of x 0) x.a & f (use_of x 1) x.b) & f (use_of x 2) x.c) & f (use_of x 3) x.d → r ≡ four_fields f x
 unfolding four_fields
-fields_by f x r a b c d e p q s t = e ∙ ap₂ ◌&◌ p (ap₂ ◌&◌ q (ap₂ ◌&◌ s t))
+all_four f x r e = e ∙ and_assoc _ _ _ ∙ and_assoc _ _ _
 
--- a child field
-module _ (n c u w : ℕ) where
-  pub child_none : ((u ≡ 1) → ⊥) → true ≡ child_ok n c u w
-  child_none e = rw (ne_eqb u 1 e)
-
-  pub child_low : u ≡ 1 → w ≤ n → false ≡ child_ok n c u w
-  unfolding ◌&◌
-  child_low e h = rw (eq-eqb u 1 e, le-ltb n w h)
-
-  pub child_high : u ≡ 1 → n < w → ltb w c ≡ child_ok n c u w
-  unfolding ◌&◌
-  child_high e h = rw (eq-eqb u 1 e, lt-ltb n w h)
-
--- a field counted
-module _ (old : List ℕ) (u w : ℕ) where
-  pub counted_none : ((u ≡ 1) → ⊥) → Counted old (child_by u w) old
-  counted_none e = record { len = refl; at = λ m h l. rw (ne_eqb u 1 e) (omega arith) }
-
-  pub counted_over : length old ≤ w → Counted old (child_by u w) old
-  counted_over g = record { len = refl; at = λ m h l. rw (ne_eqb w m (λ q. omega arith)) (go m l (eqb u 1)) }
-    where
-      go : (m : ℕ) → get_or old m 0 ≤ 2 → (t : Bool) → get_or old m 0 ≡ min 2 (get_or old m 0 + cond (t && false) 1 0)
-      go m l true = omega arith
-      go m l false = omega arith
-
-  pub counted_full : u ≡ 1 → 2 ≤ get_or old w 0 → Counted old (child_by u w) old
-  counted_full e g = record { len = refl; at = λ m h l. rw (eq-eqb u 1 e) (go m l (eqb w m) refl) }
-    where
-      go : (m : ℕ) → get_or old m 0 ≤ 2 → (t : Bool) → eqb w m ≡ t → get_or old m 0 ≡ min 2 (get_or old m 0 + cond t 1 0)
-      go m l true q = let z : get_or old w 0 ≡ get_or old m 0 = ap (λ (j : ℕ). get_or old j 0) (eqb-true w m q) in omega arith
-      go m l false q = omega arith
-
-  pub counted_more : u ≡ 1 → w < length old → get_or old w 0 < 2 → Counted old (child_by u w) (set old w (get_or old w 0 + 1))
-  counted_more e b g = record { len = length-set old w (get_or old w 0 + 1); at = λ m h l. rw (eq-eqb u 1 e) (go m l (eqb w m) refl) }
-    where
-      go : (m : ℕ) → get_or old m 0 ≤ 2 → (t : Bool) → eqb w m ≡ t → get_or (set old w (get_or old w 0 + 1)) m 0 ≡ min 2 (get_or old m 0 + cond t 1 0)
-      go m l true q =
-          let s : w ≡ m = eqb-true w m q in
-          let z : get_or old w 0 ≡ get_or old m 0 = ap (λ (j : ℕ). get_or old j 0) s in
-          ap (λ (j : ℕ). get_or (set old w (get_or old w 0 + 1)) j 0) (sym s) ∙ get_or-set_same old w (get_or old w 0 + 1) 0 b ∙ omega arith
-      go m l false q = get_or-set_other old w m (get_or old w 0 + 1) 0 (λ s. eqb-false w m q (sym s)) ∙ omega arith
-
-pub node_counted : (old c0 c1 c2 c3 : List ℕ) (x : Node) → Counted old (child_by (use_of x 0) x.a) c0 → Counted c0 (child_by (use_of x 1) x.b) c1 →
-    Counted c1 (child_by (use_of x 2) x.c) c2 → Counted c2 (child_by (use_of x 3) x.d) c3 → Counted old (child_of x) c3
-node_counted old c0 c1 c2 c3 x p q r s = record {
-  len = s.len ∙ r.len ∙ q.len ∙ p.len;
-  at = λ m h l.
-      let n0 = p.len in
-      let n1 = q.len in
-      let n2 = r.len in
-      let a = p.at m h l in
-      let b = q.at m (omega arith) (omega arith) in
-      let c = r.at m (omega arith) (omega arith) in
-      let d = s.at m (omega arith) (omega arith) in
-      omega arith;
-}
+pub any_four : (f : ℕ → ℕ → Bool) (x : Node) (r : Bool) → r ≡ ((f (use_of x 0) x.a || f (use_of x 1) x.b) || f (use_of x 2) x.c) || f (use_of x 3) x.d → r ≡ any_field f x
+unfolding any_field
+any_four f x r e = e ∙ by (f (use_of x 0) x.a) (f (use_of x 1) x.b)
+  where
+    by : (a b : Bool) → ((a || b) || f (use_of x 2) x.c) || f (use_of x 3) x.d ≡ a || (b || (f (use_of x 2) x.c || f (use_of x 3) x.d))
+    by true b = refl
+    by false true = refl
+    by false false = refl
 
 -- HOW OFTEN A NODE IS A CHILD
 module _ (ns pool : List ℕ) (n : ℕ) (x : Node) (i : NodeIs ns n x) (m : ℕ) where
@@ -196,7 +138,7 @@ pub tree_bad : (n c k : ℕ) (x : Node) → four_fields (child_ok n c) x ≡ fal
 unfolding tree_ok ◌&◌
 tree_bad n c k x e = rw e
 
-pub tree_root : (n c k : ℕ) (x : Node) → four_fields (child_ok n c) x ≡ true → n ≡ 0 → true ≡ tree_ok n c k x
+pub tree_root : (n c k : ℕ) (x : Node) → four_fields (child_ok n c) x ≡ true → n ≡ 0 → eqb n 0 ≡ tree_ok n c k x
 unfolding tree_ok ◌&◌ ◌or◌
 tree_root n c k x e z = rw (e, eq-eqb n 0 z)
 
@@ -229,37 +171,13 @@ pub kind_known : (x : Node) (r : Bool) → x.kind ≤ 6 → r ≡ four_fields un
 unfolding kind_ok ◌&◌
 kind_known x r h e = e ∙ rw (le-leb x.kind 6 h)
 
-pub kind_unknown : (x : Node) → 6 < x.kind → false ≡ kind_ok x
+pub kind_unknown : (x : Node) → 6 < x.kind → leb x.kind 6 ≡ kind_ok x
 unfolding kind_ok ◌&◌
 kind_unknown x h = rw (lt-leb x.kind 6 h)
-
-pub unused_zero : (u w : ℕ) → u ≡ 0 → eqb w 0 ≡ unused_ok u w
-unused_zero u w e = rw (eq-eqb u 0 e)
-
-pub used : (u w : ℕ) → ((u ≡ 0) → ⊥) → true ≡ unused_ok u w
-used u w e = rw (ne_eqb u 0 e)
 
 pub names_are : (ns pool : List ℕ) (n : ℕ) (x : Node) → NodeIs ns n x → four_fields name_ok x ≡ check4 (table ns pool) n
 unfolding check4 ◌&◌
 names_are ns pool n x i = sym (fields_are name_ok ns pool n x i (inr λ w. refl))
-
--- a field with one of two uses
-module _ (u a b : ℕ) (p q : Bool) (d : (a ≡ b) → ⊥) where
-  pub first_use : u ≡ a → p ≡ implies (eqb u a) p & implies (eqb u b) q
-  unfolding ◌&◌
-  first_use e = rw (eq-eqb u a e, ne_eqb u b (λ z. d (sym e ∙ z))) (go p)
-    where
-      go : (p : Bool) → p ≡ p & true
-      go true = refl
-      go false = refl
-
-  pub second_use : u ≡ b → q ≡ implies (eqb u a) p & implies (eqb u b) q
-  unfolding ◌&◌
-  second_use e = rw (ne_eqb u a (λ z. d (sym z ∙ e)), eq-eqb u b e)
-
-  pub no_use : ((u ≡ a) → ⊥) → ((u ≡ b) → ⊥) → true ≡ implies (eqb u a) p & implies (eqb u b) q
-  unfolding ◌&◌
-  no_use e f = rw (ne_eqb u a e, ne_eqb u b f)
 
 pub places_are : (ns pool : List ℕ) (n : ℕ) (x : Node) → NodeIs ns n x → four_fields (place_ok pool) x ≡ check5 (table ns pool) n
 unfolding check5 ◌&◌

@@ -12,7 +12,8 @@ use Rattle.model.specs.Basics.{Res, refuse, done, is_done, or_else}
 use Rattle.model.specs.Values.{binders, distinct, items, at, is_pattern_leaf, is_public}
 use Rattle.model.specs.Checks.{pattern_ok}
 use Rattle.values.specs.Span.{leaf_of, size_of}
-use Rattle.values.specs.declared.Span.TheVariants.{At, Bad}
+use Rattle.std.specs.Option.{is_some}
+use Rattle.std.specs.declared.option.Option.TheVariants.{None, Some}
 use Rattle.values.specs.declared.Leaf.TheVariants.{Public, Pattern}
 
 -- WORDS AT A PLACE
@@ -49,22 +50,25 @@ at_words leaf pool p ws e = go (items leaf 5 (take 16 (drop p pool)) 1) refl e
         let i = place_inside leaf pool p r a in
         (sym (ap (λ (j : ℕ). take j (drop p pool)) n ∙ whole k (drop p pool) (omega arith) ∙ f), omega arith, omega arith)
 
-pub words_bad : (leaf : ℕ → Bool) (pool : List ℕ) (p : ℕ) → size_of (at leaf pool p) ≡ Bad → or_else (at leaf pool p) [] ≡ []
+pub words_bad : (leaf : ℕ → Bool) (pool : List ℕ) (p : ℕ) → None ≡ size_of (at leaf pool p) → or_else (at leaf pool p) [] ≡ []
 words_bad leaf pool p e = go (at leaf pool p) e
   where
-    go : (q : Res (List ℕ)) → size_of q ≡ Bad → or_else q [] ≡ []
+    go : (q : Res (List ℕ)) → None ≡ size_of q → or_else q [] ≡ []
     go (refuse n) z = refl
     go (done ws) z = let y : ◌≡◌ {A = ℕ} 0 1 = cc in absurd (omega arith)
 
-pub words_found : (leaf : ℕ → Bool) (pool : List ℕ) (p k : ℕ) → size_of (at leaf pool p) ≡ At k → (or_else (at leaf pool p) [] ≡ take k (drop p pool)) × (p + k ≤ length pool) × (k ≤ 16)
+pub words_found : (leaf : ℕ → Bool) (pool : List ℕ) (p k : ℕ) → Some k ≡ size_of (at leaf pool p) → (or_else (at leaf pool p) [] ≡ take k (drop p pool)) × (p + k ≤ length pool) × (k ≤ 16)
 words_found leaf pool p k e = go (at leaf pool p) refl e
   where
-    go : (q : Res (List ℕ)) → at leaf pool p ≡ q → size_of q ≡ At k → (or_else q [] ≡ take k (drop p pool)) × (p + k ≤ length pool) × (k ≤ 16)
+    go : (q : Res (List ℕ)) → at leaf pool p ≡ q → Some k ≡ size_of q → (or_else q [] ≡ take k (drop p pool)) × (p + k ≤ length pool) × (k ≤ 16)
     go (refuse n) a z = let y : ◌≡◌ {A = ℕ} 0 1 = cc in absurd (omega arith)
     go (done ws) a z =
         let n : length ws ≡ k = cc in
         let w = at_words leaf pool p ws a in
         (w.0 ∙ ap (λ (j : ℕ). take j (drop p pool)) n, rw (← n) w.1, rw (← n) w.2)
+
+pub words_inside : (leaf : ℕ → Bool) (pool : List ℕ) (p k : ℕ) → Some k ≡ size_of (at leaf pool p) → p + k ≤ length pool
+words_inside leaf pool p k e = (words_found leaf pool p k e).1
 
 pub words_few : (leaf : ℕ → Bool) (pool : List ℕ) (p : ℕ) → length (or_else (at leaf pool p) []) ≤ 16
 words_few leaf pool p = go (at leaf pool p) refl
@@ -80,35 +84,27 @@ same_everywhere (suc n) zero v = refl
 same_everywhere (suc n) (suc m) v = same_everywhere n m v
 
 -- what `size_at` says of `at`
-pub done_at : (pool : List ℕ) (p k : ℕ) → size_of (at (leaf_of Public) pool p) ≡ At k → true ≡ is_done (at is_public pool p)
+pub done_some : (pool : List ℕ) (p : ℕ) → is_some (size_of (at (leaf_of Public) pool p)) ≡ is_done (at is_public pool p)
 unfolding leaf_of
-done_at pool p k e = go (at is_public pool p) e
+done_some pool p = go (at is_public pool p)
   where
-    go : (q : Res (List ℕ)) → size_of q ≡ At k → true ≡ is_done q
-    go (refuse n) z = let y : ◌≡◌ {A = ℕ} 0 1 = cc in absurd (omega arith)
-    go (done ws) z = refl
+    go : (q : Res (List ℕ)) → is_some (size_of q) ≡ is_done q
+    go (refuse n) = refl
+    go (done ws) = refl
 
-pub done_bad : (pool : List ℕ) (p : ℕ) → size_of (at (leaf_of Public) pool p) ≡ Bad → false ≡ is_done (at is_public pool p)
-unfolding leaf_of
-done_bad pool p e = go (at is_public pool p) e
-  where
-    go : (q : Res (List ℕ)) → size_of q ≡ Bad → false ≡ is_done q
-    go (refuse n) z = refl
-    go (done ws) z = let y : ◌≡◌ {A = ℕ} 0 1 = cc in absurd (omega arith)
-
-pub pat_bad : (pool : List ℕ) (p : ℕ) → size_of (at (leaf_of Pattern) pool p) ≡ Bad → false ≡ pattern_ok pool p
+pub pat_bad : (pool : List ℕ) (p : ℕ) → None ≡ size_of (at (leaf_of Pattern) pool p) → false ≡ pattern_ok pool p
 unfolding leaf_of pattern_ok
 pat_bad pool p e = go (at is_pattern_leaf pool p) e
   where
-    go : (q : Res (List ℕ)) → size_of q ≡ Bad → false ≡ elim q [ refuse n ↦ false | done ws ↦ distinct (binders ws) ]
+    go : (q : Res (List ℕ)) → None ≡ size_of q → false ≡ elim q [ refuse n ↦ false | done ws ↦ distinct (binders ws) ]
     go (refuse n) z = refl
     go (done ws) z = let y : ◌≡◌ {A = ℕ} 0 1 = cc in absurd (omega arith)
 
-pub pat_at : (pool : List ℕ) (p k : ℕ) → size_of (at (leaf_of Pattern) pool p) ≡ At k → distinct (binders (take k (drop p pool))) ≡ pattern_ok pool p
+pub pat_at : (pool : List ℕ) (p k : ℕ) → Some k ≡ size_of (at (leaf_of Pattern) pool p) → distinct (binders (take k (drop p pool))) ≡ pattern_ok pool p
 unfolding leaf_of pattern_ok
 pat_at pool p k e = go (at is_pattern_leaf pool p) refl e
   where
-    go : (q : Res (List ℕ)) → at is_pattern_leaf pool p ≡ q → size_of q ≡ At k → distinct (binders (take k (drop p pool))) ≡ elim q [ refuse n ↦ false | done ws ↦ distinct (binders ws) ]
+    go : (q : Res (List ℕ)) → at is_pattern_leaf pool p ≡ q → Some k ≡ size_of q → distinct (binders (take k (drop p pool))) ≡ elim q [ refuse n ↦ false | done ws ↦ distinct (binders ws) ]
     go (refuse n) a z = let y : ◌≡◌ {A = ℕ} 0 1 = cc in absurd (omega arith)
     go (done ws) a z =
         let n : length ws ≡ k = cc in

@@ -1,32 +1,46 @@
 -- Check 6 by a walk over node numbers.
-use mathlib.Core.Path.{◌≡◌, refl, sym}
-use mathlib.Core.List.{List, [], ◌∷◌}
+use mathlib.Core.Path.{◌≡◌, refl, sym, ap, ap₂, ◌∙◌}
+use mathlib.Core.Bool.{Bool, true, false, cond}
+use mathlib.Core.List.{List}
 use Prim.Native.Nat.{ℕ, ◌+◌, ◌<◌, ◌≤◌, min}
 use native.Mathlib.Omega.{arith}
-use native.Mathlib.Numerals.{add-one}
-use borrow.Author.Tests.{le-leb, lt-leb, lt-ltb, le-ltb}
+use borrow.Author.Tests.{le-leb, lt-leb, lt-ltb, le-ltb, ltb-true, ltb-false}
 use lib.Dec.{ltb}
-use lib.ListN.{length, get_or, take, length-append}
-use lib.Seq.{take-suc}
+use lib.ListN.{length}
 use Rattle.model.specs.Basics.{choose, refuse, done}
-use Rattle.model.specs.Values.{binders}
 use Rattle.model.specs.Table.{Table, build, term}
 use Rattle.model.specs.Checks.{over, over_all}
 use Rattle.tables.specs.declared.nodes.Node.{Node}
-use Rattle.tables.specs.declared.checks.Lowest.TheVariants.{At, Nowhere}
+use Rattle.std.specs.Prelude.{Option, Some, None}
+use Rattle.std.specs.Bool.{then_some}
 use Rattle.tables.specs.Nodes.{table, NodeIs, pattern_names}
-use Rattle.tables.specs.Scope.{Walks, node_if_over, over_at}
+use Rattle.tables.specs.Scope.{Walks, node_if_over, over_at, node_of, lower}
 use Rattle.tables.specs.Checks.{lowest_of}
 use Rattle.tables.proofs.WalkLaws.{at_kind, at_input, at_leaf}
-use Rattle.values.proofs.Names.{binders_append}
 
-pub over_few : (k n : ℕ) → k ≤ 8 → 256 ≡ node_if_over k n
-unfolding node_if_over
-over_few k n h = rw (le-leb k 8 h)
+-- A NODE OR NONE
+pub node_over : (k n : ℕ) → n < 256 → then_some (ltb 8 k) n ≡ node_of (node_if_over k n)
+unfolding node_if_over node_of
+node_over k n b = go (ltb 8 k) refl
+  where
+    go : (p : Bool) → ltb 8 k ≡ p → then_some (ltb 8 k) n ≡ node_of (node_if_over k n)
+    go true e = rw (e, lt-leb k 8 (ltb-true 8 k e), lt-ltb n 256 b)
+    go false e = rw (e, le-leb k 8 (ltb-false 8 k e))
 
-pub over_many : (k n : ℕ) → 8 < k → n ≡ node_if_over k n
-unfolding node_if_over
-over_many k n h = rw (lt-leb k 8 h)
+-- the lower of two nodes is that of the model's lesser number
+lower_is : (a b : ℕ) → lower (node_of a) (node_of b) ≡ node_of (min a b)
+unfolding node_of
+lower_is a b = go (ltb a 256) refl (ltb b 256) refl
+  where
+    go : (p : Bool) → ltb a 256 ≡ p → (q : Bool) → ltb b 256 ≡ q → lower (node_of a) (node_of b) ≡ node_of (min a b)
+    go true e true f = let h : min a b < 256 = omega (arith, ltb-true a 256 e) in rw (e, f, lt-ltb (min a b) 256 h)
+    go true e false f = let m : min a b ≡ a = omega (arith, ltb-true a 256 e, ltb-false b 256 f) in rw (m, e, f)
+    go false e true f = let m : min a b ≡ b = omega (arith, ltb-false a 256 e, ltb-true b 256 f) in rw (m, e, f)
+    go false e false f = let h : 256 ≤ min a b = omega (arith, ltb-false a 256 e, ltb-false b 256 f) in rw (e, f, le-ltb (min a b) 256 h)
+
+-- the same of what was found
+pub lower_by : (r p q : Option ℕ) (a b : ℕ) → r ≡ lower p q → p ≡ node_of a → q ≡ node_of b → r ≡ node_of (min a b)
+lower_by r p q a b e f g = e ∙ ap₂ lower f g ∙ lower_is a b
 
 -- THE LAWS OF `over_at`, one for each way the code goes
 module _ (ns pool : List ℕ) (n k : ℕ) (w : Walks (table ns pool) n) (x : Node) (i : NodeIs ns n x) where
@@ -54,27 +68,10 @@ module _ (ns pool : List ℕ) (n k : ℕ) (w : Walks (table ns pool) n) (x : Nod
   over_leaf a b c h = sym (at_leaf (over k) ns pool n w x i (node_if_over k n) refl refl a b c h)
 
 -- check 6
-pub scope_at : (t : Table) (n : ℕ) → n ≡ over_at t 0 0 → n < 256 → lowest_of (At n) ≡ over_all t
-unfolding over_at over_all choose
-scope_at t n e h = rw e (go (over 0 (term t 0)) (rw e at h))
+pub scope_all : (t : Table) (r : Option ℕ) → r ≡ node_of (over_at t 0 0) → lowest_of r ≡ over_all t
+unfolding over_at over_all choose node_of
+scope_all t r e = ap lowest_of e ∙ go (ltb (over 0 (term t 0)) 256)
   where
-    go : (m : ℕ) → m < 256 → done m ≡ choose (ltb m 256) (done m) (refuse 0)
-    go m h = rw (lt-ltb m 256 h)
-
-pub scope_none : (t : Table) (n : ℕ) → n ≡ over_at t 0 0 → 256 ≤ n → lowest_of Nowhere ≡ over_all t
-unfolding over_at over_all choose
-scope_none t n e h = go (over 0 (term t 0)) (rw e at h)
-  where
-    go : (m : ℕ) → 256 ≤ m → refuse 0 ≡ choose (ltb m 256) (done m) (refuse 0)
-    go m h = rw (le-ltb m 256 h)
-
--- counting names, a word further
-module _ (s : List ℕ) (i r : ℕ) (h : i < length s) (e : r ≡ length (binders (take i s))) where
-  names_step : length (binders (take (i + 1) s)) ≡ length (binders (take i s)) + length (binders (get_or s i 0 ∷ []))
-  names_step = rw (add-one, take-suc s i 0 h, binders_append) (length-append (binders (take i s)) (binders (get_or s i 0 ∷ [])))
-
-  pub names_more : get_or s i 0 ≤ 63 → r + 1 ≡ length (binders (take (i + 1) s))
-  names_more l = let z : length (binders (get_or s i 0 ∷ [])) ≡ 1 = rw (le-leb (get_or s i 0) 63 l) in omega (arith, names_step)
-
-  pub names_same : 63 < get_or s i 0 → r ≡ length (binders (take (i + 1) s))
-  names_same l = let z : length (binders (get_or s i 0 ∷ [])) ≡ 0 = rw (lt-leb (get_or s i 0) 63 l) in omega (arith, names_step)
+    go : (b : Bool) → lowest_of (cond b (Some (over 0 (term t 0))) None) ≡ choose b (done (over 0 (term t 0))) (refuse 0)
+    go true = refl
+    go false = refl

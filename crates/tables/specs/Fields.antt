@@ -1,10 +1,25 @@
 -- Tests of the four fields of a node, and counts of its children: checks 2 to 5 of crate model, for a node that was read.
-use Rattle.std.specs.Prelude.{◌≡◌, Bool, cond, ◌&&◌, List, ℕ, ◌+◌, ◌<◌, ◌≤◌, min, leb, ltb, eqb, length, get_or}
+use Rattle.std.specs.Prelude.{◌≡◌, Bool, cond, ◌&&◌, ◌||◌, List, ℕ, ◌+◌, ◌<◌, ◌≤◌, min, leb, ltb, eqb, length, get_or}
 use Rattle.model.specs.Basics.{◌&◌, ◌or◌, is_done, implies}
 use Rattle.model.specs.Values.{at, is_public}
 use Rattle.model.specs.Table.{uses}
 use Rattle.model.specs.Checks.{pattern_ok}
 use Rattle.tables.specs.declared.nodes.Node.{Node}
+use Rattle.tables.specs.declared.nodes.Use.{Use}
+use Rattle.tables.specs.declared.nodes.Use.TheVariants as by
+
+-- the model's number of a use
+abbrev pub use_number : Use → ℕ
+use_number by.Unused = 0
+use_number by.Child = 1
+use_number by.Name = 2
+use_number by.Tag = 3
+use_number by.Value = 4
+use_number by.Pattern = 5
+
+-- what a test of fields says, by a field's use and its word, is what p says of the use's number and the word
+abbrev pub TestsFields : (says : Use → ℕ → Bool → Type 0) → (p : ℕ → ℕ → Bool) → Type 0
+TestsFields says p = (u : Use) (w : ℕ) (b : Bool) → says u w b → b ≡ p (use_number u) w
 
 -- how a node uses its field i + 1
 abbrev pub use_of : Node → ℕ → ℕ
@@ -13,6 +28,10 @@ use_of x i = get_or (uses x.kind) i 0
 -- a test of all four fields of a node, by their use and their word
 unfoldable pub four_fields : (ℕ → ℕ → Bool) → Node → Bool
 four_fields f x = f (use_of x 0) x.a & (f (use_of x 1) x.b & (f (use_of x 2) x.c & f (use_of x 3) x.d))
+
+-- a test of one of the four fields passes
+unfoldable pub any_field : (ℕ → ℕ → Bool) → Node → Bool
+any_field f x = f (use_of x 0) x.a || (f (use_of x 1) x.b || (f (use_of x 2) x.c || f (use_of x 3) x.d))
 
 -- check 2 of a field: used, or 0
 abbrev pub unused_ok : ℕ → ℕ → Bool

@@ -1,5 +1,5 @@
 -- Check 6, for a walk over node numbers.
-use Rattle.std.specs.Prelude.{cond, ℕ, ◌<◌, leb}
+use Rattle.std.specs.Prelude.{cond, ℕ, ◌<◌, min, leb, ltb, Option, Some, None}
 use Rattle.model.specs.Table.{Table, count, term}
 use Rattle.model.specs.Checks.{over}
 use Rattle.model.proofs.Basics.Terms.{Tree}
@@ -16,3 +16,13 @@ node_if_over k n = cond (leb k 8) 256 n
 -- the lowest node of the term at node n with more than 8 names in force, k of them at n; 256 for none
 unfoldable pub over_at : Table → (n k : ℕ) → ℕ
 over_at t n k = over k (term t n)
+
+-- a node, of the model's number for it; none at 256
+unfoldable pub node_of : ℕ → Option ℕ
+node_of m = cond (ltb m 256) (Some m) None
+
+-- the lower of two nodes, where there are both
+abbrev pub lower : Option ℕ → Option ℕ → Option ℕ
+lower (Some m) (Some n) = Some (min m n)
+lower (Some m) None = Some m
+lower None b = b

@@ -14,29 +14,25 @@ ghost use Rattle.tables.specs.Checks.{Passes};
 use scopes::free_uses::clear;
 use scopes::names::names_in_force;
 use scopes::unfolded::unfolded_at;
-use tables::checks::{Verdict, check};
+use tables::checks::check;
 use tables::name_set::NameSet;
 
-const NOTHING: u8 = 0;
-
-const NODES: u8 = 1;
-
-const POOL: u8 = 2;
-
-const NAME: u8 = 3;
-
-// What is being read: where words go, the number so far, and how many words there are of nodes and of the pool.
+// What the bytes belong to.
 #[derive(Clone, Copy)]
-struct Reading {
-    mode: u8,
-    digits: bool,
-    number: u32,
-    nodes: usize,
-    pool: usize,
+enum Mode {
+    Nothing,
+    Nodes,
+    Pool,
+    Name,
 }
 
-fn wide(n: usize) -> u64 {
-    n as u64
+// What is being read: where words go, the number whose digits come, and how many words there are of nodes and of the pool.
+#[derive(Clone, Copy)]
+struct Reading {
+    mode: Mode,
+    number: Option<u32>,
+    nodes: usize,
+    pool: usize,
 }
 
 fn write(text: &[u8]) {
@@ -46,7 +42,7 @@ fn write(text: &[u8]) {
 // A blank and a number.
 fn write_number(n: usize) {
     write(b" ");
-    io::print_decimal(1, wide(n));
+    io::print_decimal(1, n as u64);
 }
 
 // One word more, where there is room.
@@ -80,29 +76,25 @@ fn write_scopes(nodes: &[u32], pool: &[u32])
     write_number(u.names);
     let c = nodes.len() / 5;
     if 0 < c {
-        let f = names_in_force(nodes, pool, c - 1);
-        let top = f.top;
+        let top = names_in_force(nodes, pool, c - 1).top;
         if top <= 8 {
             write_number(8 - top);
         }
     }
-    if clear(nodes, pool, 0, twenty()) {
-        write(b" free\n");
-    } else {
-        write(b" used\n");
-    }
+    let free = clear(nodes, pool, 0, twenty());
+    write(if free { b" free\n" } else { b" used\n" });
 }
 
 fn report(nodes: &[u32], pool: &[u32]) {
     match check(nodes, pool) {
-        Verdict::Passed => {
+        Ok(()) => {
             write(b": passed");
             write_scopes(nodes, pool);
         }
-        Verdict::Refused(number, node) => {
+        Err(f) => {
             write(b": refused");
-            write_number(number);
-            write_number(node);
+            write_number(f.cause.number());
+            write_number(f.node);
             write(b"\n");
         }
     }
@@ -110,66 +102,52 @@ fn report(nodes: &[u32], pool: &[u32]) {
 
 // The first n words of nodes and p of the pool.
 fn report_parts(nodes: &[u32], pool: &[u32], n: usize, p: usize) {
-    if n <= nodes.len() {
-        if p <= pool.len() {
-            report(&nodes[0..n], &pool[0..p]);
-        }
+    if n <= nodes.len() && p <= pool.len() {
+        report(&nodes[..n], &pool[..p]);
     }
 }
 
 // A number that ends goes to the nodes or to the pool.
-fn end_number(r: Reading, nodes: &mut [u32], pool: &mut [u32]) -> Reading {
-    let mut s = r;
-    if r.digits {
-        s.digits = false;
-        s.number = 0;
-        if r.mode == NODES {
-            s.nodes = push(nodes, r.nodes, r.number);
-        } else if r.mode == POOL {
-            s.pool = push(pool, r.pool, r.number);
+fn end_number(mut r: Reading, nodes: &mut [u32], pool: &mut [u32]) -> Reading {
+    if let Some(w) = r.number {
+        match r.mode {
+            Mode::Nodes => r.nodes = push(nodes, r.nodes, w),
+            Mode::Pool => r.pool = push(pool, r.pool, w),
+            Mode::Nothing | Mode::Name => {},
         }
+        r.number = None;
     }
-    s
+    r
 }
 
 // A letter.
-fn letter(r: Reading, b: u8, nodes: &[u32], pool: &[u32]) -> Reading {
-    let mut s = r;
-    if b == b'T' {
-        s.mode = NAME;
-        s.nodes = 0;
-        s.pool = 0;
-    } else if b == b'N' {
-        s.mode = NODES;
-    } else if b == b'V' {
-        s.mode = POOL;
-    } else if b == b'.' {
-        s.mode = NOTHING;
-        report_parts(nodes, pool, r.nodes, r.pool);
+fn letter(mut r: Reading, b: u8, nodes: &[u32], pool: &[u32]) -> Reading {
+    match b {
+        b'T' => {
+            r.mode = Mode::Name;
+            r.nodes = 0;
+            r.pool = 0;
+        },
+        b'N' => r.mode = Mode::Nodes,
+        b'V' => r.mode = Mode::Pool,
+        b'.' => {
+            r.mode = Mode::Nothing;
+            report_parts(nodes, pool, r.nodes, r.pool);
+        },
+        _ => {},
     }
-    s
+    r
 }
 
 // A byte of the input.
-fn step(r: Reading, b: u8, nodes: &mut [u32], pool: &mut [u32]) -> Reading {
-    let mut s = r;
-    if r.mode == NAME {
-        if b == b'\n' {
-            s.mode = NOTHING;
-        } else {
-            write(&[b]);
-        }
-        return s;
+fn step(mut r: Reading, b: u8, nodes: &mut [u32], pool: &mut [u32]) -> Reading {
+    match (r.mode, b) {
+        (Mode::Name, b'\n') => r.mode = Mode::Nothing,
+        (Mode::Name, _) => write(&[b]),
+        (_, b'0'..=b'9') => r.number = Some(digit(r.number.unwrap_or(0), b)),
+        _ => r = letter(end_number(r, nodes, pool), b, nodes, pool),
     }
-    if b'0' <= b {
-        if b <= b'9' {
-            s.digits = true;
-            s.number = digit(r.number, b);
-            return s;
-        }
-    }
-    let e = end_number(r, nodes, pool);
-    letter(e, b, nodes, pool)
+    r
 }
 
 fn main() {
@@ -178,15 +156,12 @@ fn main() {
     let mut nodes = [0u32; 1300];
     let mut pool = [0u32; 1100];
     let mut r = Reading {
-        mode: NOTHING,
-        digits: false,
-        number: 0,
+        mode: Mode::Nothing,
+        number: None,
         nodes: 0,
         pool: 0,
     };
-    let mut i: usize = 0;
-    while i < n {
-        r = step(r, input[i], &mut nodes, &mut pool);
-        i += 1;
+    for &b in &input[..n] {
+        r = step(r, b, &mut nodes, &mut pool);
     }
 }

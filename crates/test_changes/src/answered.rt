@@ -25,11 +25,11 @@ fn answer(s: State, r: Stepped) {
     let said = r.said;
     let t = r.state;
     say(said);
-    if same_state(s, t) {
-        write(b" kept");
+    write(if same_state(s, t) {
+        b" kept"
     } else {
-        write(b" changed");
-    }
+        b" changed"
+    });
 }
 
 // The answer of a side to `enter` with the name 20, with tables that may be others than those of the state.
@@ -42,7 +42,6 @@ pub fn entered<'n, 'p>(
     s: State,
     side: u32,
 ) {
-    let given: [u32; 1] = [20];
     let r = step(
         wrapper,
         [nodes1, nodes2],
@@ -52,7 +51,7 @@ pub fn entered<'n, 'p>(
         side,
         0,
         0,
-        &given,
+        &[20],
     );
     answer(s, r);
 }
@@ -75,9 +74,6 @@ pub fn entered_changed<'n, 'p>(
 
 // Whether a state with one thing put anew is the same as with another.
 pub fn compared(s: State, a: Change, b: Change) {
-    if same_state(put(s, a), put(s, b)) {
-        write(b": same\n");
-    } else {
-        write(b": different\n");
-    }
+    let same = same_state(put(s, a), put(s, b));
+    write(if same { b": same\n" } else { b": different\n" });
 }

@@ -20,30 +20,28 @@
 //   40        nothing
 //
 // A number that is to be a word, and is none, is put as the largest word.
+//
+// Stays a number: the programs write it in rows of numbers, and go over parts of this list by number (names_test, counts.rt and names.rt).
 use super::places::as_word;
-use crate::Change;
+use crate::{Change, Held};
 use values::Value;
 
 // The value that is put.
 pub(crate) fn value_of(c: Change) -> Value {
-    if c.whole {
-        c.value
-    } else {
-        Value::name(as_word(c.name))
+    match c.held {
+        Held::Name(name) => Value::name(as_word(name)),
+        Held::Words(value) => value,
     }
 }
 
 // Names minted on a side.
 pub(crate) fn minted(side: u32) -> Change {
-    let value = Value::none();
     Change {
         side,
         what: 9,
         n: 256,
         at: 0,
         node: 0,
-        whole: false,
-        value,
-        name: 0,
+        held: Held::Name(0),
     }
 }

@@ -3,7 +3,7 @@ use super::changes::value_of;
 use super::lists::{lobby_of, words_of};
 use super::places::as_word;
 use crate::Change;
-use sides::{Message, Rest, Sides, Status};
+use sides::{Message, Rest, Status};
 use values::Value;
 
 fn with_boxes(mut r: Rest, n: usize) -> Rest {
@@ -33,20 +33,18 @@ fn with_named(r: Rest, status: Status, channel: u32) -> Rest {
     with_message(r, status, channel, Value::name(20))
 }
 
+// A mark set, if there is such a place.
+pub(crate) fn mark(marks: &mut [bool], at: usize) {
+    if let Some(place) = marks.get_mut(at) {
+        *place = true;
+    }
+}
+
 // A place marked as taken, if there is one: 32 places for each side's shelf.
 fn marked_taken(r: Rest, at: usize) -> Rest {
     let mut taken = r.taken;
-    if at < Sides::TAKEN {
-        taken[at] = true;
-    }
+    mark(&mut taken, at);
     r.with_taken(taken)
-}
-
-// A place marked as left, if there is one: 256 places for each side's names.
-pub(crate) fn mark_left(left: &mut [bool; Sides::MARKS], at: usize) {
-    if at < Sides::MARKS {
-        left[at] = true;
-    }
 }
 
 // 0 to 9.
@@ -95,17 +93,10 @@ fn marked(r: Rest, what: usize, n: usize) -> Rest {
 }
 
 pub(crate) fn changed_rest(r: Rest, c: Change) -> Rest {
-    let what = c.what;
-    let n = c.n;
-    let v = value_of(c);
-    if what < 10 {
-        return counted(r, what, n);
+    match c.what {
+        0..=9 => counted(r, c.what, c.n),
+        10..=18 => named(r, c.what, as_word(c.n), value_of(c)),
+        19..=27 => rowed(r, c.what, c.n),
+        _ => marked(r, c.what, c.n),
     }
-    if what < 19 {
-        return named(r, what, as_word(n), v);
-    }
-    if what < 28 {
-        return rowed(r, what, n);
-    }
-    marked(r, what, n)
 }

@@ -85,31 +85,23 @@ fn put_output_if(words: &mut [u32; Rows::WORDS], w: u32) {
 
 // 33 to 38.
 fn put_fields(words: &mut [u32; Rows::WORDS], c: Change) {
-    let what = c.what;
     let n = c.n;
-    let v = value_of(c);
-    match what {
+    match c.what {
         33 => put_output_with_more(words),
         34 => put_input_with_more(words),
         35 => put_output_if(words, as_word(n)),
         36 => put_waiting(words, 0, n, 1, Value::name(20)),
         37 => put_shelved(words, 0, name_past(as_word(n))),
-        38 => put_waiting(words, c.at, c.node, n, v),
+        38 => put_waiting(words, c.at, c.node, n, value_of(c)),
         _ => {},
     }
 }
 
 pub(crate) fn put_words(words: &mut [u32; Rows::WORDS], c: Change) {
-    let what = c.what;
-    let n = c.n;
-    let v = value_of(c);
-    if what < 10 {
-        put_counted(words, what, n);
-    } else if what < 19 {
-        put_named(words, what, as_word(n), v);
-    } else if what < 28 {
-        put_rowed(words, what, n);
-    } else {
-        put_fields(words, c);
+    match c.what {
+        0..=9 => put_counted(words, c.what, c.n),
+        10..=18 => put_named(words, c.what, as_word(c.n), value_of(c)),
+        19..=27 => put_rowed(words, c.what, c.n),
+        _ => put_fields(words, c),
     }
 }

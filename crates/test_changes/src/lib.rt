@@ -12,8 +12,14 @@ mod puts; // a state with one thing put anew
 pub use answered::{compared, entered, entered_changed};
 use values::Value;
 
-// What is put anew on a side, by its number (changes.rt): how much or which; the box and the node of an input; the value, or else the
-// name that it is.
+// What is put at a place that holds a value: a name, or words with a length.
+#[derive(Clone, Copy)]
+pub enum Held {
+    Name(usize),
+    Words(Value),
+}
+
+// What is put anew on a side, by its number (changes.rt): how much or which; the box and the node of an input; the value.
 #[derive(Clone, Copy)]
 pub struct Change {
     pub side: u32,
@@ -21,7 +27,5 @@ pub struct Change {
     pub n: usize,
     pub at: usize,
     pub node: usize,
-    pub whole: bool,
-    pub value: Value,
-    pub name: usize,
+    pub held: Held,
 }

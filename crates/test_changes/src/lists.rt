@@ -6,20 +6,16 @@ use values::Value;
 // 32 outputs in box 0, of which the last is in box `last`.
 pub(crate) fn put_outputs(words: &mut [u32; Rows::WORDS], last: usize) {
     let v = Value::name(20);
-    let mut k: usize = 0;
-    while k < 31 {
+    for k in 0..31 {
         put_output(words, k, 0, 10, Tag::Within, v);
-        k += 1;
     }
     put_output(words, 31, last, 10, Tag::Within, v);
 }
 
 // 16 boxes in box 0, of which the last has another parent.
 pub(crate) fn put_boxes(words: &mut [u32; Rows::WORDS], last: usize) {
-    let mut k: usize = 0;
-    while k < 15 {
+    for k in 0..15 {
         put_box(words, k, 30, 0);
-        k += 1;
     }
     put_box(words, 15, 30, last);
 }
@@ -27,10 +23,8 @@ pub(crate) fn put_boxes(words: &mut [u32; Rows::WORDS], last: usize) {
 // 32 values on the shelf, of which the last is another.
 pub(crate) fn put_shelf(words: &mut [u32; Rows::WORDS], last: u32) {
     let v = Value::name(20);
-    let mut k: usize = 0;
-    while k < 31 {
+    for k in 0..31 {
         put_shelved(words, k, v);
-        k += 1;
     }
     put_shelved(words, 31, Value::name(last));
 }
@@ -49,15 +43,14 @@ pub(crate) fn lobby_of(n: usize, last: u32) -> Lobby {
 
 // 16 words that are a value, with the length n.
 pub(crate) fn words_of(n: usize) -> Value {
-    let mut words: [u32; 16] = [20; 16];
+    let mut words = [20u32; 16];
     words[0] = 4000015;
     Value { words, len: n }
 }
 
 // 1 word, and another past the length in the last place.
 pub(crate) fn name_past(last: u32) -> Value {
-    let v = Value::name(20);
-    let mut words = v.words;
+    let mut words = Value::name(20).words;
     words[15] = last;
     Value { words, len: 1 }
 }

@@ -6,14 +6,14 @@ use values::Value;
 
 // A word at a place, where a side has it.
 fn store(words: &mut [u32; Rows::WORDS], i: usize, w: u32) {
-    if i < Rows::WORDS {
-        words[i] = w;
+    if let Some(place) = words.get_mut(i) {
+        *place = w;
     }
 }
 
 // A number as a word; the largest word for a number that is none.
 pub(crate) fn as_word(n: usize) -> u32 {
-    if n < 4294967296 { n as u32 } else { 4294967295 }
+    u32::try_from(n).unwrap_or(u32::MAX)
 }
 
 // A value from word a on: its length, and all of its 16 words.
@@ -21,10 +21,8 @@ fn store_value(words: &mut [u32; Rows::WORDS], a: usize, v: Value)
     requires { a < 5184 }
 {
     store(words, a, as_word(v.len));
-    let mut k: usize = 0;
-    while k < 16 {
-        store(words, a + 1 + k, v.words[k]);
-        k += 1;
+    for (k, &w) in v.words.iter().enumerate() {
+        store(words, a + 1 + k, w);
     }
 }
 
@@ -39,10 +37,8 @@ pub(crate) fn put_place(words: &mut [u32; Rows::WORDS], i: usize, k: usize, v: V
 fn put_head(words: &mut [u32; Rows::WORDS], i: usize, head: [u32; 8])
     requires { i < 32 }
 {
-    let mut k: usize = 0;
-    while k < Rows::HEAD {
-        store(words, Rows::WIDTH * i + k, head[k]);
-        k += 1;
+    for (k, &w) in head.iter().enumerate() {
+        store(words, Rows::WIDTH * i + k, w);
     }
 }
 
@@ -51,15 +47,8 @@ pub(crate) fn put_row(words: &mut [u32; Rows::WORDS], i: usize, head: [u32; 8], 
     requires { i < 32 }
 {
     put_head(words, i, head);
-    let none = Value::none();
-    let mut k: usize = 0;
-    while k < Rows::VALUES {
-        if k < n {
-            put_place(words, i, k, v);
-        } else {
-            put_place(words, i, k, none);
-        }
-        k += 1;
+    for k in 0..Rows::VALUES {
+        put_place(words, i, k, if k < n { v } else { Value::none() });
     }
 }
 
@@ -77,11 +66,8 @@ fn tag_kind(t: Tag) -> u32 {
 // The child that a tag names, 0 where there is none.
 fn tag_child(t: Tag) -> u32 {
     match t {
-        Tag::Within => 0,
-        Tag::ToParent => 0,
-        Tag::FromParent => 0,
-        Tag::ToChild(n) => n,
-        Tag::FromChild(n) => n,
+        Tag::Within | Tag::ToParent | Tag::FromParent => 0,
+        Tag::ToChild(n) | Tag::FromChild(n) => n,
     }
 }
 
@@ -96,15 +82,17 @@ pub(crate) fn put_output(
 )
     requires { i < 32 }
 {
-    let kind = tag_kind(tag);
-    let child = tag_child(tag);
-    put_row(
-        words,
-        i,
-        [1, as_word(at), channel, kind, child, 0, 0, 0],
-        v,
+    let head = [
         1,
-    );
+        as_word(at),
+        channel,
+        tag_kind(tag),
+        tag_child(tag),
+        0,
+        0,
+        0,
+    ];
+    put_row(words, i, head, v, 1);
 }
 
 // An input in row 0, in a box, that waits at a node with n values: all eight are the same.
@@ -115,13 +103,8 @@ pub(crate) fn put_waiting(
     n: usize,
     v: Value,
 ) {
-    put_row(
-        words,
-        0,
-        [0, as_word(at), 0, 0, 0, as_word(node), as_word(n), 0],
-        v,
-        8,
-    );
+    let head = [0, as_word(at), 0, 0, 0, as_word(node), as_word(n), 0];
+    put_row(words, 0, head, v, 8);
 }
 
 // Box j: its name, and the box that it stands in.

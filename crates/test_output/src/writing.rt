@@ -7,10 +7,6 @@ pub fn write(text: &[u8]) {
     io::write_all(1, text);
 }
 
-fn wide(n: usize) -> u64 {
-    n as u64
-}
-
 // A word as a number.
 pub fn size(w: u32) -> usize
     ensures { result ≡ w }
@@ -21,7 +17,7 @@ pub fn size(w: u32) -> usize
 // A blank and a number.
 pub fn number(n: usize) {
     write(b" ");
-    io::print_decimal(1, wide(n));
+    io::print_decimal(1, n as u64);
 }
 
 // A blank and a word.
@@ -35,15 +31,11 @@ pub fn write_value(v: Value) {
     let last = v.words[15];
     write(b" length");
     number(v.len);
-    let mut k: usize = 0;
-    while k < n {
-        word(v.words[k]);
-        k += 1;
+    for &w in &v.words[..n] {
+        word(w);
     }
-    if n < 16 {
-        if last != 0 {
-            write(b" past it");
-            word(last);
-        }
+    if n < 16 && last != 0 {
+        write(b" past it");
+        word(last);
     }
 }

@@ -1,6 +1,8 @@
 -- Laws of words stored in a list from a place on.
-use Rattle.std.proofs.Common.{◌≡◌, ℕ, suc, ◌+◌, ◌-◌, ◌*◌, ◌<◌, ◌≤◌, min, Bool, true, false, leb, List, [], ◌∷◌, ◌++◌, length, get_or, drop, set, sym, refl, ap, ◌∙◌, add-zero, add-suc, suc-add, add-one, arith, length-append, drop-cons, leb-false, leb-true}
-use lib.Seq.{sets, length-sets, drop-length, set_out}
+use borrow.Rule.Slice.PartMut.{post_of, put_mid, Post-is}
+use Rattle.std.proofs.Common.{take, take_all, length-take-le, take-append-drop, ◌≡◌, ℕ, suc, ◌+◌, ◌-◌, ◌*◌, ◌<◌, ◌≤◌, min, Bool, true, false, leb, List, [], ◌∷◌, ◌++◌, length, drop, set, sym, refl, ap, ◌∙◌, add-zero, add-suc, suc-add, add-one, arith, length-append, leb-false, leb-true}
+use mathlib.Core.List.{append_assoc}
+use lib.Seq.{sets, sets-eq, length-sets, set_out}
 use Rattle.test_schedules.specs.Lists.{Added, times, nodes_from}
 
 -- words past the end are left out
@@ -33,9 +35,25 @@ joined {old} {mid} {xs = xs} {ys} {a} {b} f g =
       words = g.words ∙ clipped ys mid (a + length xs) b (omega (arith, f.end)) ∙ ap (λ (l : List ℕ). sets l (a + length xs) ys) f.words ∙ twice xs ys old a;
     }
 
--- the rest of the words from the next place on, after one is stored
-pub stored : (ws l : List ℕ) (a k : ℕ) → k < length ws → sets (set l a (get_or ws k 0)) (a + 1) (drop (k + 1) ws) ≡ sets l a (drop k ws)
-stored ws l a k h = rw (add-one a, add-one k, drop-cons ws k 0 h)
+-- the words that the list has room for are as good as all of them
+cut_if : (t : Bool) (ws l : List ℕ) (a n : ℕ) → a ≤ length l → n ≡ min (length ws) (length l - a) → leb (length ws) n ≡ t → sets l a (take n ws) ≡ sets l a ws
+cut_if true ws l a n h m t = let all = leb-true (length ws) n t in ap (sets l a) (take_all n ws (omega (arith, all)))
+cut_if false ws l a n h m t =
+    let over = leb-false (length ws) n t in
+    let long : length (take n ws) ≡ n = length-take-le n ws (omega (arith, over)) in
+    let held = length-sets l a (take n ws) in
+    sym (past (drop n ws) (sets l a (take n ws)) (a + length (take n ws)) (omega (arith, long, held, over, m))) ∙ twice (take n ws) (drop n ws) l a ∙ ap (sets l a) (take-append-drop n ws)
+
+-- the part of the list from `a` on, as far as the words go, with the words copied over it
+pub copied : (ws l : List ℕ) (at a n : ℕ) → a ≡ min at (length l) → n ≡ min (length ws) (length l - a) → put_mid a (a + n - a) l (take n ws) ≡ sets l at ws
+copied ws l at a n e m =
+    let long : length (take n ws) ≡ n = length-take-le n ws (omega (arith, m)) in
+    let rest : post_of a (a + n - a) l ≡ drop (a + length (take n ws)) l = Post-is a (a + n) l (omega arith) ∙ ap (λ (k : ℕ). drop k l) (omega (arith, long)) in
+    ap (λ (r : List ℕ). take a l ++ (take n ws ++ r)) rest
+    ∙ sym (append_assoc (take a l) (take n ws) _)
+    ∙ sym (sets-eq (take n ws) l a (omega (arith, long, e, m)))
+    ∙ cut_if (leb (length ws) n) ws l a n (omega (arith, e)) m refl
+    ∙ clipped ws l at a e
 
 -- one time more
 pub more_times : (n : ℕ) (ws : List ℕ) → times n ws ++ ws ≡ times (n + 1) ws
@@ -62,10 +80,6 @@ unfolding nodes_from
 last_node f l k b h =
     let none : b - k ≡ 0 = omega arith in
     ap (λ (n : ℕ). sets l (5 * k) (nodes_from f k n)) none
-
--- no word is left
-pub ended : (ws l : List ℕ) (a k : ℕ) → k ≡ length ws → sets l a (drop k ws) ≡ l
-ended ws l a k h = ap (λ (n : ℕ). sets l a (drop n ws)) h ∙ ap (sets l a) (drop-length ws)
 
 -- equal words
 pub spelled : {old new xs ys : List ℕ} {a b : ℕ} → xs ≡ ys → Added old a xs b new → Added old a ys b new

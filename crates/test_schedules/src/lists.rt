@@ -14,20 +14,10 @@ pub fn narrow(n: usize) -> u32
 fn put(list: &mut [u32], at: usize, words: &[u32]) -> usize
     ensures { Added list.old at words.now result list.new }
 {
-    if list.len() <= at {
-        return list.len();
-    }
-    let mut end = at;
-    let mut k: usize = 0;
-    while k < words.len() {
-        if list.len() <= end {
-            return end;
-        }
-        list[end] = words[k];
-        end += 1;
-        k += 1;
-    }
-    end
+    let start = at.min(list.len());
+    let n = words.len().min(list.len() - start);
+    list[start..start + n].copy_from_slice(&words[..n]);
+    start + n
 }
 
 // The same in a list of the programs.
@@ -42,10 +32,8 @@ pub fn repeat(list: &mut [u32; 4400], at: usize, words: &[u32], n: usize) -> usi
     ensures { Added list.old at (times n words.now) result list.new }
 {
     let mut end = append(list, at, &words[..0]);
-    let mut k: usize = 0;
-    while k < n {
+    for _ in 0..n {
         end = append(list, end, words);
-        k += 1;
     }
     end
 }
@@ -70,10 +58,8 @@ pub fn node(nodes: &mut [u32; 4400], k: usize, kind: u32, a: u32, b: u32, c: u32
 pub fn nested(nodes: &mut [u32; 4400], kind: u32, a: usize, b: usize)
     ensures { nodes.new ≡ sets nodes.old (5 * a) (nodes_from (nested_node kind) a (b - a)) }
 {
-    let mut k = a;
-    while k < b {
+    for k in a..b {
         node(nodes, k, kind, 10, narrow(k + 1), 0, 0);
-        k += 1;
     }
 }
 
@@ -82,9 +68,7 @@ pub fn nested(nodes: &mut [u32; 4400], kind: u32, a: usize, b: usize)
 pub fn inputs(nodes: &mut [u32; 4400], kind: u32, a: usize, b: usize)
     ensures { nodes.new ≡ sets nodes.old (5 * a) (nodes_from (input_node kind) a (b - a)) }
 {
-    let mut k = a;
-    while k < b {
+    for k in a..b {
         node(nodes, k, kind, 0, 1, 0, narrow(k + 1));
-        k += 1;
     }
 }

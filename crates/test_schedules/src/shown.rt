@@ -1,60 +1,45 @@
 // Writes what a run comes to, and a line for each answer: name, index, label (with a refusal's number), side and value words.
-use running::Ran;
+use running::RunError;
 
 pub fn write(text: &[u8]) {
     io::write_all(1, text);
 }
 
-fn wide(n: usize) -> u64 {
-    n as u64
-}
-
-fn wide_word(w: u32) -> u64 {
-    w as u64
-}
-
-fn place(w: u32) -> usize {
-    w as usize
-}
-
 // A blank and a number.
 pub fn number(n: usize) {
     write(b" ");
-    io::print_decimal(1, wide(n));
+    io::print_decimal(1, n as u64);
 }
 
 // A blank and a word.
 fn word(w: u32) {
     write(b" ");
-    io::print_decimal(1, wide_word(w));
+    io::print_decimal(1, w as u64);
 }
 
 // All words of a list, each behind a blank.
 pub fn words(list: &[u32]) {
-    let mut k: usize = 0;
-    while k < list.len() {
-        word(list[k]);
-        k += 1;
+    for &w in list {
+        word(w);
     }
 }
 
+// The word at a place, 0 past the end.
 fn word_at(words: &[u32], i: usize) -> u32 {
-    if i < words.len() { words[i] } else { 0 }
+    words.get(i).copied().unwrap_or(0)
 }
 
 // A label; a refusal has its number.
 fn label(l: u32, refusal: u32) {
-    if l == 0 {
-        write(b" tau");
-    } else if l == 1 {
-        write(b" in");
-    } else if l == 2 {
-        write(b" out");
-    } else if l == 4 {
-        write(b" log");
-    } else {
-        write(b" no");
-        word(refusal);
+    match l {
+        0 => write(b" tau"),
+        1 => write(b" in"),
+        2 => write(b" out"),
+        4 => write(b" log"),
+        _ => {
+            write(b" no");
+            word(refusal);
+        },
     }
 }
 
@@ -70,10 +55,8 @@ fn part(k: usize, len: usize, w: u32) {
 
 // The 16 words of a value, which start at a place below 100,000.
 fn parts(out: &[u32], at: usize, len: usize) {
-    let mut k: usize = 0;
-    while k < 16 {
+    for k in 0..16 {
         part(k, len, word_at(out, at % 100000 + k));
-        k += 1;
     }
 }
 
@@ -84,16 +67,14 @@ fn answer(name: &[u8], out: &[u32], k: usize) {
     let at = k % 1000 * 20;
     label(word_at(out, at), word_at(out, at + 1));
     word(word_at(out, at + 2));
-    parts(out, at + 4, place(word_at(out, at + 3)));
+    parts(out, at + 4, word_at(out, at + 3) as usize);
     write(b"\n");
 }
 
 // The answers with index from a to below b.
 fn answers(name: &[u8], out: &[u32], a: usize, b: usize) {
-    let mut k = a;
-    while k < b {
+    for k in a..b {
         answer(name, out, k);
-        k += 1;
     }
 }
 
@@ -104,14 +85,7 @@ fn is_refusal(out: &[u32], k: usize) -> bool {
 
 // How many refusals the answers from a to below b have.
 fn between(name: &[u8], out: &[u32], a: usize, b: usize) {
-    let mut refusals: usize = 0;
-    let mut k = a;
-    while k < b {
-        if is_refusal(out, k) {
-            refusals = std::num::wrapping_add_usize(refusals, 1);
-        }
-        k += 1;
-    }
+    let refusals = (a..b).filter(|k| is_refusal(out, *k)).count();
     write(name);
     write(b" from");
     number(a);
@@ -134,29 +108,24 @@ pub fn lines(name: &[u8], out: &[u32], n: usize, first: usize, second: usize) {
 }
 
 // What a run comes to.
-pub fn outcome(r: Ran) {
+pub fn outcome(r: Result<usize, RunError>) {
     match r {
-        Ran::Done(n) => {
+        Ok(n) => {
             write(b" done");
             number(n);
         },
-        Ran::Refused(cause, side, node) => {
+        Err(RunError::Refused(cause, side, node)) => {
             write(b" refused");
             number(cause);
             word(side);
             number(node);
         },
-        Ran::BrokenOff => write(b" broken off"),
-        Ran::TooShort => write(b" too short"),
+        Err(RunError::BrokenOff) => write(b" broken off"),
+        Err(RunError::TooShort) => write(b" too short"),
     }
 }
 
 // How many answers a run has written.
-pub(crate) fn written(r: Ran) -> usize {
-    match r {
-        Ran::Done(n) => n,
-        Ran::Refused(_, _, _) => 0,
-        Ran::BrokenOff => 0,
-        Ran::TooShort => 0,
-    }
+pub(crate) fn written(r: Result<usize, RunError>) -> usize {
+    r.unwrap_or(0)
 }

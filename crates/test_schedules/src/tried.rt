@@ -32,11 +32,7 @@ fn alone(
     first: usize,
     second: usize,
 ) {
-    let none = &nodes[..0];
-    let empty = &pool[..0];
-    wrapped(
-        name, wrapper, nodes, pool, none, empty, steps, first, second,
-    );
+    wrapped(name, wrapper, nodes, pool, &[], &[], steps, first, second);
 }
 
 // Under the filter.
@@ -47,7 +43,7 @@ fn filtered(name: &[u8], nodes: &[u32], pool: &[u32], steps: &[u32], first: usiz
 // Under the logging wrapper, with the first n words of the steps.
 fn logged_part(name: &[u8], nodes: &[u32], pool: &[u32], steps: &[u32], n: usize) {
     if n <= steps.len() {
-        alone(name, 3, nodes, pool, &steps[0..n], 1000, 1000);
+        alone(name, 3, nodes, pool, &steps[..n], 1000, 1000);
     }
 }
 
@@ -67,16 +63,14 @@ fn filtered_part(
     first: usize,
     second: usize,
 ) {
-    if m <= nodes.len() {
-        if n <= steps.len() {
-            filtered(name, &nodes[0..m], pool, &steps[0..n], first, second);
-        }
+    if m <= nodes.len() && n <= steps.len() {
+        filtered(name, &nodes[..m], pool, &steps[..n], first, second);
     }
 }
 
 // Under the filter, with no step.
 pub fn loaded(name: &[u8], nodes: &[u32], pool: &[u32]) {
-    filtered(name, nodes, pool, &nodes[..0], 1000, 1000);
+    filtered(name, nodes, pool, &[], 1000, 1000);
 }
 
 // Under the filter, with the first n words of a list as steps.
@@ -121,20 +115,18 @@ fn piped_part<'n, 'p>(
     steps: &[u32],
     n: usize,
 ) {
-    if m <= nodes1.len() {
-        if n <= steps.len() {
-            wrapped(
-                name,
-                2,
-                &nodes1[0..m],
-                pool1,
-                nodes2,
-                pool2,
-                &steps[0..n],
-                1000,
-                1000,
-            );
-        }
+    if m <= nodes1.len() && n <= steps.len() {
+        wrapped(
+            name,
+            2,
+            &nodes1[..m],
+            pool1,
+            nodes2,
+            pool2,
+            &steps[..n],
+            1000,
+            1000,
+        );
     }
 }
 

@@ -1,20 +1,17 @@
 // What is put anew on a side, by its number in the crate test_changes.
 use crate::Start;
-use test_changes::Change;
+use test_changes::{Change, Held};
 use values::Value;
 
 // So much, or that one; at a place that holds a value, that name.
 pub(crate) fn thing(side: u32, what: usize, n: usize) -> Change {
-    let value = Value::none();
     Change {
         side,
         what,
         n,
         at: 0,
         node: 0,
-        whole: false,
-        value,
-        name: n,
+        held: Held::Name(n),
     }
 }
 
@@ -26,24 +23,19 @@ pub(crate) fn valued(side: u32, what: usize, value: Value) -> Change {
         n: 0,
         at: 0,
         node: 0,
-        whole: true,
-        value,
-        name: 0,
+        held: Held::Words(value),
     }
 }
 
 // Particle 0: an input in a box that waits at a node, with n values, each the same word.
 pub(crate) fn waiting(side: u32, at: usize, node: usize, n: usize, w: usize) -> Change {
-    let value = Value::none();
     Change {
         side,
         what: 38,
         n,
         at,
         node,
-        whole: false,
-        value,
-        name: w,
+        held: Held::Name(w),
     }
 }
 
@@ -55,9 +47,7 @@ pub(crate) fn nothing() -> Change {
 // What makes the state to start from out of that of its wrapper.
 pub(crate) fn base(start: Start) -> Change {
     match start {
-        Start::Pipeline => nothing(),
-        Start::Filter => nothing(),
         Start::AllMinted => thing(1, 39, 0),
-        Start::Logging => nothing(),
+        Start::Pipeline | Start::Filter | Start::Logging => nothing(),
     }
 }

@@ -6,12 +6,6 @@ use sides::State;
 use test_changes::{Change, entered_changed};
 use test_output::size;
 
-// The words of the nodes.
-#[derive(Clone, Copy)]
-struct Words {
-    nodes: [u32; 225],
-}
-
 // The handler. The nodes that the cases name have their number beside them.
 const NODES: [[u32; 5]; 45] = [
     [1, 1, 2, 0, 0],
@@ -66,41 +60,31 @@ const POOL: [u32; 20] = [
     4999999,
 ];
 
-// Word k of the nodes, one after the other.
-fn node_word(k: usize) -> u32
-    requires { k < 225 }
-{
-    let row = NODES[k / 5];
-    row[k % 5]
-}
-
-fn table() -> Words {
-    let mut nodes: [u32; 225] = [0; 225];
-    let mut k: usize = 0;
-    while k < 225 {
-        nodes[k] = node_word(k);
-        k += 1;
+// The words of the nodes, one after the other.
+fn table() -> [u32; 225] {
+    let mut nodes = [0u32; 225];
+    for (k, w) in nodes.iter_mut().enumerate() {
+        *w = NODES[k / 5][k % 5];
     }
-    Words { nodes }
+    nodes
 }
 
-// So many, or none.
-fn count_if(lent: bool, n: usize) -> usize
-    ensures { result ≤ n }
-{
-    if lent { n } else { 0 }
+// Side 2's words: those of side 1 under the pipeline, else none.
+fn second<'a>(wrapper: u32, words: &'a [u32]) -> &'a [u32] {
+    match wrapper {
+        2 => words,
+        _ => &[],
+    }
 }
 
 // The handler under the pipeline on both sides, or under another wrapper on side 1.
 fn loaded(wrapper: u32) -> LoadAnswer {
-    let t = table();
-    let nodes = t.nodes;
-    let pool = POOL;
-    let both = &nodes[..];
-    let words = &pool[..];
-    let n = count_if(wrapper == 2, both.len());
-    let m = count_if(wrapper == 2, words.len());
-    load(wrapper, [both, &both[0..n]], [words, &words[0..m]])
+    let nodes = table();
+    load(
+        wrapper,
+        [&nodes, second(wrapper, &nodes)],
+        [&POOL, second(wrapper, &POOL)],
+    )
 }
 
 // A step of such a state.
@@ -113,17 +97,11 @@ fn stepped(
     j: usize,
     given: &[u32],
 ) -> Stepped {
-    let t = table();
-    let nodes = t.nodes;
-    let pool = POOL;
-    let both = &nodes[..];
-    let words = &pool[..];
-    let n = count_if(wrapper == 2, both.len());
-    let m = count_if(wrapper == 2, words.len());
+    let nodes = table();
     step(
         wrapper,
-        [both, &both[0..n]],
-        [words, &words[0..m]],
+        [&nodes, second(wrapper, &nodes)],
+        [&POOL, second(wrapper, &POOL)],
         s,
         kind,
         side,
@@ -135,19 +113,13 @@ fn stepped(
 
 // What a side answers to `enter` with the name 20 where two things are put anew, and whether it leaves the state as it was.
 pub(crate) fn own_entered(wrapper: u32, s: State, side: u32, a: Change, b: Change) {
-    let t = table();
-    let nodes = t.nodes;
-    let pool = POOL;
-    let both = &nodes[..];
-    let words = &pool[..];
-    let n = count_if(wrapper == 2, both.len());
-    let m = count_if(wrapper == 2, words.len());
+    let nodes = table();
     entered_changed(
         wrapper,
-        both,
-        words,
-        &both[0..n],
-        &words[0..m],
+        &nodes,
+        &POOL,
+        second(wrapper, &nodes),
+        second(wrapper, &POOL),
         s,
         side,
         a,
@@ -197,13 +169,10 @@ const STEPS: [[u32; 5]; 34] = [
 fn next(wrapper: u32, s: State, k: usize) -> State
     requires { k < 34 }
 {
-    let row = STEPS[k];
-    let n = count_if(row[0] == 1, 1);
-    let i = size(row[2]);
-    let j = size(row[3]);
-    let names: [u32; 1] = [row[4]];
-    let given = &names[..];
-    let r = stepped(wrapper, s, row[0], row[1], i, j, &given[0..n]);
+    let [kind, side, i, j, name] = STEPS[k];
+    let names = [name];
+    let given: &[u32] = if kind == 1 { &names } else { &[] };
+    let r = stepped(wrapper, s, kind, side, size(i), size(j), given);
     r.state
 }
 
@@ -213,10 +182,8 @@ pub(crate) fn after(wrapper: u32, from: usize, to: usize) -> State
 {
     let a = loaded(wrapper);
     let mut s = a.state;
-    let mut k = from;
-    while k < to {
+    for k in from..to {
         s = next(wrapper, s, k);
-        k += 1;
     }
     s
 }

@@ -9,11 +9,7 @@ use values::Value;
 
 // How a line begins: whether the state is allowed, the wrapper and the side.
 fn head(good: bool, start: Start, side: u32) {
-    if good {
-        write(b"allowed");
-    } else {
-        write(b"broken");
-    }
+    write(if good { b"allowed" } else { b"broken" });
     match wrapper_of(start) {
         1 => write(b" filter"),
         2 => write(b" pipeline"),

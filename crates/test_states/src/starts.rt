@@ -11,9 +11,8 @@ pub fn wrapper_of(start: Start) -> u32
     ensures { result ≡ wrapper_of start }
 {
     match start {
-        Start::Pipeline => 2,
+        Start::Pipeline | Start::AllMinted => 2,
         Start::Filter => 1,
-        Start::AllMinted => 2,
         Start::Logging => 3,
     }
 }
@@ -21,9 +20,8 @@ pub fn wrapper_of(start: Start) -> u32
 // The state of the wrapper; what the start has beside it is put anew (changes.rt).
 pub(crate) fn started(start: Start) -> State {
     match start {
-        Start::Pipeline => after(2, 0, 16),
+        Start::Pipeline | Start::AllMinted => after(2, 0, 16),
         Start::Filter => after(1, 16, 25),
-        Start::AllMinted => after(2, 0, 16),
         Start::Logging => after(3, 25, 34),
     }
 }

@@ -11,6 +11,8 @@ use borrow.Author.Tests.{le-ltb, le-leb, lt-leb, eqb-true, eqb-false}
 use lib.Dec.{eqb}
 use lib.ListN.{length, get_or, set, take, drop, length-map}
 use lib.Seq.{sets, length-sets, length-take-le, take_at, ext_get_or, get_or-set_same, get_or-set_other}
+use Rattle.std.specs.Prelude.{Ok, Err}
+use Rattle.std.specs.declared.result.Result.{Result}
 use Rattle.model.specs.Basics.{choose}
 use Rattle.model.specs.Side.{State}
 use Rattle.model.specs.Table.{Table}
@@ -24,15 +26,15 @@ use Rattle.format.specs.Lines.{newline, Input, when, whole, reading, read_so_far
 use Rattle.format.specs.Output.{word_ok, answer_lines, fault_line, refused_line, output_for, output}
 use Rattle.format.proofs.StepWords.{words_steps}
 use Rattle.format.proofs.AnswerWords.{answers_many, answers_read}
-use Rattle.reading.specs.Lists.{Lists, laid, nodes_of, pools_of, places_of, Inside, reading_of, Holds, ReadIs}
+use Rattle.reading.specs.Lists.{Lists, laid, nodes_of, pools_of, places_of, Inside, reading_of, places_in, Holds, ReadIs}
 use Rattle.reading.specs.declared.Places.{Places}
-use Rattle.reading.specs.declared.Reading.{Reading}
-use Rattle.reading.specs.declared.Verdict.{Verdict}
-use Rattle.reading.specs.declared.Verdict.TheVariants.{Fault, Whole}
+use Rattle.std.specs.declared.result.Result.{Result}
+use Rattle.std.specs.declared.result.Result.TheVariants.{Ok, Err}
+use Rattle.reading.specs.declared.Fault.{Fault}
 use Rattle.reading.proofs.LaidLaws.{laid_length, laid_part}
 use Rattle.sides.proofs.Sets.{mid_sets}
-use Rattle.running.specs.declared.Ran.{Ran}
-use Rattle.running.specs.declared.Ran.TheVariants as ran
+use Rattle.running.specs.declared.RunError.{RunError}
+use Rattle.running.specs.declared.RunError.TheVariants as error
 use Rattle.wrappers.specs.Compositions.{tables_of, composition}
 use Rattle.running.specs.Running.{ran_of, RunIs}
 use Rattle.writing.specs.Written.{PageIs}
@@ -40,7 +42,7 @@ use Rattle.writing.specs.Words.{answered_in}
 use Rattle.writing.proofs.AnswerLaws.{answered_lines}
 use Rattle.writing.proofs.WrittenLaws.{page_start, page_within}
 use Rattle.text.specs.Text.{Given, has_room, buffer_after, TextIs}
-use Rattle.text.specs.declared.Written.TheVariants.{Bytes, TooShort}
+use Rattle.text.specs.declared.TooShort.{TooShort}
 
 -- A RUN OF WHAT THE LINES GIVE
 some_steps : (b : Composition) (xs : List Step) (room : ℕ) → 20 * length xs ≤ room → run_steps b room (some xs) ≡ run_from b xs (load b)
@@ -65,32 +67,32 @@ unfolding output_for
 output_refused i x e = rw (e, output_for)
 
 module _ (i : Input) (x : FRan) (lent after : List ℕ) (e : x ≡ run_from i.loads i.steps (load i.loads)) where
-  by_load : (r : Ran) → RunIs x lent after r → (o : Loaded) → load i.loads ≡ o → RunIs (run_from i.loads i.steps o) lent after r
+  by_load : (r : Result ℕ RunError) → RunIs x lent after r → (o : Loaded) → load i.loads ≡ o → RunIs (run_from i.loads i.steps o) lent after r
   by_load r h o q = subst (λ (z : FRan). RunIs z lent after r) (e ∙ ap (run_from i.loads i.steps) q) h
 
   -- what the enum says is what the run from there comes to
-  told : (r c : Ran) → RunIs x lent after r → r ≡ c → (o : Loaded) → load i.loads ≡ o → ran_of c after ≡ run_from i.loads i.steps o
-  told r c h d o q = ap (λ (y : Ran). ran_of y after) (sym d) ∙ (by_load r h o q).answer
+  told : (r c : Result ℕ RunError) → RunIs x lent after r → r ≡ c → (o : Loaded) → load i.loads ≡ o → ran_of c after ≡ run_from i.loads i.steps o
+  told r c h d o q = ap (λ (y : Result ℕ RunError). ran_of y after) (sym d) ∙ (by_load r h o q).answer
 
-  pub output_done : (n : ℕ) (r : Ran) → RunIs x lent after r → r ≡ ran.Done n → length i.steps ≤ 1024 → answered_in n after ≡ output_for i
+  pub output_done : (n : ℕ) (r : Result ℕ RunError) → RunIs x lent after r → r ≡ Ok n → length i.steps ≤ 1024 → answered_in n after ≡ output_for i
   output_done n r h d few = by (load i.loads) refl
     where
       by : (o : Loaded) → load i.loads ≡ o → answered_in n after ≡ output_for i
       by (refused z) q =
-          let k : answered (answers_of n after) ≡ unloaded z = told r (ran.Done n) h d (refused z) q in
+          let k : answered (answers_of n after) ≡ unloaded z = told r (Ok n) h d (refused z) q in
           let m : ◌≡◌ {A = ℕ} 0 1 = cc in
           absurd (omega arith)
       by (ok s) q =
           let ys = answers i.loads s i.steps in
           let g = (by_load r h (ok s) q).put in
-          let k : answered (answers_of n after) ≡ answered ys = told r (ran.Done n) h d (ok s) q in
+          let k : answered (answers_of n after) ≡ answered ys = told r (Ok n) h d (ok s) q in
           let same : answers_of n after ≡ ys = cc in
           let many : length ys ≡ n = sym (ap length same) ∙ answers_read n after in
           let size : length (all_answer_words ys) ≡ 20 * n = g.size ∙ ap (λ (m : ℕ). 20 * m) many in
           let words = ap (take (20 * n)) g.words ∙ take_at (all_answer_words ys) (drop (length (all_answer_words ys)) lent) (20 * n) size in
           answered_lines n after ys many (omega (arith, many, few, answers_many i.loads s i.steps)) words ∙ sym (output_ok i s q)
 
-  pub output_unloaded : (k j m : ℕ) (r : Ran) → RunIs x lent after r → r ≡ ran.Refused k j m → refused_line (record { number = k; side = j; node = m }) ≡ output_for i
+  pub output_unloaded : (k j m : ℕ) (r : Result ℕ RunError) → RunIs x lent after r → r ≡ Err (error.Refused k j m) → refused_line (record { number = k; side = j; node = m }) ≡ output_for i
   output_unloaded k j m r h d = by (load i.loads) refl
     where
       y : Refused
@@ -98,44 +100,44 @@ module _ (i : Input) (x : FRan) (lent after : List ℕ) (e : x ≡ run_from i.lo
 
       by : (o : Loaded) → load i.loads ≡ o → refused_line y ≡ output_for i
       by (ok s) q =
-          let u : unloaded y ≡ answered (answers i.loads s i.steps) = told r (ran.Refused k j m) h d (ok s) q in
+          let u : unloaded y ≡ answered (answers i.loads s i.steps) = told r (Err (error.Refused k j m)) h d (ok s) q in
           let v : ◌≡◌ {A = ℕ} 0 1 = cc in
           absurd (omega arith)
       by (refused z) q =
-          let u : unloaded y ≡ unloaded z = told r (ran.Refused k j m) h d (refused z) q in
+          let u : unloaded y ≡ unloaded z = told r (Err (error.Refused k j m)) h d (refused z) q in
           let same : y ≡ z = cc in
           ap refused_line same ∙ sym (output_refused i z q)
 
   -- a list of steps that was read does not break off, and its answers have room
-  pub output_always : (o : List ℕ) (r : Ran) → RunIs x lent after r → (r ≡ ran.BrokenOff) ⊎ (r ≡ ran.TooShort) → o ≡ output_for i
+  pub output_always : (o : List ℕ) (r : Result ℕ RunError) → RunIs x lent after r → (r ≡ Err error.BrokenOff) ⊎ (r ≡ Err error.TooShort) → o ≡ output_for i
   output_always o r h d = by (load i.loads) refl d
     where
-      by : (z : Loaded) → load i.loads ≡ z → (r ≡ ran.BrokenOff) ⊎ (r ≡ ran.TooShort) → o ≡ output_for i
+      by : (z : Loaded) → load i.loads ≡ z → (r ≡ Err error.BrokenOff) ⊎ (r ≡ Err error.TooShort) → o ≡ output_for i
       by (refused z) q (inl u) =
-          let k : broken_off ≡ unloaded z = told r ran.BrokenOff h u (refused z) q in
+          let k : broken_off ≡ unloaded z = told r (Err error.BrokenOff) h u (refused z) q in
           let m : ◌≡◌ {A = ℕ} 0 1 = cc in
           absurd (omega arith)
       by (refused z) q (inr u) =
-          let k : too_short ≡ unloaded z = told r ran.TooShort h u (refused z) q in
+          let k : too_short ≡ unloaded z = told r (Err error.TooShort) h u (refused z) q in
           let m : ◌≡◌ {A = ℕ} 0 1 = cc in
           absurd (omega arith)
       by (ok s) q (inl u) =
-          let k : broken_off ≡ answered (answers i.loads s i.steps) = told r ran.BrokenOff h u (ok s) q in
+          let k : broken_off ≡ answered (answers i.loads s i.steps) = told r (Err error.BrokenOff) h u (ok s) q in
           let m : ◌≡◌ {A = ℕ} 0 1 = cc in
           absurd (omega arith)
       by (ok s) q (inr u) =
-          let k : too_short ≡ answered (answers i.loads s i.steps) = told r ran.TooShort h u (ok s) q in
+          let k : too_short ≡ answered (answers i.loads s i.steps) = told r (Err error.TooShort) h u (ok s) q in
           let m : ◌≡◌ {A = ℕ} 0 1 = cc in
           absurd (omega arith)
 
 -- WHAT IS READ
--- the verdict says what is read
-read_is : (bs : List ℕ) {r : Reading} {old l : Lists} → ReadIs bs r old l → (v : Verdict) → r.verdict ≡ v → reading bs ≡ reading_of v (read_so_far bs)
-read_is bs h v e = sym h.verdict ∙ ap (λ (y : Verdict). reading_of y (read_so_far bs)) e
+-- the answer says what is read
+read_is : (bs : List ℕ) {r : Result Places Fault} {old l : Lists} → ReadIs bs r old l → (v : Result Places Fault) → r ≡ v → reading bs ≡ reading_of v (read_so_far bs)
+read_is bs h v e = sym h.verdict ∙ ap (λ (y : Result Places Fault). reading_of y (read_so_far bs)) e
 
-pub fault_output : (bs : List ℕ) {r : Reading} (n : ℕ) {old l : Lists} → ReadIs bs r old l → r.verdict ≡ Fault n → fault_line n ≡ output bs
+pub fault_output : (bs : List ℕ) {r : Result Places Fault} (f : Fault) {old l : Lists} → ReadIs bs r old l → r ≡ Err f → fault_line f.line ≡ output bs
 unfolding output
-fault_output bs n h e = let q = read_is bs h (Fault n) e in rw (q, output) refl
+fault_output bs f h e = let q = read_is bs h (Err f) e in rw (q, output) refl
 
 -- a whole input, and the lists that hold it
 pub record WholeIs (bs : List ℕ) (p : Places) (old l : Lists) : Type 0 where
@@ -144,8 +146,8 @@ pub record WholeIs (bs : List ℕ) (p : Places) (old l : Lists) : Type 0 where
   pub places : p ≡ places_of input
   pub holds : Holds input old l
 
-pub whole_read : (bs : List ℕ) {r : Reading} {old l : Lists} → ReadIs bs r old l → r.verdict ≡ Whole → WholeIs bs r.places old l
-whole_read bs h e = record { input = read_so_far bs; is = read_is bs h Whole e; places = h.places; holds = h.holds }
+pub whole_read : (bs : List ℕ) {r : Result Places Fault} {p : Places} {old l : Lists} → ReadIs bs r old l → r ≡ Ok p → WholeIs bs p old l
+whole_read bs {p = p} h e = record { input = read_so_far bs; is = read_is bs h (Ok p) e; places = sym (ap places_in e) ∙ h.places; holds = h.holds }
 
 pub whole_output : (bs : List ℕ) (i : Input) → reading bs ≡ whole i → output_for i ≡ output bs
 unfolding output
@@ -257,9 +259,9 @@ module _ {o lent page : List ℕ} {n : ℕ} (h : PageIs o lent page n) where
   pub page_count : n ≡ length (take n page)
   page_count = sym (length-take-le n page (page_within h))
 
-  pub text_short : (out : List ℕ) → length out < n → TextIs o out out TooShort
+  pub text_short : (out : List ℕ) → length out < n → (e : TooShort) → TextIs o out out (Err e)
   unfolding buffer_after choose
-  text_short out lt =
+  text_short out lt e =
       let t : has_room o out ≡ false = lt-leb (length o) (length out) (omega (arith, h.count)) in
       record {
         answer = ap (λ (b : Bool). when b (length o)) (sym t);
@@ -267,7 +269,7 @@ module _ {o lent page : List ℕ} {n : ℕ} (h : PageIs o lent page n) where
         most = omega (arith, h.count, h.few);
       }
 
-  pub text_written : (out : List ℕ) → n ≤ length out → (after : List ℕ) → after ≡ take n page ++ drop n out → TextIs o out after (Bytes n)
+  pub text_written : (out : List ℕ) → n ≤ length out → (after : List ℕ) → after ≡ take n page ++ drop n out → TextIs o out after (Ok n)
   unfolding buffer_after choose
   text_written out le after w =
       let t : has_room o out ≡ true = le-leb (length o) (length out) (omega (arith, h.count)) in

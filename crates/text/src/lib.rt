@@ -8,17 +8,14 @@ ghost use Rattle.format.specs.Output.{output_for, output};
 ghost use Rattle.writing.specs.Written.{PageIs};
 ghost use Rattle.text.specs.Text.{Given, TextIs};
 
-use reading::{Places, Verdict, read};
-use running::{Ran, run};
+use reading::{Places, read};
+use running::{RunError, run};
 use sides::Sides;
 use writing::{AnswerWords, Page, answered, fault, refused};
 
-// How many bytes of output are written, or that the lent buffer is too short for them.
-#[derive(Clone, Copy)]
-pub enum Written {
-    Bytes(usize),
-    TooShort,
-}
+// The lent buffer is too short for the output.
+#[derive(Clone, Copy, PartialEq, Eq)]
+pub struct TooShort;
 
 // The words of each side: a list has parts of `wide` words, one for each side, and so many of them are filled.
 fn parts<'a>(
@@ -30,12 +27,9 @@ fn parts<'a>(
     ensures { (length (map (λ x. x.now) result) ≡ length all_sides) × ((k : ℕ) → k < length all_sides → get_or (map (λ x. x.now) result) k [] ≡ take (get_or counts k 0) (drop (wide * k) list.now)) }
 {
     let mut all = [&list[0..0]; Sides::COUNT];
-    let mut k: usize = 0;
-    while k < Sides::COUNT {
+    for k in 0..Sides::COUNT {
         let from = wide * k;
-        let to = from + counts[k];
-        all[k] = &list[from..to];
-        k += 1;
+        all[k] = &list[from..from + counts[k]];
     }
     all
 }
@@ -52,12 +46,11 @@ fn run_output(
     ensures { (i : Input) → Given i wrapper (map (λ x. x.now) nodes.entry) (map (λ x. x.now) pools.entry) steps.now → PageIs (output_for i) page.old page.new result }
 {
     let mut answers = [0u32; AnswerWords::ALL];
-    let ran = run(wrapper, nodes, pools, steps, &mut answers);
-    match ran {
-        Ran::Done(n) => answered(page, &answers, n),
-        Ran::Refused(number, side, node) => refused(page, number, side, node),
-        Ran::BrokenOff => fault(page, 0),
-        Ran::TooShort => fault(page, 0),
+    match run(wrapper, nodes, pools, steps, &mut answers) {
+        Ok(n) => answered(page, &answers, n),
+        Err(RunError::Refused(number, side, node)) => refused(page, number, side, node),
+        Err(RunError::BrokenOff) => fault(page, 0),
+        Err(RunError::TooShort) => fault(page, 0),
     }
 }
 
@@ -68,31 +61,25 @@ pub fn output_on(input: &[u8], page: &mut [u8; Page::BYTES]) -> usize
     let mut nodes = [0u32; Places::NODES];
     let mut pools = [0u32; Places::POOLS];
     let mut steps = [0u32; Places::STEPS];
-    let r = read(input, &mut nodes, &mut pools, &mut steps);
-    let verdict = r.verdict;
-    match verdict {
-        Verdict::Fault(n) => fault(page, n),
-        Verdict::Whole => {
-            let p = r.places;
-            let a = p.nodes;
-            let b = p.pools;
-            let e = p.words;
-            let ns = parts(&nodes, Places::SIDE_NODES, a);
-            let ps = parts(&pools, Places::SIDE_POOL, b);
-            run_output(p.wrapper, ns, ps, &steps[..e], page)
+    match read(input, &mut nodes, &mut pools, &mut steps) {
+        Err(f) => fault(page, f.line),
+        Ok(p) => {
+            let ns = parts(&nodes, Places::SIDE_NODES, p.nodes);
+            let ps = parts(&pools, Places::SIDE_POOL, p.pools);
+            run_output(p.wrapper, ns, ps, &steps[..p.words], page)
         },
     }
 }
 
-// The output for an input, written to a lent buffer; nothing is written where that is too short.
-pub fn text(input: &[u8], out: &mut [u8]) -> Written
+// The output for an input, written to a lent buffer; nothing is written where that is too short. Gives how many bytes are written.
+pub fn text(input: &[u8], out: &mut [u8]) -> Result<usize, TooShort>
     ensures { TextIs (output input.now) out.old out.new result }
 {
     let mut page = [0u8; Page::BYTES];
     let n = output_on(input, &mut page);
     if out.len() < n {
-        return Written::TooShort;
+        return Err(TooShort);
     }
     out[..n].copy_from_slice(&page[..n]);
-    Written::Bytes(n)
+    Ok(n)
 }

@@ -11,10 +11,8 @@ fn taken(list: &mut [u32; 4400], at: usize, k: usize) -> usize {
 // The same for the first n shelf messages.
 pub fn takes(list: &mut [u32; 4400], at: usize, n: usize) -> usize {
     let mut end = at;
-    let mut k: usize = 0;
-    while k < n {
+    for k in 0..n {
         end = taken(list, end, k);
-        k += 1;
     }
     end
 }
@@ -35,10 +33,8 @@ fn three(list: &mut [u32; 4400], at: usize) -> usize {
 // The same n times.
 pub fn threes(list: &mut [u32; 4400], at: usize, n: usize) -> usize {
     let mut end = at;
-    let mut k: usize = 0;
-    while k < n {
+    for _ in 0..n {
         end = three(list, end);
-        k += 1;
     }
     end
 }
@@ -46,10 +42,8 @@ pub fn threes(list: &mut [u32; 4400], at: usize, n: usize) -> usize {
 // The name 20 enters on side 1, n times.
 pub fn enters(list: &mut [u32; 4400], at: usize, n: usize) -> usize {
     let mut end = at;
-    let mut k: usize = 0;
-    while k < n {
+    for _ in 0..n {
         end = enter_word(list, end, 1, 20);
-        k += 1;
     }
     end
 }

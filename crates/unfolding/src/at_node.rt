@@ -28,9 +28,10 @@ pub(crate) fn add_box(
     ensures { (result ≡ one_box c) × ((pool : List ℕ) → rows.new ≡ box_put rows.old c.boxes (word (env_of e.now d) (field (table nodes.now pool) n 1)) b) }
 {
     put_box(rows, c.boxes, word_in(e, d, field_at(nodes, n, 1)), b);
-    let mut r = c;
-    r.boxes = c.boxes + 1;
-    r
+    Counts {
+        boxes: c.boxes + 1,
+        ..c
+    }
 }
 
 // The name that node n binds: its value is the name that the side mints next.
@@ -45,11 +46,11 @@ pub(crate) fn mint_name(
     requires { (side < 65536) × (c.minted < 256) × (length e.old ≡ 144) × (d < 8) }
     ensures { (result ≡ one_name c) × ((pool : List ℕ) → e.new ≡ bound e.old d (field (table nodes.now pool) n 1) ((65536 * side + c.minted) ∷ [])) }
 {
-    let k = c.minted;
-    bind_name(e, d, field_at(nodes, n, 1), 65536 * side + k as u32);
-    let mut r = c;
-    r.minted = k + 1;
-    r
+    bind_name(e, d, field_at(nodes, n, 1), 65536 * side + c.minted as u32);
+    Counts {
+        minted: c.minted + 1,
+        ..c
+    }
 }
 
 // The output at node n, in box b.
@@ -79,9 +80,10 @@ pub(crate) fn unfold_output(
         d,
         words_at(Leaf::Public, pool, x.c),
     );
-    let mut r = c;
-    r.particles = c.particles + 1;
-    r
+    Counts {
+        particles: c.particles + 1,
+        ..c
+    }
 }
 
 // The input at node n, waiting in box b.
@@ -97,7 +99,8 @@ pub(crate) fn unfold_input(
     ensures { ParticleAdded (input b n (env_of e.now d).vals) rows.old c rows.new result }
 {
     put_input(rows, c.particles, b, n, e, d);
-    let mut r = c;
-    r.particles = c.particles + 1;
-    r
+    Counts {
+        particles: c.particles + 1,
+        ..c
+    }
 }

@@ -21,12 +21,14 @@ pub struct Counts {
 
 impl Counts {
     // A side's rest with these counts.
-    pub fn put_into(self, mut o: Rest) -> Rest
+    pub fn put_into(self, o: Rest) -> Rest
         ensures { result ≡ put_counts o self }
     {
-        o.particles = self.particles;
-        o.boxes = self.boxes;
-        o.minted = self.minted;
-        o
+        Rest {
+            particles: self.particles,
+            boxes: self.boxes,
+            minted: self.minted,
+            ..o
+        }
     }
 }

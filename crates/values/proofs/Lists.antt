@@ -1,11 +1,11 @@
 -- Laws on lists that are stored in an array and a length, for every element type.
-use Prim.Native.Nat.{ℕ, zero, suc, ◌+◌, ◌<◌, ◌≤◌}
+use Prim.Native.Nat.{ℕ, zero, suc, ◌+◌, ◌<◌}
 use mathlib.Core.Path.{◌≡◌, refl, sym, ◌∙◌, ap}
 use mathlib.Core.List.{List, [], ◌∷◌, ◌++◌, map, map-append}
 use native.Mathlib.Numerals.{add-one}
 use native.Mathlib.Omega.{arith}
 use lib.ListN.{length, take, drop, get_or, set, length-map, length-append}
-use lib.Seq.{take-suc-set, take_all, take-append-le, length-take-le, drop-cons}
+use lib.Seq.{take-suc-set, take_all, take-append-le, drop-cons}
 
 pub unmap : (X Y : Type 0) (f : X → Y) (l : List X) (n : ℕ) → length (map f l) ≡ n → length l ≡ n
 unmap X Y f l n p = sym (length-map l f) ∙ p
@@ -16,13 +16,6 @@ view_push f l n a h = rw (add-one, take-suc-set l n a, map-append)
 
 pub at_i : (s : List ℕ) (i : ℕ) → i < length s → drop i s ≡ get_or s i 0 ∷ drop (i + 1) s
 at_i s i h = rw (add-one, drop-cons s i 0 h)
-
--- how many elements are stored: the length, or all that the array holds
-pub count_in : {A : Type 0} (n m : ℕ) (l : List A) → length l ≡ m → n < m → n ≡ length (take n l)
-count_in n m l e h = sym (length-take-le n l (omega arith))
-
-pub count_all : {A : Type 0} (n m : ℕ) (l : List A) → length l ≡ m → m ≤ n → m ≡ length (take n l)
-count_all n m l e h = sym e ∙ ap length (sym (take_all n l (omega arith)))
 
 pub take_count : {A : Type 0} (n : ℕ) (l : List A) → take (length (take n l)) l ≡ take n l
 take_count zero l = refl

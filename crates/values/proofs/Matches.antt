@@ -6,10 +6,14 @@ use Prim.Native.Nat.{ℕ, zero, suc, ◌+◌, ◌-◌, ◌<◌, ◌≤◌}
 use native.Mathlib.Nat.{zero-add, suc-add, add_assoc, add-zero}
 use native.Mathlib.Omega.{arith}
 use borrow.Author.Tests.{le-leb, lt-leb, eq-eqb, ne_eqb}
+use denote.Ref.{Bor}
 use lib.Dec.{eqb}
-use lib.ListN.{length, get_or, take, drop, set, length-drop, drop_of_length-le, length-take, length-map}
+use lib.ListN.{length, take, drop, set, length-drop, drop_of_length-le, length-take, length-map}
 use lib.Seq.{take_all, length-take-le}
-use Rattle.model.specs.Basics.{Res, refuse, done, bind, choose}
+use Rattle.std.specs.Slice.{IsItemAt}
+use Rattle.std.specs.declared.option.Option.{Option}
+use Rattle.std.specs.declared.option.Option.TheVariants.{None, Some}
+use Rattle.model.specs.Basics.{Res, refuse, done, bind}
 use Rattle.model.specs.Values.{is_public, is_tuple, arity, rest_of, first_of, Fit, binds, matches, binders}
 use Rattle.values.specs.declared.Part.{Part}
 use Rattle.values.specs.declared.Bound.{Bound}
@@ -19,13 +23,16 @@ use Rattle.values.proofs.Lists.{at_i, take_again, view_push, push_fits, push_ful
 use Rattle.values.proofs.Spans.{EndIs}
 
 -- what the code answers
-pub fit_no : (p v : List ℕ) (m : Matched) → m.fits ≡ false → fit_of p v m ≡ refuse 14
-unfolding fit_of choose
-fit_no p v m e = rw e
+abbrev fit_at : List ℕ → List ℕ → Matched → Fit
+fit_at p v m = fit (drop m.pattern p) (drop m.value v) (view_bound v m.bound)
 
-pub fit_yes : (p v : List ℕ) (m : Matched) → m.fits ≡ true → fit_of p v m ≡ done (fit (drop m.pattern p) (drop m.value v) (view_bound v m.bound))
-unfolding fit_of choose
-fit_yes p v m e = rw e
+pub fit_no : (p v : List ℕ) → fit_of p v None ≡ refuse 14
+unfolding fit_of
+fit_no p v = refl
+
+pub fit_yes : (p v : List ℕ) (m : Matched) → fit_of p v (Some m) ≡ done (fit_at p v m)
+unfolding fit_of
+fit_yes p v m = refl
 
 -- no items
 after_none : (bs : List (List ℕ)) (p v : List ℕ) → stored_after bs (matches p 0 v) ≡ done (fit p v (take 8 bs))
@@ -110,9 +117,9 @@ module _ (v : List ℕ) (b : Bound) (p : Part) (full : length b.rows ≡ 8) wher
   pub bound_out : 8 ≤ b.n → view_bound v b ≡ take 8 (view_bound v b ++ (part_of v p ∷ []))
   bound_out h = push_full 8 (view_bound v b) (part_of v p ∷ []) (length-map (take b.n b.rows) (part_of v) ∙ ap length (take_all b.n b.rows (omega arith)) ∙ full)
 
-pub parts_none : (p v : List ℕ) (i j k : ℕ) (b : Bound) (m : Matched) → length b.rows ≡ 8 → k ≡ 0 → m ≡ record { fits = true; pattern = i; value = j; bound = b } →
-    fit_of p v m ≡ stored_after (view_bound v b) (matches (drop i p) k (drop j v))
-parts_none p v i j k b m full z e = rw (e, z) (fit_yes p v _ refl ∙ sym (after_none (view_bound v b) (drop i p) (drop j v) ∙ ap (λ (l : List (List ℕ)). done (fit (drop i p) (drop j v) l)) (bound_few v b full)))
+pub parts_none : (p v : List ℕ) (i j k : ℕ) (b : Bound) → length b.rows ≡ 8 → k ≡ 0 →
+    fit_of p v (Some (record { pattern = i; value = j; bound = b })) ≡ stored_after (view_bound v b) (matches (drop i p) k (drop j v))
+parts_none p v i j k b full z = rw z (fit_yes p v _ ∙ sym (after_none (view_bound v b) (drop i p) (drop j v) ∙ ap (λ (l : List (List ℕ)). done (fit (drop i p) (drop j v) l)) (bound_few v b full)))
 
 -- one item at the head of the pattern
 module _ (w : ℕ) (ps : List ℕ) where
@@ -140,46 +147,58 @@ refused_is : (bs : List (List ℕ)) (q : Res Fit) → q ≡ refuse 14 → refuse
 unfolding stored_after
 refused_is bs q e = rw e
 
+-- what `get` finds at a place
+pub got : (s : List ℕ) (i : ℕ) (r : Bor ℕ) → IsItemAt s i (Some r) → drop i s ≡ r.now ∷ drop (i + 1) s
+got s i r h = at_i s i h.3.0 ∙ ap (λ (w : ℕ). w ∷ drop (i + 1) s) (sym (h.4 (omega arith) 0))
+
+pub got_none : (s : List ℕ) (i : ℕ) → IsItemAt s i None → length s ≤ i
+got_none s i h = h.3
+
 -- one item, at place i of the pattern p and place j of the value v, after the parts b: what the code answers is what `matches` gives
-module _ (p v : List ℕ) (i j : ℕ) (b : Bound) (m : Matched) where
+module _ (p v : List ℕ) (i j : ℕ) (b : Bound) where
+  -- the answer of one item
+  abbrev One : Option Matched → Type 0
+  One m = fit_of p v m ≡ stored_after (view_bound v b) (matches (drop i p) 1 (drop j v))
+
+  no : matches (drop i p) 1 (drop j v) ≡ refuse 14 → One None
+  no q = fit_no p v ∙ refused_is (view_bound v b) _ q
+
   -- the pattern has ended
-  pub item_short : length p ≤ i → m.fits ≡ false → fit_of p v m ≡ stored_after (view_bound v b) (matches (drop i p) 1 (drop j v))
+  pub item_short : length p ≤ i → One None
   unfolding matches
-  item_short h f = fit_no p v m f ∙ refused_is (view_bound v b) _ (rw (drop_of_length-le p h, matches))
+  item_short h = no (rw (drop_of_length-le p h, matches))
 
-  module _ (h : i < length p) where
-    -- the same tuple word
-    pub item_tuple : is_tuple (get_or p i 0) ≡ true → j < length v → get_or v j 0 ≡ get_or p i 0 →
-        fit_of p v m ≡ stored_after (view_bound v b) (matches (drop (i + 1) p) (get_or p i 0 - 4000000) (drop (j + 1) v)) →
-        fit_of p v m ≡ stored_after (view_bound v b) (matches (drop i p) 1 (drop j v))
-    item_tuple t l e q = q ∙ ap (stored_after (view_bound v b)) (sym (rw (at_i p i h, at_i v j l) (tuple_eq (get_or p i 0) (drop (i + 1) p) (get_or v j 0) (drop (j + 1) v) t e)))
+  module _ (w : ℕ) (h : drop i p ≡ w ∷ drop (i + 1) p) where
+    module _ (t : is_tuple w ≡ true) where
+      -- the same tuple word
+      pub item_tuple : (x : ℕ) → drop j v ≡ x ∷ drop (j + 1) v → x ≡ w → (m : Option Matched) →
+          fit_of p v m ≡ stored_after (view_bound v b) (matches (drop (i + 1) p) (w - 4000000) (drop (j + 1) v)) → One m
+      item_tuple x l e m q = q ∙ ap (stored_after (view_bound v b)) (sym (rw (h, l) (tuple_eq w (drop (i + 1) p) x (drop (j + 1) v) t e)))
 
-    -- another word
-    pub item_other : is_tuple (get_or p i 0) ≡ true → j < length v → ((get_or v j 0 ≡ get_or p i 0) → ⊥) → m.fits ≡ false →
-        fit_of p v m ≡ stored_after (view_bound v b) (matches (drop i p) 1 (drop j v))
-    item_other t l e f = fit_no p v m f ∙ refused_is (view_bound v b) _ (rw (at_i p i h, at_i v j l) (tuple_ne (get_or p i 0) (drop (i + 1) p) (get_or v j 0) (drop (j + 1) v) t e))
+      -- another word
+      pub item_other : (x : ℕ) → drop j v ≡ x ∷ drop (j + 1) v → ((x ≡ w) → ⊥) → One None
+      item_other x l e = no (rw (h, l) (tuple_ne w (drop (i + 1) p) x (drop (j + 1) v) t e))
 
-    -- the value has ended
-    pub item_over : is_tuple (get_or p i 0) ≡ true → length v ≤ j → m.fits ≡ false → fit_of p v m ≡ stored_after (view_bound v b) (matches (drop i p) 1 (drop j v))
-    item_over t l f = fit_no p v m f ∙ refused_is (view_bound v b) _ (rw (at_i p i h, drop_of_length-le v l) (tuple_nil (get_or p i 0) (drop (i + 1) p) t))
+      -- the value has ended
+      pub item_over : length v ≤ j → One None
+      item_over l = no (rw (h, drop_of_length-le v l) (tuple_nil w (drop (i + 1) p) t))
 
-    module _ (t : is_tuple (get_or p i 0) ≡ false) (e : ℕ) (z : EndIs v j e) where
+    module _ (t : is_tuple (w) ≡ false) (e : ℕ) (z : EndIs v j e) where
       -- a name
-      pub item_name : get_or p i 0 ≤ 63 → (c : Bound) → view_bound v c ≡ take 8 (view_bound v b ++ (part_of v (record { start = j; len = e - j }) ∷ [])) →
-          m ≡ record { fits = true; pattern = i + 1; value = e; bound = c } → fit_of p v m ≡ stored_after (view_bound v b) (matches (drop i p) 1 (drop j v))
-      item_name n c q g =
+      pub item_name : w ≤ 63 → (c : Bound) → view_bound v c ≡ take 8 (view_bound v b ++ (part_of v (record { start = j; len = e - j }) ∷ [])) →
+          One (Some (record { pattern = i + 1; value = e; bound = c }))
+      item_name n c q =
           let bs = view_bound v b in
           let x = take (e - j) (drop j v) in
-          rw g (fit_yes p v _ refl ∙ ap (λ (l : List (List ℕ)). done (fit (drop (i + 1) p) (drop e v) l)) q ∙
-          sym (ap (stored_after bs) (rw (at_i p i h, z.left, z.first) (name_eq (get_or p i 0) (drop (i + 1) p) (drop j v) t (le-leb _ _ n))) ∙
-          after_binds bs x (matches (drop (i + 1) p) 0 (drop e v)) ∙ after_none (bs ++ (x ∷ [])) (drop (i + 1) p) (drop e v)))
+          fit_yes p v _ ∙ ap (λ (l : List (List ℕ)). done (fit (drop (i + 1) p) (drop e v) l)) q ∙
+          sym (ap (stored_after bs) (rw (h, z.left, z.first) (name_eq (w) (drop (i + 1) p) (drop j v) t (le-leb _ _ n))) ∙
+          after_binds bs x (matches (drop (i + 1) p) 0 (drop e v)) ∙ after_none (bs ++ (x ∷ [])) (drop (i + 1) p) (drop e v))
 
       -- the wildcard
-      pub item_wild : 63 < get_or p i 0 → length b.rows ≡ 8 → m ≡ record { fits = true; pattern = i + 1; value = e; bound = b } →
-          fit_of p v m ≡ stored_after (view_bound v b) (matches (drop i p) 1 (drop j v))
-      item_wild n full g =
-          rw g (fit_yes p v _ refl ∙ sym (ap (stored_after (view_bound v b)) (rw (at_i p i h, z.left) (wild_eq (get_or p i 0) (drop (i + 1) p) (drop j v) t (lt-leb _ _ n))) ∙
-          after_none (view_bound v b) (drop (i + 1) p) (drop e v) ∙ ap (λ (l : List (List ℕ)). done (fit (drop (i + 1) p) (drop e v) l)) (bound_few v b full)))
+      pub item_wild : 63 < w → length b.rows ≡ 8 → One (Some (record { pattern = i + 1; value = e; bound = b }))
+      item_wild n full =
+          fit_yes p v _ ∙ sym (ap (stored_after (view_bound v b)) (rw (h, z.left) (wild_eq (w) (drop (i + 1) p) (drop j v) t (lt-leb _ _ n))) ∙
+          after_none (view_bound v b) (drop (i + 1) p) (drop e v) ∙ ap (λ (l : List (List ℕ)). done (fit (drop (i + 1) p) (drop e v) l)) (bound_few v b full))
 
 -- one item makes the pattern shorter
 clash : {n : ℕ} {a : Fit} → refuse n ≡ done a → ⊥
@@ -220,9 +239,9 @@ matches_le (p ∷ ps) (suc n) v m e = go (is_tuple p) (is_public p) v (λ xs q. 
     go false false v x y q = out (y m q)
 
 -- the measure falls
-pub item_falls : (p v : List ℕ) (m : Matched) (i : ℕ) (x : List ℕ) (bs : List (List ℕ)) → m.fits ≡ true → fit_of p v m ≡ stored_after bs (matches (drop i p) 1 x) → length p - m.pattern < length p - i
+pub item_falls : (p v : List ℕ) (m : Matched) (i : ℕ) (x : List ℕ) (bs : List (List ℕ)) → fit_of p v (Some m) ≡ stored_after bs (matches (drop i p) 1 x) → length p - m.pattern < length p - i
 unfolding stored_after
-item_falls p v m i x bs f e = go (matches (drop i p) 1 x) refl (sym e ∙ fit_yes p v m f)
+item_falls p v m i x bs e = go (matches (drop i p) 1 x) refl (sym e ∙ fit_yes p v m)
   where
     go : (q : Res Fit) → matches (drop i p) 1 x ≡ q → stored_after bs q ≡ done (fit (drop m.pattern p) (drop m.value v) (view_bound v m.bound)) → length p - m.pattern < length p - i
     go (refuse n) a z = absurd (clash z)
@@ -232,7 +251,7 @@ item_falls p v m i x bs f e = go (matches (drop i p) 1 x) refl (sym e ∙ fit_ye
         omega (arith, length-drop i p, length-drop m.pattern p)
 
 -- a whole pattern
-pub whole : (p v : List ℕ) (m : Matched) (b : Bound) → b.n ≡ 0 → fit_of p v m ≡ stored_after (view_bound v b) (matches p 1 v) → fit_of p v m ≡ stored_after [] (matches p 1 v)
+pub whole : (p v : List ℕ) (m : Option Matched) (b : Bound) → b.n ≡ 0 → fit_of p v m ≡ stored_after (view_bound v b) (matches p 1 v) → fit_of p v m ≡ stored_after [] (matches p 1 v)
 whole p v m b z e = e ∙ ap (λ (l : List (List ℕ)). stored_after l (matches p 1 v)) none
   where
     none : view_bound v b ≡ []
@@ -287,14 +306,14 @@ all_stored p v n h = go (matches p n v) (bound_le p n v)
     go (done m) l = ap (λ (bs : List (List ℕ)). done (fit m.pattern m.value bs)) (take_all 8 m.bound (omega arith))
 
 -- what `matching` says, for a caller: it refuses what `matches` refuses, and gives what `matches` gives
-pub matched_no : (p v : List ℕ) (m : Matched) → fit_of p v m ≡ stored_after [] (matches p 1 v) → m.fits ≡ false → matches p 1 v ≡ refuse 14
+pub matched_no : (p v : List ℕ) → fit_of p v None ≡ stored_after [] (matches p 1 v) → matches p 1 v ≡ refuse 14
 unfolding stored_after
-matched_no p v m e f = go (matches p 1 v) (sym e ∙ fit_no p v m f)
+matched_no p v e = go (matches p 1 v) (sym e ∙ fit_no p v)
   where
     go : (q : Res Fit) → stored_after [] q ≡ refuse 14 → q ≡ refuse 14
     go (refuse n) z = z
     go (done k) z = absurd (clash (sym z))
 
-pub matched_yes : (p v : List ℕ) (m : Matched) → fit_of p v m ≡ stored_after [] (matches p 1 v) → m.fits ≡ true → length (binders p) ≤ 8 →
-    matches p 1 v ≡ done (fit (drop m.pattern p) (drop m.value v) (view_bound v m.bound))
-matched_yes p v m e f h = sym (all_stored p v 1 h) ∙ sym e ∙ fit_yes p v m f
+pub matched_yes : (p v : List ℕ) (m : Matched) → fit_of p v (Some m) ≡ stored_after [] (matches p 1 v) → length (binders p) ≤ 8 →
+    matches p 1 v ≡ done (fit_at p v m)
+matched_yes p v m e h = sym (all_stored p v 1 h) ∙ sym e ∙ fit_yes p v m

@@ -1,5 +1,5 @@
 -- Laws of a pattern's names: how many there are, and that none stands twice.
-use mathlib.Core.Path.{◌≡◌, refl, sym, ap, ◌∙◌}
+use mathlib.Core.Path.{◌≡◌, refl, sym, ap, ap₂, ◌∙◌}
 use mathlib.Core.Bool.{Bool, true, false, not, cond, ◌&&◌, ◌||◌, false≢true}
 use mathlib.Core.List.{List, [], ◌∷◌, ◌++◌, append-nil}
 use Prim.Native.Nat.{ℕ, zero, suc, ◌+◌, ◌<◌, ◌≤◌}
@@ -7,12 +7,16 @@ use native.Mathlib.Omega.{arith}
 use native.Mathlib.Numerals.{add-one}
 use borrow.Author.Tests.{le-leb, lt-leb, eq-eqb, ne_eqb, eqb-true, eqb-false, leb-false}
 use lib.Dec.{eqb}
-use lib.ListN.{length, get_or, take, drop, length-append, take-append-drop}
+use lib.ListN.{length, get_or, take, drop, take-append-drop}
 use lib.Seq.{take-suc, take_all}
+use Rattle.std.specs.List.{filter, list_any}
 use Rattle.model.specs.Basics.{has}
 use Rattle.model.specs.Values.{binders, distinct, is_public}
-use Rattle.model.proofs.Basics.Tests.{and_left, and_right, and_intro, or_true}
-use Rattle.values.proofs.Lists.{at_i}
+use Rattle.model.proofs.Basics.Tests.{and_left, and_right, and_intro}
+
+pub binders_filter : (l : List ℕ) → binders l ≡ filter is_public l
+binders_filter [] = refl
+binders_filter (w ∷ l) = rw (binders_filter l)
 
 pub binders_append : (a b : List ℕ) → binders (a ++ b) ≡ binders a ++ binders b
 binders_append [] b = refl
@@ -31,13 +35,6 @@ module _ (p : List ℕ) (i : ℕ) (h : i < length p) where
 
   pub next_other : 63 < get_or p i 0 → binders (take (i + 1) p) ≡ binders (take i p)
   next_other l = next ∙ rw (lt-leb (get_or p i 0) 63 l) (append-nil _)
-
-  -- the number of names
-  pub count_name : (r : ℕ) → r ≡ length (binders (take i p)) → get_or p i 0 ≤ 63 → r + 1 ≡ length (binders (take (i + 1) p))
-  count_name r e l = let z = ap length (next_name l) in omega (arith, length-append (binders (take i p)) (get_or p i 0 ∷ []))
-
-  pub count_other : (r : ℕ) → r ≡ length (binders (take i p)) → 63 < get_or p i 0 → r ≡ length (binders (take (i + 1) p))
-  count_other r e l = e ∙ ap length (sym (next_other l))
 
 pub binders_front : (p : List ℕ) (i : ℕ) → length (binders (take i p)) ≤ length (binders p)
 binders_front p zero = omega arith
@@ -64,18 +61,6 @@ or_none false = refl
 has_snoc : (m : ℕ) (l : List ℕ) (n : ℕ) → has m (l ++ (n ∷ [])) ≡ has m l || eqb m n
 has_snoc m l n = has_append m l (n ∷ []) ∙ ap (λ (b : Bool). has m l || b) (or_none (eqb m n))
 
-module _ (s : List ℕ) (i w : ℕ) (h : i < length s) where
-  pub has_here : get_or s i 0 ≡ w → true ≡ has w s
-  has_here e =
-      let whole : take i s ++ (get_or s i 0 ∷ drop (i + 1) s) ≡ s = ap (λ (l : List ℕ). take i s ++ l) (sym (at_i s i h)) ∙ take-append-drop i s in
-      sym (ap (has w) (sym whole) ∙ has_append w (take i s) (get_or s i 0 ∷ drop (i + 1) s) ∙ rw (eq-eqb w (get_or s i 0) (sym e)) (or_true (has w (take i s))))
-
-  pub has_more : has w (take i s) ≡ false → ((get_or s i 0 ≡ w) → ⊥) → has w (take (i + 1) s) ≡ false
-  has_more z n = rw (add-one, take-suc s i 0 h) (has_snoc w (take i s) (get_or s i 0) ∙ rw (z, ne_eqb w (get_or s i 0) (λ q. n (sym q))))
-
-pub has_none : (s : List ℕ) (i w : ℕ) → length s ≤ i → has w (take i s) ≡ false → false ≡ has w s
-has_none s i w h z = sym (ap (has w) (sym (take_all i s h)) ∙ z)
-
 -- a name is among the names where it is among the words
 has_name : (w : ℕ) (l : List ℕ) → w ≤ 63 → has w (binders l) ≡ has w l
 has_name w [] h = refl
@@ -91,6 +76,11 @@ eqb_sym a b = go (eqb b a) refl
     go : (t : Bool) → eqb b a ≡ t → eqb a b ≡ eqb b a
     go true e = eq-eqb a b (sym (eqb-true b a e)) ∙ sym e
     go false e = ne_eqb a b (λ q. eqb-false b a e (sym q)) ∙ sym e
+
+-- what `contains` answers
+has_any : (w : ℕ) (l : List ℕ) → list_any (λ y. eqb y w) l ≡ has w l
+has_any w [] = refl
+has_any w (x ∷ l) = ap₂ ◌||◌ (eqb_sym x w) (has_any w l)
 
 distinct_snoc : (l : List ℕ) (n : ℕ) → distinct (l ++ (n ∷ [])) ≡ distinct l && not (has n l)
 distinct_snoc [] n = refl
@@ -115,25 +105,25 @@ distinct_front (x ∷ a) b e = and_intro _ _ (go (has x a) refl (and_left _ _ e)
     go true p q = absurd (false≢true (sym (ap not (in-front p)) ∙ q))
     go false p q = ap not p
 
--- no name twice in the first words of a pattern, and in one more
+-- no name twice in the first words of a pattern, and in one more: f says whether the word is among those before it
 module _ (s : List ℕ) (i : ℕ) (h : i < length s) (z : distinct (binders (take i s)) ≡ true) where
-  step : get_or s i 0 ≤ 63 → (b : Bool) → has (get_or s i 0) (take i s) ≡ b → distinct (binders (take (i + 1) s)) ≡ not b
-  step l b e = ap distinct (next_name s i h l) ∙ distinct_snoc (binders (take i s)) (get_or s i 0) ∙ rw (z, has_name (get_or s i 0) (take i s) l, e)
+  step : get_or s i 0 ≤ 63 → (b : Bool) → b ≡ list_any (λ y. eqb y (get_or s i 0)) (take i s) → distinct (binders (take (i + 1) s)) ≡ not b
+  step l b f = ap distinct (next_name s i h l) ∙ distinct_snoc (binders (take i s)) (get_or s i 0) ∙ rw (z, has_name (get_or s i 0) (take i s) l, ← has_any, ← f)
 
   pub once_other : 63 < get_or s i 0 → distinct (binders (take (i + 1) s)) ≡ true
   once_other l = ap distinct (next_other s i h l) ∙ z
 
-  pub once_name : get_or s i 0 ≤ 63 → has (get_or s i 0) (take i s) ≡ false → distinct (binders (take (i + 1) s)) ≡ true
-  once_name l e = step l false e
+  pub once_name : get_or s i 0 ≤ 63 → (b : Bool) → b ≡ list_any (λ y. eqb y (get_or s i 0)) (take i s) → b ≡ false → distinct (binders (take (i + 1) s)) ≡ true
+  once_name l b f e = step l b f ∙ ap not e
 
-  pub twice : get_or s i 0 ≤ 63 → has (get_or s i 0) (take i s) ≡ true → false ≡ distinct (binders s)
-  twice l e = go (distinct (binders s)) refl
+  pub twice : get_or s i 0 ≤ 63 → (b : Bool) → b ≡ list_any (λ y. eqb y (get_or s i 0)) (take i s) → b ≡ true → false ≡ distinct (binders s)
+  twice l b f e = go (distinct (binders s)) refl
     where
       whole : binders (take (i + 1) s) ++ binders (drop (i + 1) s) ≡ binders s
       whole = sym (binders_append (take (i + 1) s) (drop (i + 1) s)) ∙ ap binders (take-append-drop (i + 1) s)
 
       go : (t : Bool) → distinct (binders s) ≡ t → false ≡ t
-      go true q = absurd (false≢true (sym (step l true e) ∙ distinct_front (binders (take (i + 1) s)) (binders (drop (i + 1) s)) (ap distinct whole ∙ q)))
+      go true q = absurd (false≢true (sym (step l b f ∙ ap not e) ∙ distinct_front (binders (take (i + 1) s)) (binders (drop (i + 1) s)) (ap distinct whole ∙ q)))
       go false q = refl
 
 pub once_all : (s : List ℕ) (i : ℕ) → length s ≤ i → distinct (binders (take i s)) ≡ true → true ≡ distinct (binders s)

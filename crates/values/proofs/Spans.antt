@@ -3,10 +3,10 @@ use mathlib.Core.Path.{◌≡◌, refl, sym, ap, ◌∙◌, subst}
 use mathlib.Core.Bool.{Bool, true, false}
 use mathlib.Core.List.{List, [], ◌∷◌}
 use mathlib.Core.Logic.{◌⊎◌, inl, inr, ⊎_elim}
-use Prim.Native.Nat.{ℕ, zero, suc, ◌+◌, ◌-◌, ◌<◌, ◌≤◌}
+use Prim.Native.Nat.{ℕ, zero, suc, ◌+◌, ◌-◌, ◌<◌, ◌≤◌, min, max}
 use native.Mathlib.Omega.{arith}
-use borrow.Author.Tests.{le-leb, lt-leb, eq-eqb, ne_eqb, eqb-true, eqb-false, ltb-true, ltb-false}
-use lib.Dec.{ltb, eqb}
+use borrow.Author.Tests.{le-leb, lt-leb, leb-true, leb-false, eq-eqb, ne_eqb, eqb-true, eqb-false, ltb-true, ltb-false}
+use lib.Dec.{leb, ltb, eqb}
 use lib.ListN.{length, get_or, take, drop, length-drop, drop_of_length-le, length-take}
 use lib.Seq.{drop-drop, drop-length, take_all, take-take, length-take-le}
 use Rattle.model.specs.Basics.{◌&◌, Res, refuse, done, or_else}
@@ -15,8 +15,9 @@ use Rattle.model.proofs.Basics.Items.{items_zero, items_leaf, items_tuple, items
 use Rattle.values.proofs.Lists.{at_i}
 use Rattle.values.proofs.Words.{left_false}
 use Rattle.values.specs.Span.{leaf_of, found, span_of, end_of, size_of}
-use Rattle.values.specs.declared.Span.{Span}
-use Rattle.values.specs.declared.Span.TheVariants.{At, Bad}
+use Rattle.std.specs.Option.{unwrap_or, option_eq}
+use Rattle.std.specs.declared.option.Option.{Option}
+use Rattle.std.specs.declared.option.Option.TheVariants.{None, Some}
 use Rattle.values.specs.declared.Leaf.TheVariants.{Name}
 
 -- what stands behind the end e of the first value from place j on, and the words of that value
@@ -59,12 +60,12 @@ module _ (leaf : ℕ → Bool) (e : ℕ) where
 
 -- THE LAWS OF `span_of`, one for each way the code goes
 module _ (leaf : ℕ → Bool) where
-  pub span_none : (s : List ℕ) (i : ℕ) → span_of leaf s i 0 ≡ At i
+  pub span_none : (s : List ℕ) (i : ℕ) → span_of leaf s i 0 ≡ Some i
   unfolding span_of
-  span_none s i = rw items_zero (ap At (omega arith))
+  span_none s i = rw items_zero (ap Some (omega arith))
 
   -- fewer words than items are left
-  pub span_short : (s : List ℕ) (i n : ℕ) → length s - i < n → span_of leaf s i n ≡ Bad
+  pub span_short : (s : List ℕ) (i n : ℕ) → length s - i < n → span_of leaf s i n ≡ None
   unfolding span_of
   span_short s i n h = rw (items_short leaf 5 (drop i s) n (omega (arith, length-drop i s)))
 
@@ -84,7 +85,7 @@ module _ (leaf : ℕ → Bool) where
         shift (done r) q =
             let t = items_tail leaf 5 (drop (i + 1) s) m r q in
             let k : length r ≡ length s - (i + 1) - t.0 = ap length (sym t.1) ∙ length-drop t.0 (drop (i + 1) s) ∙ rw length-drop in
-            ap At (rw (length-drop i s, length-drop (i + 1) s) (omega (arith, k)))
+            ap Some (rw (length-drop i s, length-drop (i + 1) s) (omega (arith, k)))
 
     pub span_leaf : leaf (get_or s i 0) ≡ true → span_of leaf s i n ≡ span_of leaf s (i + 1) (n - 1)
     span_leaf l = next (n - 1) (items_leaf leaf 5 (get_or s i 0) (drop (i + 1) s) (n - 1) l)
@@ -95,16 +96,16 @@ module _ (leaf : ℕ → Bool) where
         let sum : arity (get_or s i 0) + (n - 1) ≡ m = omega arith in
         next m (items_tuple leaf 5 (get_or s i 0) (drop (i + 1) s) (n - 1) l q ∙ ap (items leaf 5 (drop (i + 1) s)) sum)
 
-    pub span_bad : leaf (get_or s i 0) ≡ false → is_tuple (get_or s i 0) ≡ false → span_of leaf s i n ≡ Bad
+    pub span_bad : leaf (get_or s i 0) ≡ false → is_tuple (get_or s i 0) ≡ false → span_of leaf s i n ≡ None
     unfolding span_of
     span_bad l q = ap (found s i) (opened ∙ items_bad leaf 5 (get_or s i 0) (drop (i + 1) s) (n - 1) l q)
 
-  pub found_tail : (s : List ℕ) (i n j : ℕ) → span_of leaf s i n ≡ At j →
+  pub found_tail : (s : List ℕ) (i n j : ℕ) → span_of leaf s i n ≡ Some j →
       (items leaf 5 (drop i s) n ≡ done (drop j s)) × (i ≤ j) × (j ≤ i + (length s - i)) × (0 < n → i < j)
   unfolding span_of
   found_tail s i n j p = go (items leaf 5 (drop i s) n) refl
     where
-      on : (r : List ℕ) → At (i + (length (drop i s) - length r)) ≡ At j → items leaf 5 (drop i s) n ≡ done r → Tail leaf 5 (drop i s) n r →
+      on : (r : List ℕ) → Some (i + (length (drop i s) - length r)) ≡ Some j → items leaf 5 (drop i s) n ≡ done r → Tail leaf 5 (drop i s) n r →
           (items leaf 5 (drop i s) n ≡ done (drop j s)) × (i ≤ j) × (j ≤ i + (length s - i)) × (0 < n → i < j)
       on r p' q t =
           let e : drop (i + t.0) s ≡ r = sym (drop-drop t.0 i s) ∙ t.1 in
@@ -118,7 +119,7 @@ module _ (leaf : ℕ → Bool) where
       go (done r) q = on r (rw q at p) q (items_tail leaf 5 (drop i s) n r q)
 
   -- the next place is further on, and within the words
-  pub span_grows : (s : List ℕ) (i j : ℕ) → span_of leaf s i 1 ≡ At j → (i < j) × (j ≤ length s)
+  pub span_grows : (s : List ℕ) (i j : ℕ) → span_of leaf s i 1 ≡ Some j → (i < j) × (j ≤ length s)
   span_grows s i j p = let (a, b, c, d) = found_tail s i 1 j p in (d (omega arith), omega (arith, d (omega arith)))
 
 -- the refusal's number plays no part
@@ -146,15 +147,15 @@ module _ (v : List ℕ) (j : ℕ) where
   unfolding end_of
   is_end e h l p = rw p (rw (length-drop j v, length-drop e v) (⊎_elim (λ a. omega arith) (λ a. omega arith) l))
 
-  rest_at : (e : ℕ) → span_of (leaf_of Name) v j 1 ≡ At e → rest_of (drop j v) ≡ drop e v
+  rest_at : (e : ℕ) → span_of (leaf_of Name) v j 1 ≡ Some e → rest_of (drop j v) ≡ drop e v
   unfolding rest_of leaf_of
   rest_at e p = let (a, b, c, d) = found_tail is_name v j 1 e p in rw (items_recode is_name 11 5 (drop j v) 1, a)
 
-  rest_bad : span_of (leaf_of Name) v j 1 ≡ Bad → rest_of (drop j v) ≡ drop (length v) v
+  rest_bad : span_of (leaf_of Name) v j 1 ≡ None → rest_of (drop j v) ≡ drop (length v) v
   unfolding rest_of leaf_of span_of
   rest_bad p = rw (items_recode is_name 11 5 (drop j v) 1, drop-length v) (go (items is_name 5 (drop j v) 1) p)
     where
-      go : (q : Res (List ℕ)) → found v j q ≡ Bad → or_else (recode 11 q) [] ≡ []
+      go : (q : Res (List ℕ)) → found v j q ≡ None → or_else (recode 11 q) [] ≡ []
       go (refuse e) z = refl
       go (done r) z = let y : ◌≡◌ {A = ℕ} 0 1 = cc in absurd (omega arith)
 
@@ -162,14 +163,23 @@ module _ (v : List ℕ) (j : ℕ) where
   unfolding rest_of items
   rest_past h = rw (drop_of_length-le v h)
 
-  pub end_at : (e : ℕ) → span_of (leaf_of Name) v j 1 ≡ At e → e ≡ end_of v j
+  pub end_at : (e : ℕ) → span_of (leaf_of Name) v j 1 ≡ Some e → e ≡ end_of v j
   end_at e p = let g = span_grows (leaf_of Name) v j e p in is_end e (omega arith) (inl g.1) (rest_at e p)
 
-  pub end_bad : j < length v → span_of (leaf_of Name) v j 1 ≡ Bad → length v ≡ end_of v j
+  pub end_bad : j < length v → span_of (leaf_of Name) v j 1 ≡ None → length v ≡ end_of v j
   end_bad h p = is_end (length v) (omega arith) (inl (omega arith)) (rest_bad p)
 
   pub end_past : length v ≤ j → j ≡ end_of v j
   end_past h = is_end j (omega arith) (inr refl) (rest_past h)
+
+  -- the same from the answer for the item at place j
+  pub end_or : (r : Option ℕ) → r ≡ span_of (leaf_of Name) v j 1 → unwrap_or r (max (length v) j) ≡ end_of v j
+  end_or (Some e) p = end_at e (sym p)
+  end_or None p = go (ltb j (length v)) refl
+    where
+      go : (b : Bool) → ltb j (length v) ≡ b → max (length v) j ≡ end_of v j
+      go true t = let h = ltb-true j (length v) t in rw (← end_bad h (sym p)) (omega arith)
+      go false t = let h = ltb-false j (length v) t in rw (← end_past h) (omega arith)
 
   -- e is where the first value from place j on ends
   of_rest : (e : ℕ) → e ≡ end_of v j → j ≤ e → rest_of (drop j v) ≡ drop e v → EndIs v j e
@@ -181,11 +191,11 @@ module _ (v : List ℕ) (j : ℕ) where
   pub end_is : (e : ℕ) → e ≡ end_of v j → EndIs v j e
   end_is e q = subst (EndIs v j) (sym q) (place (ltb j (length v)) refl)
     where
-      word : j < length v → (s : Span) → span_of (leaf_of Name) v j 1 ≡ s → EndIs v j (end_of v j)
-      word h (At e) p =
+      word : j < length v → (s : Option ℕ) → span_of (leaf_of Name) v j 1 ≡ s → EndIs v j (end_of v j)
+      word h (Some e) p =
           let g = span_grows (leaf_of Name) v j e p in
           subst (EndIs v j) (end_at e p) (of_rest e (end_at e p) (omega arith) (rest_at e p))
-      word h Bad p = subst (EndIs v j) (end_bad h p) (of_rest (length v) (end_bad h p) (omega arith) (rest_bad p))
+      word h None p = subst (EndIs v j) (end_bad h p) (of_rest (length v) (end_bad h p) (omega arith) (rest_bad p))
 
       place : (b : Bool) → ltb j (length v) ≡ b → EndIs v j (end_of v j)
       place true t = word (ltb-true j (length v) t) (span_of (leaf_of Name) v j 1) refl
@@ -199,17 +209,17 @@ module _ (leaf : ℕ → Bool) (pool : List ℕ) (p : ℕ) where
     where
       go : (q : Res (List ℕ)) → found (take 16 (drop p pool)) 0 q ≡ size_of (elim q [ refuse n ↦ refuse n | done r ↦ done (take (length (take 16 (drop p pool)) - length r) (take 16 (drop p pool))) ])
       go (refuse n) = refl
-      go (done r) = ap At (omega (arith, length-take (length (take 16 (drop p pool)) - length r) (take 16 (drop p pool))))
+      go (done r) = ap Some (omega (arith, length-take (length (take 16 (drop p pool)) - length r) (take 16 (drop p pool))))
 
-  pub size_in : (n : ℕ) → n ≡ 16 → span_of leaf (take n (drop p pool)) 0 1 ≡ size_of (at leaf pool p)
-  size_in n e = ap (λ (k : ℕ). span_of leaf (take k (drop p pool)) 0 1) e ∙ size_is
+  -- by the words of the pool from the place on
+  pub size_of_rest : (rest : List ℕ) (n : ℕ) → rest ≡ drop p pool → n ≡ min (length rest) 16 → span_of leaf (take n rest) 0 1 ≡ size_of (at leaf pool p)
+  size_of_rest rest n r e = ap (λ (x : List ℕ). span_of leaf x 0 1) (rw (← r) (cut (leb 16 (length rest)) refl)) ∙ size_is
+    where
+      cut : (b : Bool) → leb 16 (length rest) ≡ b → take n rest ≡ take 16 rest
+      cut true t = let full : n ≡ 16 = omega (arith, leb-true 16 (length rest) t) in ap (λ (k : ℕ). take k rest) full
+      cut false t = let h = leb-false 16 (length rest) t in take_all n rest (omega arith) ∙ sym (take_all 16 rest (omega arith))
 
-  pub size_end : (n : ℕ) → n ≡ length pool - p → length pool - p < 16 → span_of leaf (take n (drop p pool)) 0 1 ≡ size_of (at leaf pool p)
-  size_end n e h =
-      let d = length-drop p pool in
-      ap (λ (x : List ℕ). span_of leaf x 0 1) (take_all n (drop p pool) (omega arith) ∙ sym (take_all 16 (drop p pool) (omega arith))) ∙ size_is
-
-  pub size_past : length pool ≤ p → Bad ≡ size_of (at leaf pool p)
+  pub size_past : length pool ≤ p → None ≡ size_of (at leaf pool p)
   unfolding at items
   size_past h = rw (size_of, at, drop_of_length-le pool h)
 
@@ -247,11 +257,11 @@ module _ (s : List ℕ) where
   unfolding is_value
   value_long h = sym (left_false _ _ (lt-leb _ _ h))
 
-  pub value_at_lem : (e : ℕ) → length s ≤ 16 → span_of (leaf_of Name) s 0 1 ≡ At e → eqb e (length s) ≡ is_value s
+  pub value_at_lem : (e : ℕ) → length s ≤ 16 → span_of (leaf_of Name) s 0 1 ≡ Some e → eqb e (length s) ≡ is_value s
   unfolding is_value shaped span_of leaf_of ◌&◌
   value_at_lem e h p = rw (le-leb (length s) 16 h, shaped, items_recode is_name 11 5 s 1) (go (items is_name 5 s 1) refl p)
     where
-      go : (q : Res (List ℕ)) → items is_name 5 s 1 ≡ q → found s 0 q ≡ At e → eqb e (length s) ≡ elim (recode 11 q) [ refuse n ↦ false | done r ↦ eqb (length r) 0 ]
+      go : (q : Res (List ℕ)) → items is_name 5 s 1 ≡ q → found s 0 q ≡ Some e → eqb e (length s) ≡ elim (recode 11 q) [ refuse n ↦ false | done r ↦ eqb (length r) 0 ]
       go (refuse n) a z = let y : ◌≡◌ {A = ℕ} 0 1 = cc in absurd (omega arith)
       go (done r) a z =
           let t = items_tail is_name 5 s 1 r a in
@@ -260,10 +270,15 @@ module _ (s : List ℕ) where
           let pos = t.3 (omega arith) in
           eqb_same e (length s) (length r) 0 (λ x. omega (arith, t.2)) (λ x. omega (arith, t.2))
 
-  pub value_bad : length s ≤ 16 → span_of (leaf_of Name) s 0 1 ≡ Bad → false ≡ is_value s
+  pub value_bad : length s ≤ 16 → span_of (leaf_of Name) s 0 1 ≡ None → false ≡ is_value s
   unfolding is_value shaped span_of leaf_of ◌&◌
   value_bad h p = rw (le-leb (length s) 16 h, shaped, items_recode is_name 11 5 s 1) (go (items is_name 5 s 1) p)
     where
-      go : (q : Res (List ℕ)) → found s 0 q ≡ Bad → false ≡ elim (recode 11 q) [ refuse n ↦ false | done r ↦ eqb (length r) 0 ]
+      go : (q : Res (List ℕ)) → found s 0 q ≡ None → false ≡ elim (recode 11 q) [ refuse n ↦ false | done r ↦ eqb (length r) 0 ]
       go (refuse n) z = refl
       go (done r) z = let y : ◌≡◌ {A = ℕ} 0 1 = cc in absurd (omega arith)
+
+  -- by the answer for the item at place 0
+  pub value_of : (r : Option ℕ) → length s ≤ 16 → r ≡ span_of (leaf_of Name) s 0 1 → option_eq eqb r (Some (length s)) ≡ is_value s
+  value_of (Some e) h p = value_at_lem e h (sym p)
+  value_of None h p = value_bad h (sym p)

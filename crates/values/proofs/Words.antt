@@ -6,28 +6,22 @@ use native.Mathlib.Omega.{arith}
 use borrow.Author.Tests.{le-leb, lt-leb, leb-true, leb-false}
 use lib.Dec.{leb, eqb}
 use Rattle.model.specs.Basics.{◌&◌, ◌or◌}
-use Rattle.model.specs.Values.{is_tuple, is_minted, is_outside}
+use Rattle.model.specs.Values.{is_minted, is_outside}
 use Rattle.values.specs.Span.{leaf_of}
 use Rattle.values.specs.declared.Leaf.{Leaf}
 use Rattle.values.specs.declared.Leaf.TheVariants.{Public, Pattern, Name}
 
+-- two bounds tested one after the other
+module _ (a b w : ℕ) where
+  pub within_low : w < a → leb a w ≡ leb a w & leb w b
+  unfolding ◌&◌
+  within_low h = rw (lt-leb a w h)
+
+  pub within_high : a ≤ w → leb w b ≡ leb a w & leb w b
+  unfolding ◌&◌
+  within_high h = rw (le-leb a w h)
+
 module _ (w : ℕ) where
-  pub tuple_low : w < 4000000 → false ≡ is_tuple w
-  unfolding ◌&◌
-  tuple_low h = rw (lt-leb 4000000 w h)
-
-  pub tuple_high : 4000000 ≤ w → leb w 4000015 ≡ is_tuple w
-  unfolding ◌&◌
-  tuple_high h = rw (le-leb 4000000 w h)
-
-  pub outside_low : w < 196608 → false ≡ is_outside w
-  unfolding ◌&◌
-  outside_low h = rw (lt-leb 196608 w h)
-
-  pub outside_high : 196608 ≤ w → leb w 196863 ≡ is_outside w
-  unfolding ◌&◌
-  outside_high h = rw (le-leb 196608 w h)
-
   pub minted_none : w < 65536 → false ≡ is_minted w
   unfolding ◌&◌ ◌or◌
   minted_none h = rw (lt-leb 65536 w h, lt-leb 131072 w (omega arith))

@@ -1,6 +1,8 @@
 -- A match with its places and parts, as `matches` gives it.
 use Rattle.std.specs.Prelude.{List, ◌++◌, map, ℕ, take, drop}
-use Rattle.model.specs.Basics.{Res, refuse, done, choose}
+use Rattle.std.specs.declared.option.Option.{Option}
+use Rattle.std.specs.declared.option.Option.TheVariants.{None, Some}
+use Rattle.model.specs.Basics.{Res, refuse, done}
 use Rattle.model.specs.Values.{Fit}
 use Rattle.values.specs.declared.Part.{Part}
 use Rattle.values.specs.declared.Bound.{Bound}
@@ -19,8 +21,9 @@ abbrev pub fit : List ℕ → List ℕ → List (List ℕ) → Fit
 fit p v bs = record { pattern = p; value = v; bound = bs }
 
 -- the answer to matching the pattern p with the value v; 14 where the pattern does not take the value
-unfoldable pub fit_of : List ℕ → List ℕ → Matched → Res Fit
-fit_of p v m = choose m.fits (done (fit (drop m.pattern p) (drop m.value v) (view_bound v m.bound))) (refuse 14)
+unfoldable pub fit_of : List ℕ → List ℕ → Option Matched → Res Fit
+fit_of p v None = refuse 14
+fit_of p v (Some m) = done (fit (drop m.pattern p) (drop m.value v) (view_bound v m.bound))
 
 -- a match after the values bs were bound, as an array of eight stores it: these and then its own, the first eight of them
 unfoldable pub stored_after : List (List ℕ) → Res Fit → Res Fit

@@ -1,8 +1,7 @@
 // Values and patterns as words: where one ends, and what a pattern takes of a value.
 #![tactic(auto)]
 
-ghost use Rattle.std.specs.Prelude.{◌≡◌, true, false, List, [], ◌∷◌, ◌++◌, ℕ, ◌≤◌, leb, length, take, drop};
-ghost use Rattle.model.specs.Basics.{has};
+ghost use Rattle.std.specs.Prelude.{◌≡◌, List, [], ◌∷◌, ◌++◌, ℕ, ◌≤◌, leb, length, take, drop};
 ghost use Rattle.model.specs.Values.{is_tuple, is_minted, is_outside, matches, binders, distinct, at, is_value};
 ghost use Rattle.values.specs.Span.{leaf_of, span_of, end_of, size_of};
 ghost use Rattle.values.specs.Match.{view_bound, part_of, fit_of, stored_after};
@@ -14,13 +13,6 @@ pub enum Leaf {
     Public,
     Pattern,
     Name,
-}
-
-// Where something ends or how many words it has, or that it is malformed.
-#[derive(Clone, Copy)]
-pub enum Span {
-    At(usize),
-    Bad,
 }
 
 // How many sides mint names.
@@ -36,54 +28,41 @@ pub fn is_minted(w: u32) -> bool
     ensures { result ≡ is_minted w }
 {
     let side = (w / 65536) as usize;
-    if side == 0 {
-        return false;
-    }
-    if Minting::SIDES < side {
-        return false;
-    }
-    w % 65536 <= 255
+    1 <= side && side <= Minting::SIDES && w % 65536 <= 255
 }
 
 // Whether w is a name from outside: 196,608 + serial, serial up to 255.
 pub fn is_outside(w: u32) -> bool
     ensures { result ≡ is_outside w }
 {
-    if w < 196608 { false } else { w <= 196863 }
+    196608 <= w && w <= 196863
 }
 
 // Whether w is an item by itself.
 fn is_leaf(l: Leaf, w: u32) -> bool
     ensures { result ≡ leaf_of l w }
 {
-    if w <= 63 {
-        return true;
-    }
-    match l {
-        Leaf::Public => false,
-        Leaf::Pattern => w == 4999999,
-        Leaf::Name => {
-            if is_minted(w) {
-                return true;
-            }
-            is_outside(w)
-        },
-    }
+    w <= 63
+        || match l {
+            Leaf::Public => false,
+            Leaf::Pattern => w == 4999999,
+            Leaf::Name => is_minted(w) || is_outside(w),
+        }
 }
 
 // Whether w is a tuple word, 4,000,000 + k with k up to 15.
 pub fn is_tuple(w: u32) -> bool
     ensures { result ≡ is_tuple w }
 {
-    if w < 4000000 { false } else { w <= 4000015 }
+    4000000 <= w && w <= 4000015
 }
 
-// Where the item at place i ends. The words before place j are read; n items are still to come, and at least n words.
-fn item_end(l: Leaf, s: &[u32], i: usize) -> Span
+// Where the item at place i ends; none where it is malformed. The words before place j are read; n items and at least n words are to come.
+fn item_end(l: Leaf, s: &[u32], i: usize) -> Option<usize>
     ensures { result ≡ span_of (leaf_of l) s.now i 1 }
 {
     if s.len() <= i {
-        return Span::Bad;
+        return None;
     }
     let mut j = i;
     let mut n: usize = 1;
@@ -94,104 +73,55 @@ fn item_end(l: Leaf, s: &[u32], i: usize) -> Span
         if is_leaf(l, w) {
             continue;
         }
-        if is_tuple(w) {
-            let k = (w - 4000000) as usize;
-            if s.len() - j - n < k {
-                return Span::Bad;
-            }
-            n += k;
-        } else {
-            return Span::Bad;
+        if !is_tuple(w) {
+            return None;
         }
+        let k = (w - 4000000) as usize;
+        if s.len() - j - n < k {
+            return None;
+        }
+        n += k;
     }
-    Span::At(j)
+    Some(j)
 }
 
-// How many words the value or pattern at place p of a pool has: it is malformed where it has over 16 or passes the pool's end.
-pub fn size_at(l: Leaf, pool: &[u32], p: usize) -> Span
+// How many words the value or pattern at place p of a pool has; none where it has over 16 or passes the pool's end.
+pub fn size_at(l: Leaf, pool: &[u32], p: usize) -> Option<usize>
     ensures { result ≡ size_of (at (leaf_of l) pool.now p) }
 {
-    if p < pool.len() {
-        if pool.len() - p < Value::LONGEST {
-            item_end(l, &pool[p..], 0)
-        } else {
-            let e = p + Value::LONGEST;
-            item_end(l, &pool[p..e], 0)
-        }
-    } else {
-        Span::Bad
-    }
+    let rest = pool.get(p..)?;
+    item_end(l, &rest[..rest.len().min(Value::LONGEST)], 0)
 }
 
 // Whether the words are one value of at most 16 words.
 pub fn is_value(s: &[u32]) -> bool
     ensures { result ≡ is_value s.now }
 {
-    if !Value::length_within(s.len()) {
-        return false;
-    }
-    match item_end(Leaf::Name, s, 0) {
-        Span::At(e) => e == s.len(),
-        Span::Bad => false,
-    }
+    Value::length_within(s.len()) && item_end(Leaf::Name, s, 0) == Some(s.len())
 }
 
 // Where the first value from place j on ends; the end of v where none stands there, and j past the end.
 fn value_end(v: &[u32], j: usize) -> usize
     ensures { result ≡ end_of v.now j }
 {
-    if j < v.len() {
-        match item_end(Leaf::Name, v, j) {
-            Span::At(e) => e,
-            Span::Bad => v.len(),
-        }
-    } else {
-        j
-    }
+    item_end(Leaf::Name, v, j).unwrap_or(v.len().max(j))
 }
 
 // How many names a pattern has.
 pub fn names_in(s: &[u32]) -> usize
     ensures { (result ≡ length (binders s.now)) × (result ≤ length s.now) }
 {
-    let mut r: usize = 0;
-    let mut i: usize = 0;
-    while i < s.len() {
-        if s[i] <= 63 {
-            r += 1;
-        }
-        i += 1;
-    }
-    r
-}
-
-// Whether w is among the words.
-fn has_word(s: &[u32], w: u32) -> bool
-    ensures { result ≡ has w s.now }
-{
-    let mut i: usize = 0;
-    while i < s.len() {
-        if s[i] == w {
-            return true;
-        }
-        i += 1;
-    }
-    false
+    s.iter().filter(|w| **w <= 63).count()
 }
 
 // Whether no name stands twice in a pattern.
 pub fn distinct_in(s: &[u32]) -> bool
     ensures { result ≡ distinct (binders s.now) }
 {
-    let mut i: usize = 0;
-    while i < s.len() {
-        let w = s[i];
-        if w <= 63 {
-            if has_word(&s[..i], w) {
-                return false;
-            }
+    for (i, &w) in s.iter().enumerate() {
+        if w <= 63 && s[..i].contains(&w) {
+            return false;
         }
-        i += 1;
     }
     true
 }
@@ -204,16 +134,16 @@ pub struct Part {
 }
 
 // The parts bound so far, in the order of the names.
+// Stays an array with a length beside it: fixed memory, without a heap.
 #[derive(Clone, Copy)]
 pub struct Bound {
     pub rows: [Part; Bound::MOST],
     pub n: usize,
 }
 
-// What matching gives: whether the pattern takes the value, the next places in both, and the parts bound.
+// How far a pattern takes a value: the next places in both, and the parts bound.
 #[derive(Clone, Copy)]
 pub struct Matched {
-    pub fits: bool,
     pub pattern: usize,
     pub value: usize,
     pub bound: Bound,
@@ -237,84 +167,53 @@ impl Bound {
     fn push(mut self, start: usize, len: usize) -> Bound
         ensures { (v : List ℕ) → view_bound v result ≡ take 8 (view_bound v self ++ (part_of v (record { start = start; len = len }) ∷ [])) }
     {
-        let n = self.n;
-        if n < Bound::MOST {
-            self.rows[n] = Part { start, len };
-            self.n = n + 1;
+        if self.n < Bound::MOST {
+            self.rows[self.n] = Part { start, len };
+            self.n += 1;
         }
         self
     }
 }
 
-impl Matched {
-    // The pattern does not take the value.
-    fn refused() -> Matched
-        ensures { result.fits ≡ false }
-    {
-        Matched {
-            fits: false,
-            pattern: 0,
-            value: 0,
-            bound: Bound::none(),
-        }
-    }
-
-    // The pattern up to place i takes the value up to place j.
-    fn up_to(i: usize, j: usize, b: Bound) -> Matched
-        ensures { result ≡ record { fits = true; pattern = i; value = j; bound = b } }
-    {
-        Matched {
-            fits: true,
-            pattern: i,
-            value: j,
-            bound: b,
-        }
-    }
-}
-
 // One item of the pattern p, at place i, against one value of the words v, at place j, after the parts b.
 #[cycle(match_item_match_parts)]
-fn match_item(p: &[u32], v: &[u32], i: usize, j: usize, b: Bound) -> Matched
+fn match_item(p: &[u32], v: &[u32], i: usize, j: usize, b: Bound) -> Option<Matched>
     ensures { fit_of p.now v.now result ≡ stored_after (view_bound v.now b) (matches (drop i p.now) 1 (drop j v.now)) }
 {
-    if p.len() <= i {
-        return Matched::refused();
-    }
-    let w = p[i];
+    let w = *p.get(i)?;
     if is_tuple(w) {
-        if v.len() <= j {
-            return Matched::refused();
+        if *v.get(j)? != w {
+            return None;
         }
-        if v[j] == w {
-            return match_parts(p, v, i + 1, j + 1, w - 4000000, b);
-        }
-        return Matched::refused();
+        return match_parts(p, v, i + 1, j + 1, w - 4000000, b);
     }
     let e = value_end(v, j);
-    if w <= 63 {
-        return Matched::up_to(i + 1, e, b.push(j, e - j));
-    }
-    Matched::up_to(i + 1, e, b)
+    let bound = if w <= 63 { b.push(j, e - j) } else { b };
+    Some(Matched {
+        pattern: i + 1,
+        value: e,
+        bound,
+    })
 }
 
 // The remaining k parts of a tuple, one after the other.
 #[cycle(match_item_match_parts)]
-fn match_parts(p: &[u32], v: &[u32], i: usize, j: usize, k: u32, b: Bound) -> Matched
+fn match_parts(p: &[u32], v: &[u32], i: usize, j: usize, k: u32, b: Bound) -> Option<Matched>
     ensures { fit_of p.now v.now result ≡ stored_after (view_bound v.now b) (matches (drop i p.now) k (drop j v.now)) }
 {
     if k == 0 {
-        return Matched::up_to(i, j, b);
+        return Some(Matched {
+            pattern: i,
+            value: j,
+            bound: b,
+        });
     }
-    let m = match_item(p, v, i, j, b);
-    if m.fits {
-        let c = m.bound;
-        return match_parts(p, v, m.pattern, m.value, k - 1, c);
-    }
-    m
+    let m = match_item(p, v, i, j, b)?;
+    match_parts(p, v, m.pattern, m.value, k - 1, m.bound)
 }
 
-// A whole pattern against a value.
-pub fn matching(p: &[u32], v: &[u32]) -> Matched
+// A whole pattern against a value; none where it does not take the value.
+pub fn matching(p: &[u32], v: &[u32]) -> Option<Matched>
     ensures { fit_of p.now v.now result ≡ stored_after [] (matches p.now 1 v.now) }
 {
     match_item(p, v, 0, 0, Bound::none())
@@ -324,19 +223,12 @@ pub fn matching(p: &[u32], v: &[u32]) -> Matched
 pub fn part_words(v: &[u32], p: Part) -> &[u32]
     ensures { result.now ≡ part_of v.now p }
 {
-    let a = p.start;
-    let k = p.len;
-    if a < v.len() {
-        if k < v.len() - a {
-            let z = a + k;
-            return &v[a..z];
-        }
-        return &v[a..];
-    }
-    &v[0..0]
+    let rest = &v[p.start.min(v.len())..];
+    &rest[..p.len.min(rest.len())]
 }
 
 // A value of at most 16 words. A length of 17 says that the list which was to be stored is longer.
+// Stays an array with a length beside it: fixed memory, and a state may hold a value with any length (view_value, Stores).
 #[derive(Clone, Copy)]
 pub struct Value {
     pub words: [u32; Value::LONGEST],
@@ -368,36 +260,19 @@ impl Value {
     pub fn count(self) -> usize
         ensures { (result ≡ length (view_value self)) × (result ≤ 16) }
     {
-        let n = self.len;
-        if n < Value::LONGEST {
-            n
-        } else {
-            Value::LONGEST
-        }
+        self.len.min(Value::LONGEST)
     }
 
     // The words of a slice.
     pub fn of(s: &[u32]) -> Value
         ensures { Stores s.now result }
     {
-        let n = s.len();
-        let stored = if n < Value::LONGEST {
-            n
-        } else {
-            Value::LONGEST
-        };
+        let stored = s.len().min(Value::LONGEST);
         let mut words = [0u32; Value::LONGEST];
-        let mut i: usize = 0;
-        while i < stored {
-            words[i] = s[i];
-            i += 1;
-        }
-        if Value::length_within(n) {
-            return Value { words, len: n };
-        }
+        words[..stored].copy_from_slice(&s[..stored]);
         Value {
             words,
-            len: Value::LONGEST + 1,
+            len: s.len().min(Value::LONGEST + 1),
         }
     }
 

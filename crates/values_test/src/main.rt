@@ -1,7 +1,7 @@
 // Runs the functions of `values` on vectors that are just allowed and just refused, and prints what each gives.
 #![tactic(auto)]
 
-use values::{Bound, Leaf, Span};
+use values::{Bound, Leaf};
 
 // The descriptor of standard output.
 const STDOUT: i32 = 1;
@@ -20,19 +20,13 @@ fn word(w: u32) {
 }
 
 fn yes_or_no(b: bool) {
-    if b {
-        text(b" yes\n");
-    } else {
-        text(b" no\n");
-    }
+    text(if b { b" yes\n" } else { b" no\n" });
 }
 
 // Words, each behind a blank.
 fn show_words(s: &[u32]) {
-    let mut k: usize = 0;
-    while k < s.len() {
-        word(s[k]);
-        k += 1;
+    for &w in s {
+        word(w);
     }
 }
 
@@ -44,12 +38,12 @@ fn value_line(label: &[u8], s: &[u32]) {
 fn size_line(label: &[u8], l: Leaf, pool: &[u32], p: usize) {
     text(label);
     match values::size_at(l, pool, p) {
-        Span::At(k) => {
+        Some(k) => {
             text(b" ");
             number(k);
             text(b"\n");
         }
-        Span::Bad => {
+        None => {
             text(b" malformed\n");
         }
     }
@@ -65,27 +59,24 @@ fn names_line(label: &[u8], p: &[u32]) {
 
 // The parts that a match bound.
 fn show_parts(v: &[u32], b: Bound) {
-    let n = if b.n < Bound::MOST { b.n } else { Bound::MOST };
-    let mut k: usize = 0;
-    while k < n {
-        let q = b.rows[k];
+    for &part in b.rows.iter().take(b.n) {
         text(b" [");
-        show_words(values::part_words(v, q));
+        show_words(values::part_words(v, part));
         text(b" ]");
-        k += 1;
     }
 }
 
 fn match_line(label: &[u8], p: &[u32], v: &[u32]) {
     text(label);
-    let m = values::matching(p, v);
-    if m.fits {
-        text(b" fits");
-        let b = m.bound;
-        show_parts(v, b);
-        text(b"\n");
-    } else {
-        text(b" 14\n");
+    match values::matching(p, v) {
+        Some(m) => {
+            text(b" fits");
+            show_parts(v, m.bound);
+            text(b"\n");
+        }
+        None => {
+            text(b" 14\n");
+        }
     }
 }
 

@@ -1,5 +1,4 @@
 pub mod TestLaws
-pub mod HeldLaws
 pub mod ListLaws
 pub mod ParticleLaws
 pub mod SideLaws

@@ -3,11 +3,10 @@ use mathlib.Core.Path.{◌≡◌, refl, sym, ap, ◌∙◌}
 use mathlib.Core.Logic.{◌≢◌}
 use mathlib.Core.Bool.{Bool, true, false}
 use mathlib.Core.List.{List, []}
-use Prim.Native.Nat.{ℕ, ◌-◌, ◌<◌, ◌≤◌}
-use native.Mathlib.Omega.{arith}
-use borrow.Author.Tests.{lt-ltb, le-ltb, le-leb, lt-leb, eq-eqb, ne_eqb, eqb-true, eqb-false}
+use Prim.Native.Nat.{ℕ, ◌<◌, ◌≤◌}
+use borrow.Author.Tests.{lt-ltb, le-ltb, eq-eqb, ne_eqb, eqb-true, eqb-false}
 use lib.Dec.{leb, ltb, eqb}
-use lib.ListN.{length, drop, get_or, length-drop}
+use lib.ListN.{length, get_or}
 use Rattle.model.specs.Basics.{◌&◌, every}
 use Rattle.model.specs.Table.{Table, scope, kind, count}
 use Rattle.model.specs.WellFormed.{Counts, wf_value, wf_particle}
@@ -21,13 +20,6 @@ use Rattle.sides.proofs.Viewing.{output_view, input_view, held_count}
 use Rattle.environments.specs.Inputs.{node_of, values_of, Waits}
 use Rattle.wellformed.specs.Clauses.{RowFits, output_held, input_defined, values_fit, input_waits}
 use Rattle.wellformed.proofs.TestLaws.{swap}
-
--- how many names there are
-pub names_some : (l : List ℕ) (n : ℕ) → length l ≡ 8 → n < 8 → 8 - n ≡ length (drop n l)
-names_some l n full h = omega (arith, length-drop n l)
-
-pub names_none : (l : List ℕ) (n : ℕ) → length l ≡ 8 → 8 ≤ n → 0 ≡ length (drop n l)
-names_none l n full h = omega (arith, length-drop n l)
 
 -- an output's value is in its first place
 pub output_fits : (r : List ℕ) → fits_row r ≡ true → get_or r 0 0 ≡ 1 → fits_place (get_or (places_of r) 0 []) ≡ true
@@ -61,32 +53,6 @@ module _ (r : List ℕ) (m : get_or r 0 0 ≢ 1) (f : fits_row r ≡ true) where
 pub waits : (t : Table) (words : List ℕ) (i : ℕ) → Passes t → RowFits words i → get_or (row_at words i) 0 0 ≢ 1 → node_of (row_at words i) < count t →
     length (values_of (row_at words i)) ≡ length (scope t (node_of (row_at words i))) → Waits t words i
 waits t words i p f m h e = record { passes = p; long = f.long; row = f.row; input = m; fits = f.fits; inside = h; each = e }
-
--- AN INPUT, test by test: n is its node
-module _ (t : Table) (k : Counts) (r : List ℕ) (n : ℕ) (e : n ≡ node_of r) where
-  pub input_past : count t ≤ n → false ≡ input_waits t k r
-  unfolding input_waits
-  input_past h = stops _ _ (le-ltb (node_of r) (count t) (rw e at h))
-
-  module _ (h : n < count t) where
-    inside : ltb (node_of r) (count t) ≡ true
-    inside = lt-ltb (node_of r) (count t) (rw e at h)
-
-    pub input_other : kind t n < 5 → false ≡ input_waits t k r
-    unfolding input_waits
-    input_other l = goes_on _ _ _ inside (stops _ _ (lt-leb 5 (kind t (node_of r)) (rw e at l)))
-
-    module _ (l : 5 ≤ kind t n) where
-      is_input : leb 5 (kind t (node_of r)) ≡ true
-      is_input = le-leb 5 (kind t (node_of r)) (rw e at l)
-
-      pub input_bare : every (wf_value k) (values_of r) ≡ false → false ≡ input_waits t k r
-      unfolding input_waits
-      input_bare q = goes_on _ _ _ inside (goes_on _ _ _ is_input (stops _ _ q))
-
-      pub input_waits_lem : (x : Bool) → every (wf_value k) (values_of r) ≡ true → x ≡ values_fit t r → x ≡ input_waits t k r
-      unfolding input_waits
-      input_waits_lem x q z = goes_on _ _ _ inside (goes_on _ _ _ is_input (goes_on _ _ _ q z))
 
 -- A ROW: its box, then by its kind
 module _ (t : Table) (k : Counts) (nb : ℕ) (r : List ℕ) where

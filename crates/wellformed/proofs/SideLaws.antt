@@ -2,44 +2,37 @@
 use mathlib.Core.Path.{◌≡◌, refl, sym, ap, ◌∙◌}
 use mathlib.Core.Bool.{Bool, true, false, cond}
 use mathlib.Core.List.{List, map}
-use Prim.Native.Nat.{ℕ, ◌*◌, ◌<◌, ◌≤◌}
+use Prim.Native.Nat.{ℕ, ◌*◌, ◌≤◌}
 use native.Mathlib.Omega.{arith}
-use borrow.Author.Tests.{le-leb, lt-leb, eq-eqb}
+use borrow.Author.Tests.{le-leb, eq-eqb}
 use lib.Dec.{leb, eqb}
 use lib.ListN.{length, take, length-map, length-take}
 use Rattle.model.specs.Basics.{◌&◌, every}
-use Rattle.model.proofs.Basics.Tests.{both}
 use Rattle.model.specs.Table.{Table}
 use Rattle.model.specs.Side.{Contents, Core, Side, limits}
 use Rattle.model.specs.Wrapper.{all_sides, has_side, shelves, takes_any}
 use Rattle.model.specs.Load.{Setting}
 use Rattle.model.specs.WellFormed.{Counts, count_of, wf_message, wf_particle, wf_boxes, wf_contents, wf_core, wf_left, wf_side, clear, is_no_side}
 use Rattle.sides.specs.Views.{view_message}
-use Rattle.sides.proofs.Lists.{stops, goes_on}
 use Rattle.sides.specs.Layout.{rows_of, view_row, boxes_of, view_box, shelf_of, view_place}
 use Rattle.sides.specs.Sides.{core_of}
 use Rattle.sides.specs.declared.Rest.{Rest}
 use Rattle.sides.proofs.Reading.{rows_count, boxes_count, shelf_count}
-use Rattle.wellformed.specs.Clauses.{every_from, taken_at, shelf_allowed, all_zero, side_fits, side_stands}
+use Rattle.wellformed.specs.Clauses.{shelf_allowed, all_zero, side_fits, side_stands}
 use Rattle.wellformed.proofs.TestLaws.{swap}
 use Rattle.wellformed.proofs.ListLaws.{taken_from}
 
+and_assoc : (a b c : Bool) → (a & b) & c ≡ a & (b & c)
+unfolding ◌&◌
+and_assoc true b c = refl
+and_assoc false b c = refl
+
 -- CONTENTS with nb boxes
-module _ (t : Table) (k : Counts) (s : Contents) (nb : ℕ) (e : length s.boxes ≡ nb) where
-  pub contents_none : nb < 1 → false ≡ wf_contents t k s
-  unfolding wf_contents
-  contents_none h = stops _ _ (lt-leb 1 (length s.boxes) (omega arith))
-
-  module _ (h : 1 ≤ nb) where
-    pub contents_not : wf_boxes k 0 s.boxes ≡ false → false ≡ wf_contents t k s
-    unfolding wf_contents
-    contents_not p = goes_on _ _ _ (le-leb 1 (length s.boxes) (omega arith)) (stops _ _ p)
-
-    pub contents_are : (r : Bool) → wf_boxes k 0 s.boxes ≡ true → r ≡ every (wf_particle t k nb) s.particles → r ≡ wf_contents t k s
-    unfolding wf_contents
-    contents_are r p q =
-        goes_on _ _ _ (le-leb 1 (length s.boxes) (omega arith))
-        (goes_on _ _ _ p (q ∙ ap (λ (n : ℕ). every (wf_particle t k n) s.particles) (sym e)))
+pub contents_is : (t : Table) (k : Counts) (s : Contents) (nb : ℕ) → length s.boxes ≡ nb →
+    (leb 1 nb & wf_boxes k 0 s.boxes) & every (wf_particle t k nb) s.particles ≡ wf_contents t k s
+unfolding wf_contents
+contents_is t k s nb e =
+    and_assoc (leb 1 nb) (wf_boxes k 0 s.boxes) _ ∙ ap (λ (n : ℕ). leb 1 n & (wf_boxes k 0 s.boxes & every (wf_particle t k n) s.particles)) (sym e)
 
 -- A CORE whose lists are within their limits
 pub record Within (s : Core) : Type 0 where
@@ -62,7 +55,7 @@ within_arrays words o full =
     }
 
 pub core_is : (c : Setting) (k : Counts) (s : Core) (b : Bool) (cs : List ℕ) → b ≡ shelves c.wrapper c.side → c.wrapper.copies ≡ cs → Within s →
-    leb s.contents.minted 256 & (wf_contents c.table k s.contents & (every (wf_message b cs k) s.lobby & shelf_allowed b k s.shelf)) ≡ wf_core c k s
+    ((leb s.contents.minted 256 & wf_contents c.table k s.contents) & every (wf_message b cs k) s.lobby) & shelf_allowed b k s.shelf ≡ wf_core c k s
 unfolding wf_core limits shelf_allowed ◌&◌
 core_is c k s b cs e g w =
     rw (
@@ -73,11 +66,12 @@ core_is c k s b cs e g w =
       le-leb (length s.lobby) 16 w.lobby,
       le-leb (length s.shelf) 32 w.shelf,
     )
-    (alone (leb s.contents.minted 256) _)
+    (go (leb s.contents.minted 256) (wf_contents c.table k s.contents) _ _)
   where
-    alone : (a x : Bool) → a & x ≡ (a & true) & x
-    alone true x = refl
-    alone false x = refl
+    go : (a x y z : Bool) → ((a & x) & y) & z ≡ (a & true) & (x & (y & z))
+    go true true y z = refl
+    go true false y z = refl
+    go false x y z = refl
 
 -- A SIDE with its marks
 module _ (c : Setting) (k h : Counts) (s : Side) where
@@ -90,29 +84,6 @@ module _ (c : Setting) (k h : Counts) (s : Side) where
       λ x. wf_core c k s.core & ((eqb (length s.left) (256 * length all_sides) & wf_left k 0 s.left) & (eqb (length s.core.taken) (32 * length all_sides) & x)) in
       let taken = taken_from (takes_any c.wrapper c.side) h sh e 0 s.core.taken in
       ap (λ (x : Bool). cond (has_side c.wrapper c.side) (test x) (is_no_side s)) taken
-
-  pub stands_has : (r : Bool) → has_side c.wrapper c.side ≡ true → r ≡ side_fits c k h s → r ≡ side_stands c k h s
-  unfolding side_stands
-  stands_has r e p = rw e p
-
-  pub stands_lacks : (r : Bool) → has_side c.wrapper c.side ≡ false → r ≡ is_no_side s → r ≡ side_stands c k h s
-  unfolding side_stands
-  stands_lacks r e p = rw e p
-
-  pub side_not : wf_core c k s.core ≡ false → false ≡ side_fits c k h s
-  unfolding side_fits
-  side_not e = stops _ _ e
-
-  -- with as many marks as there are places
-  module _ (core : wf_core c k s.core ≡ true) (left : length s.left ≡ 256 * length all_sides) where
-    pub side_marks : wf_left k 0 s.left ≡ false → false ≡ side_fits c k h s
-    unfolding side_fits
-    side_marks e = goes_on _ _ _ core (stops _ _ (sym (goes_on _ _ _ (eq-eqb _ _ left) (sym e))))
-
-    pub side_fits_lem : (r : Bool) → wf_left k 0 s.left ≡ true → length s.core.taken ≡ 32 * length all_sides →
-        r ≡ every_from (taken_at (takes_any c.wrapper c.side) h) 0 s.core.taken → r ≡ side_fits c k h s
-    unfolding side_fits
-    side_fits_lem r e taken p = goes_on _ _ _ core (goes_on _ _ _ (both _ _ (eq-eqb _ _ left) e) (goes_on _ _ _ (eq-eqb _ _ taken) p))
 
 -- A SIDE THAT IS NOTHING: a particles, b boxes, l messages and h values
 pub no_side_is : (s : Side) (a b l h : ℕ) → eqb (length s.core.contents.particles) 0 ≡ eqb a 0 → eqb (length s.core.contents.boxes) 0 ≡ eqb b 0 →

@@ -1,13 +1,13 @@
 -- Laws of a state: its sides by number, its counts, and the tables of the sides.
-use mathlib.Core.Path.{◌≡◌, refl, sym, ap, ap₂, subst, ◌∙◌}
+use mathlib.Core.Path.{◌≡◌, refl, ap, ap₂, subst, ◌∙◌}
 use mathlib.Core.Bool.{Bool, true}
 use mathlib.Core.List.{List, [], ◌∷◌, map}
-use Prim.Native.Nat.{ℕ, zero, suc, ◌+◌, ◌<◌, ◌≤◌}
+use Prim.Native.Nat.{ℕ, zero, suc, ◌+◌, ◌<◌}
 use native.Mathlib.Numerals.{add-one}
 use native.Mathlib.Omega.{arith}
 use borrow.Author.Tests.{eq-eqb}
-use lib.ListN.{length, take, get_or, set, length-map}
-use lib.Seq.{take_all, take-length, take-suc, take-suc-set}
+use lib.ListN.{length, take, get_or, length-map}
+use lib.Seq.{take-length}
 use Rattle.model.specs.Basics.{every}
 use Rattle.model.specs.Side.{no_side}
 use Rattle.model.specs.Wrapper.{all_sides, described, has_side}
@@ -27,13 +27,6 @@ use Rattle.sides.proofs.Lists.{view_length, every_at, goes_on}
 use Rattle.wellformed.specs.Clauses.{every_from, TablesPass, setting_of, side_stands, minted_in, shelved_in}
 use Rattle.wellformed.proofs.TestLaws.{from_every, fits_count, map_at}
 use Rattle.wellformed.proofs.SideLaws.{stands_is}
-
--- A LIST FILLED PLACE BY PLACE with what stands in another
-pub filled_more : (l m : List ℕ) (k x : ℕ) → k < length l → k < length m → x ≡ get_or m k 0 → take k l ≡ take k m → take (k + 1) (set l k x) ≡ take (k + 1) m
-filled_more l m k x h g e p = rw (add-one, take-suc-set l k x h, take-suc m k 0 g, p, e)
-
-pub filled_all : (l m : List ℕ) (k : ℕ) → length l ≤ k → length m ≤ k → take k l ≡ take k m → l ≡ m
-filled_all l m k h g p = sym (take_all k l h) ∙ p ∙ take_all k m g
 
 -- THE NUMBERS OF THE SIDES: n of them, from i on
 abbrev up_from : ℕ → ℕ → List ℕ

@@ -11,13 +11,7 @@ use sides::{box_name, box_parent};
 fn box_ok(counts: &[usize], i: usize, name: u32, parent: usize) -> bool
     ensures { result ≡ box_at counts.now i (record { name = name; parent = parent }) }
 {
-    if i == 0 {
-        return true;
-    }
-    if parent < i {
-        return held(counts, name);
-    }
-    false
+    i == 0 || parent < i && held(counts, name)
 }
 
 // Whether each of the first n boxes is so.
@@ -25,13 +19,5 @@ pub(crate) fn boxes_ok(counts: &[usize], words: &[u32], n: usize) -> bool
     requires { (length words.now ≡ 5184) × (n ≤ 16) }
     ensures { result ≡ wf_boxes counts.now 0 (view_boxes words.now n) }
 {
-    let mut k: usize = 0;
-    while k < n {
-        if box_ok(counts, k, box_name(words, k), box_parent(words, k)) {
-            k += 1;
-        } else {
-            return false;
-        }
-    }
-    true
+    (0..n).all(|k| box_ok(counts, k, box_name(words, k), box_parent(words, k)))
 }

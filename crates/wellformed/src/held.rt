@@ -5,7 +5,6 @@ ghost use Rattle.model.specs.WellFormed.{count_of, held as heldName, held_word, 
 ghost use Rattle.values.specs.Env.{view_value};
 ghost use Rattle.sides.specs.Views.{view_tag};
 
-use crate::wide;
 use sides::Tag;
 use values::{Value, is_minted, is_outside, is_value};
 
@@ -13,61 +12,37 @@ use values::{Value, is_minted, is_outside, is_value};
 pub(crate) fn below(counts: &[usize], side: usize, n: usize) -> bool
     ensures { result ≡ ltb n (count_of counts.now side) }
 {
-    if side == 0 {
-        return false;
-    }
-    if counts.len() < side {
-        return false;
-    }
-    n < counts[side - 1]
+    0 < side && side <= counts.len() && n < counts[side - 1]
 }
 
 // Whether w is a name: public, from outside, or minted and below its side's count.
 pub(crate) fn held(counts: &[usize], w: u32) -> bool
     ensures { result ≡ heldName counts.now w }
 {
-    if w <= 63 {
-        return true;
-    }
-    if is_minted(w) {
-        return below(counts, wide(w / 65536), wide(w % 65536));
-    }
-    is_outside(w)
+    w <= 63
+        || is_outside(w)
+        || is_minted(w) && below(counts, (w / 65536) as usize, (w % 65536) as usize)
 }
 
 // Whether a word of a value is a tuple word or such a name.
 fn held_word(counts: &[usize], w: u32) -> bool
     ensures { result ≡ held_word counts.now w }
 {
-    if 4000000 <= w {
-        return true;
-    }
-    held(counts, w)
+    4000000 <= w || held(counts, w)
 }
 
 // Whether every word is.
 fn held_words(counts: &[usize], s: &[u32]) -> bool
     ensures { result ≡ every (held_word counts.now) s.now }
 {
-    let mut k: usize = 0;
-    while k < s.len() {
-        if held_word(counts, s[k]) {
-            k += 1;
-        } else {
-            return false;
-        }
-    }
-    true
+    s.iter().all(|&w| held_word(counts, w))
 }
 
 // Whether the words are a value that passes 11, its minted names below their side's count.
 fn value_held(counts: &[usize], s: &[u32]) -> bool
     ensures { result ≡ wf_value counts.now s.now }
 {
-    if is_value(s) {
-        return held_words(counts, s);
-    }
-    false
+    is_value(s) && held_words(counts, s)
 }
 
 // The same of a value by itself.
@@ -75,20 +50,16 @@ pub(crate) fn held_value(counts: &[usize], v: Value) -> bool
     requires { v.len ≤ 16 }
     ensures { result ≡ wf_value counts.now (view_value v) }
 {
-    let n = v.len;
-    let ws = v.words;
-    value_held(counts, &ws[..n])
+    value_held(counts, &v.words[..v.len])
 }
 
 // Whether a tag's name is held, where it has one.
+#[tactic(auto, unfolding(model::specs::WellFormed::wf_tag))]
 pub(crate) fn held_tag(counts: &[usize], t: Tag) -> bool
     ensures { result ≡ wf_tag counts.now (view_tag t) }
 {
     match t {
-        Tag::Within => true,
-        Tag::ToParent => true,
-        Tag::FromParent => true,
-        Tag::ToChild(n) => held(counts, n),
-        Tag::FromChild(n) => held(counts, n),
+        Tag::Within | Tag::ToParent | Tag::FromParent => true,
+        Tag::ToChild(n) | Tag::FromChild(n) => held(counts, n),
     }
 }

@@ -3,8 +3,6 @@
 // The array test comes first, for all sides: below it, every count is within its array. Sides go by their numbers, from 1 on.
 #![tactic(auto)]
 
-ghost use Rattle.std.specs.Prelude.{◌≡◌};
-
 mod boxes; // boxes
 mod held; // names, values and tags that pass 11, minted names below their side's count
 mod lobby; // lobby messages
@@ -14,11 +12,4 @@ mod shelf; // values on the shelf
 mod side; // a side
 mod state; // a state
 
-pub use state::well_formed;
-
-// A word as a number of places.
-pub(crate) fn wide(x: u32) -> usize
-    ensures { result ≡ x }
-{
-    x as usize
-}
+pub use state::{shelved_in, well_formed};

@@ -13,7 +13,7 @@ use sides::{Lobby, Message, Status};
 fn is_copied(logging: bool, channel: u32) -> bool
     ensures { result ≡ has channel (log_if logging) }
 {
-    if logging { channel == 3 } else { false }
+    logging && channel == 3
 }
 
 // Whether a message may stand on a channel: down on in or mid, arrived on any, but on mid where that goes to the shelf, leaving
@@ -23,7 +23,7 @@ fn channel_fits(shelved: bool, logging: bool, s: Status, channel: u32) -> bool
 {
     match s {
         Status::Down => channel == 0 || channel == 2,
-        Status::Arrived => { if shelved { channel != 2 } else { true } }
+        Status::Arrived => !shelved || channel != 2,
         Status::Leaving => channel == 1 || is_copied(logging, channel),
     }
 }
@@ -33,31 +33,17 @@ fn message_ok(shelved: bool, logging: bool, counts: &[usize], m: Message) -> boo
     requires { m.value.len ≤ 16 }
     ensures { result ≡ wf_message shelved (log_if logging) counts.now (view_message m) }
 {
-    let v = m.value;
-    let s = m.status;
-    if held_value(counts, v) {
-        if held(counts, m.channel) {
-            return channel_fits(shelved, logging, s, m.channel);
-        }
-        return false;
-    }
-    false
+    held_value(counts, m.value)
+        && held(counts, m.channel)
+        && channel_fits(shelved, logging, m.status, m.channel)
 }
 
 // Whether each message of a lobby is so.
-pub(crate) fn lobby_ok(shelved: bool, logging: bool, counts: &[usize], l: Lobby) -> bool
-    requires { fits_lobby l ≡ true }
-    ensures { result ≡ every (wf_message shelved (log_if logging) counts.now) (view_lobby l) }
+pub(crate) fn lobby_ok(shelved: bool, logging: bool, counts: &[usize], l: &Lobby) -> bool
+    requires { fits_lobby l.now ≡ true }
+    ensures { result ≡ every (wf_message shelved (log_if logging) counts.now) (view_lobby l.now) }
 {
-    let n = l.len;
-    let mut k: usize = 0;
-    while k < n {
-        let m = l.msgs[k];
-        if message_ok(shelved, logging, counts, m) {
-            k += 1;
-        } else {
-            return false;
-        }
-    }
-    true
+    l.msgs[..l.len]
+        .iter()
+        .all(|m| message_ok(shelved, logging, counts, *m))
 }

@@ -13,15 +13,7 @@ fn values_held(counts: &[usize], words: &[u32], n: usize) -> bool
     requires { (length words.now ≡ 5184) × (fits_shelf words.now n ≡ true) }
     ensures { result ≡ every (wf_value counts.now) (view_shelf words.now n) }
 {
-    let mut k: usize = 0;
-    while k < n {
-        if held_value(counts, shelf_value(words, k)) {
-            k += 1;
-        } else {
-            return false;
-        }
-    }
-    true
+    (0..n).all(|k| held_value(counts, shelf_value(words, k)))
 }
 
 // Whether the shelf is empty, or `shelved` and its values are held.

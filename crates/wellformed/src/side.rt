@@ -17,22 +17,13 @@ use sides::{Rest, Side, rows_fit, shelf_fits};
 use wrappers::{has_log, has_shelf, has_side, takes_any};
 
 // The array test: whether every count is within its array.
-pub(crate) fn side_fits(o: Side) -> bool
-    ensures { result ≡ fits_side o.words o.rest }
+pub(crate) fn side_fits(o: &Side) -> bool
+    ensures { result ≡ fits_side o.now.words o.now.rest }
 {
-    let w = o.words;
-    let x = o.rest;
-    let l = x.lobby;
-    if rows_fit(&w, x.particles) {
-        if Side::boxes_within(x.boxes) {
-            if l.fits() {
-                return shelf_fits(&w, x.shelved);
-            }
-            return false;
-        }
-        return false;
-    }
-    false
+    rows_fit(&o.words, o.rest.particles)
+        && Side::boxes_within(o.rest.boxes)
+        && o.rest.lobby.fits()
+        && shelf_fits(&o.words, o.rest.shelved)
 }
 
 // Whether box 0 stands, and boxes and particles are well formed.
@@ -47,16 +38,13 @@ fn contents_ok(
     requires { Passes (table nodes.now pool.now) × (length words.now ≡ 5184) × (fits_rows words.now particles ≡ true) × (leb boxes 16 ≡ true) }
     ensures { (minted : ℕ) → result ≡ wf_contents (table nodes.now pool.now) counts.now (contents_of words.now particles boxes minted) }
 {
-    if boxes < 1 {
-        return false;
-    }
-    if boxes_ok(counts, words, boxes) {
-        return rows_ok(nodes, pool, counts, boxes, words, particles);
-    }
-    false
+    1 <= boxes
+        && boxes_ok(counts, words, boxes)
+        && rows_ok(nodes, pool, counts, boxes, words, particles)
 }
 
 // A side but for its marks.
+// Stays by value, `o: Rest`: behind a reference the prover does not find the lengths of the lobby and of `taken`.
 fn core_ok(
     wrapper: u32,
     side: u32,
@@ -71,17 +59,10 @@ fn core_ok(
 {
     let shelved = has_shelf(wrapper, side);
     let logging = has_log(wrapper);
-    let l = o.lobby;
-    if Side::minted_within(o.minted) {
-        if contents_ok(nodes, pool, counts, words, o.particles, o.boxes) {
-            if lobby_ok(shelved, logging, counts, l) {
-                return shelf_ok(shelved, counts, words, o.shelved);
-            }
-            return false;
-        }
-        return false;
-    }
-    false
+    Side::minted_within(o.minted)
+        && contents_ok(nodes, pool, counts, words, o.particles, o.boxes)
+        && lobby_ok(shelved, logging, counts, &o.lobby)
+        && shelf_ok(shelved, counts, words, o.shelved)
 }
 
 // A side with its marks: `counts` has the minted names of each side, `shelved` the values on each side's shelf.
@@ -92,59 +73,36 @@ fn side_ok(
     pool: &[u32],
     counts: &[usize],
     shelved: &[usize],
-    words: &[u32],
-    o: Rest,
-    left: &[bool],
+    o: &Side,
 ) -> bool
-    requires { Passes (table nodes.now pool.now) × (length words.now ≡ 5184) × (fits_side words.now o ≡ true) × (length left.now ≡ 256 * length all_sides) }
-    ensures { result ≡ side_fits (setting_of wrapper side (table nodes.now pool.now)) counts.now shelved.now (side_of words.now o left.now) }
+    requires { Passes (table nodes.now pool.now) × (fits_side o.now.words o.now.rest ≡ true) }
+    ensures { result ≡ side_fits (setting_of wrapper side (table nodes.now pool.now)) counts.now shelved.now (view_side o.now) }
 {
-    let taken = o.taken;
-    if core_ok(wrapper, side, nodes, pool, counts, words, o) {
-        if left_ok(counts, left) {
-            return taken_ok(takes_any(wrapper, side), shelved, &taken);
-        }
-        return false;
-    }
-    false
+    core_ok(wrapper, side, nodes, pool, counts, &o.words, o.rest)
+        && left_ok(counts, &o.left)
+        && taken_ok(takes_any(wrapper, side), shelved, &o.rest.taken)
 }
 
 // Whether there are no particles, boxes, minted names, lobby messages and shelf values, by their numbers.
 fn all_zero(particles: usize, boxes: usize, minted: usize, lobby: usize, shelf: usize) -> bool
     ensures { result ≡ all_zero particles boxes minted lobby shelf }
 {
-    if particles != 0 {
-        return false;
-    }
-    if boxes != 0 {
-        return false;
-    }
-    if minted != 0 {
-        return false;
-    }
-    if lobby != 0 {
-        return false;
-    }
-    shelf == 0
+    particles == 0 && boxes == 0 && minted == 0 && lobby == 0 && shelf == 0
 }
 
 // Whether nothing is there: a side that the wrapper lacks. Its words do not matter.
+// Stays by value, `o: Rest`, as above.
 fn is_no_side(o: Rest, left: &[bool]) -> bool
     requires { length left.now ≡ 256 * length all_sides }
     ensures { (words : List ℕ) → result ≡ is_no_side (side_of words o left.now) }
 {
-    let l = o.lobby;
-    let taken = o.taken;
-    if all_zero(o.particles, o.boxes, o.minted, l.len, o.shelved) {
-        if none_marked(left) {
-            return none_marked(&taken);
-        }
-        return false;
-    }
-    false
+    all_zero(o.particles, o.boxes, o.minted, o.lobby.len, o.shelved)
+        && none_marked(left)
+        && none_marked(&o.taken)
 }
 
 // Whether a side is well formed where the wrapper has it, and nothing where the wrapper lacks it. Its counts are within their arrays.
+#[tactic(auto, unfolding(crate::specs::Clauses::side_stands))]
 pub(crate) fn side_stands(
     wrapper: u32,
     side: u32,
@@ -152,16 +110,14 @@ pub(crate) fn side_stands(
     pool: &[u32],
     counts: &[usize],
     shelved: &[usize],
-    o: Side,
+    o: &Side,
 ) -> bool
-    requires { (has_side (described wrapper) side ≡ true → Passes (table nodes.now pool.now)) × (fits_side o.words o.rest ≡ true) }
-    ensures { result ≡ side_stands (setting_of wrapper side (table nodes.now pool.now)) counts.now shelved.now (view_side o) }
+    requires { (has_side (described wrapper) side ≡ true → Passes (table nodes.now pool.now)) × (fits_side o.now.words o.now.rest ≡ true) }
+    ensures { result ≡ side_stands (setting_of wrapper side (table nodes.now pool.now)) counts.now shelved.now (view_side o.now) }
 {
-    let w = o.words;
-    let x = o.rest;
-    let l = o.left;
     if has_side(wrapper, side) {
-        return side_ok(wrapper, side, nodes, pool, counts, shelved, &w, x, &l);
+        side_ok(wrapper, side, nodes, pool, counts, shelved, o)
+    } else {
+        is_no_side(o.rest, &o.left)
     }
-    is_no_side(x, &l)
 }

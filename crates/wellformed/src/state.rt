@@ -8,47 +8,27 @@ ghost use Rattle.wellformed.specs.Clauses.{TablesPass, minted_in, shelved_in};
 
 use crate::side::{side_fits, side_stands};
 use sides::{Sides, State};
+use std::array::from_fn;
 
-// How many names each side has minted, and how many values are on its shelf, from side 1 on.
-#[derive(Clone, Copy)]
-struct Counts {
-    minted: [usize; Sides::COUNT],
-    shelved: [usize; Sides::COUNT],
+// How many names each side has minted, from side 1 on.
+fn minted_in(s: &State) -> [usize; Sides::COUNT]
+    ensures { result ≡ minted_in s.now }
+{
+    from_fn(|k| s.sides[k].rest.minted)
 }
 
-// The counts of a state.
-fn counts_of(s: State) -> Counts
-    ensures { (result.minted ≡ minted_in s) × (result.shelved ≡ shelved_in s) }
+// How many values each side has on its shelf, from side 1 on.
+pub fn shelved_in(s: &State) -> [usize; Sides::COUNT]
+    ensures { result ≡ shelved_in s.now }
 {
-    let mut c = Counts {
-        minted: [0; Sides::COUNT],
-        shelved: [0; Sides::COUNT],
-    };
-    let mut k: usize = 0;
-    while k < Sides::COUNT {
-        let o = s.sides[k];
-        let x = o.rest;
-        c.minted[k] = x.minted;
-        c.shelved[k] = x.shelved;
-        k += 1;
-    }
-    c
+    from_fn(|k| s.sides[k].rest.shelved)
 }
 
 // The array test: whether every count is within its array.
-fn arrays_fit(s: State) -> bool
-    ensures { result ≡ fits_arrays s }
+fn arrays_fit(s: &State) -> bool
+    ensures { result ≡ fits_arrays s.now }
 {
-    let mut k: usize = 0;
-    while k < Sides::COUNT {
-        let o = s.sides[k];
-        if side_fits(o) {
-            k += 1;
-        } else {
-            return false;
-        }
-    }
-    true
+    s.sides.iter().all(side_fits)
 }
 
 // Whether a state's counts are within their arrays, and it is well formed for its tables: each side where the wrapper has it, and
@@ -62,21 +42,24 @@ pub fn well_formed(
     requires { TablesPass (composition wrapper (map (λ x. x.now) nodes) (map (λ x. x.now) pools)) }
     ensures { result ≡ fits_arrays s & wf_state (composition wrapper (map (λ x. x.now) nodes.entry) (map (λ x. x.now) pools.entry)) (view_state s) }
 {
-    if arrays_fit(s) {
-        let c = counts_of(s);
-        let minted = c.minted;
-        let shelved = c.shelved;
-        let mut k: usize = 0;
-        while k < Sides::COUNT {
-            let o = s.sides[k];
-            let side = k as u32 + 1;
-            if side_stands(wrapper, side, nodes[k], pools[k], &minted, &shelved, o) {
-                k += 1;
-            } else {
-                return false;
-            }
-        }
-        return true;
+    if !arrays_fit(&s) {
+        return false;
     }
-    false
+    let minted = minted_in(&s);
+    let shelved = shelved_in(&s);
+    for k in 0..Sides::COUNT {
+        let side = k as u32 + 1;
+        if !side_stands(
+            wrapper,
+            side,
+            nodes[k],
+            pools[k],
+            &minted,
+            &shelved,
+            &s.sides[k],
+        ) {
+            return false;
+        }
+    }
+    true
 }

@@ -1,16 +1,14 @@
 -- A route's source as the code answers it.
-use Rattle.std.specs.Prelude.{ℕ}
+use Rattle.std.specs.Prelude.{ℕ, Option, Some, None}
 use Rattle.model.specs.Basics.{Res, refuse, done}
 use Rattle.model.specs.Wrapper.{Route, Wrapper}
 use Rattle.model.specs.Step.{route_to}
-use Rattle.wrappers.specs.declared.Source.{Source}
-use Rattle.wrappers.specs.declared.Source.TheVariants.{Side, Nowhere}
 
--- a route's source; nowhere where there is no route
-abbrev pub source_by : Res Route → Source
-source_by (refuse n) = Nowhere
-source_by (done r) = Side r.source
+-- a route's source; none where there is no route
+abbrev pub source_by : Res Route → Option ℕ
+source_by (refuse n) = None
+source_by (done r) = Some r.source
 
 -- the side that side n takes from with this j
-abbrev pub source_for : Wrapper → (n j : ℕ) → Source
+abbrev pub source_for : Wrapper → (n j : ℕ) → Option ℕ
 source_for w n j = source_by (route_to w.routes n j)

@@ -7,37 +7,18 @@ ghost use Rattle.model.specs.Basics.{has};
 ghost use Rattle.model.specs.Wrapper.{is_wrapper, described, has_side, shelves, takes_any};
 ghost use Rattle.wrappers.specs.Routes.{source_for};
 
-// The side that another takes from, or that there is none.
-#[derive(Clone, Copy)]
-pub enum Source {
-    Side(u32),
-    Nowhere,
-}
-
 // Whether w is the number of a wrapper.
 pub fn is_wrapper(w: u32) -> bool
     ensures { result ≡ is_wrapper w }
 {
-    if w == 1 {
-        return true;
-    }
-    if w == 2 { true } else { w == 3 }
+    matches!(w, 1..=3)
 }
 
 // Whether the wrapper has a side n.
 pub fn has_side(w: u32, n: u32) -> bool
     ensures { result ≡ has_side (described w) n }
 {
-    if w == 1 {
-        return n == 1;
-    }
-    if w == 2 {
-        if n == 1 {
-            return true;
-        }
-        return n == 2;
-    }
-    if w == 3 { n == 1 } else { false }
+    matches!((w, n), (1, 1) | (2, 1) | (2, 2) | (3, 1))
 }
 
 // Whether copies of what enters and passes leave on `log`.
@@ -51,26 +32,23 @@ pub fn has_log(w: u32) -> bool
 pub fn has_shelf(w: u32, n: u32) -> bool
     ensures { result ≡ shelves (described w) n }
 {
-    if w == 2 { n == 1 } else { false }
+    w == 2 && n == 1
 }
 
 // Whether side n takes from somebody.
 pub fn takes_any(w: u32, n: u32) -> bool
     ensures { result ≡ takes_any (described w) n }
 {
-    if w == 2 { n == 2 } else { false }
+    w == 2 && n == 2
 }
 
-// The side that side n takes from with this j.
-pub fn source_of(w: u32, n: u32, j: usize) -> Source
+// The side that side n takes from with this j, if it takes from one.
+pub fn source_of(w: u32, n: u32, j: usize) -> Option<u32>
     ensures { result ≡ source_for (described w) n j }
 {
-    if w == 2 {
-        if n == 2 {
-            if j == 0 {
-                return Source::Side(1);
-            }
-        }
+    if w == 2 && n == 2 && j == 0 {
+        Some(1)
+    } else {
+        None
     }
-    Source::Nowhere
 }

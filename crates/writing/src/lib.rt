@@ -28,6 +28,16 @@ impl Page {
 pub struct AnswerWords;
 
 impl AnswerWords {
+    // What an answer says, in its first word: a silent step, a message that enters, that leaves or that is logged. Any other
+    // number says that the step is refused.
+    pub const SILENT: u32 = 0;
+
+    pub const ENTERS: u32 = 1;
+
+    pub const LEAVES: u32 = 2;
+
+    pub const LOGS: u32 = 4;
+
     // The words before the value's: what is said, a refusal's number, the side, and how many value words.
     pub const HEAD: usize = 4;
 
@@ -72,10 +82,8 @@ pub fn answered(out: &mut [u8; Page::BYTES], answers: &[u32; AnswerWords::ALL], 
         return 0;
     }
     let mut at = put(out, 0, b"ok\n");
-    let mut k: usize = 0;
-    while k < n {
+    for k in 0..n {
         at = put_line(out, at, k, answers);
-        k += 1;
     }
     at
 }

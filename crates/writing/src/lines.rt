@@ -1,32 +1,20 @@
 // The line of an answer that is given in 20 words.
-ghost use Rattle.std.specs.Prelude.{◌≡◌, ◌++◌, ◌+◌, ◌*◌, ◌≤◌, ◌<◌, min, length};
+ghost use Rattle.std.specs.Prelude.{◌≡◌, ◌++◌, ◌+◌, ◌*◌, ◌≤◌, ◌<◌, length};
 ghost use Rattle.writing.specs.Written.{Written};
 ghost use Rattle.writing.specs.Words.{value_in, saying_in, line_in, answer_at};
 
 use super::AnswerWords;
-use super::numbers::{put, put_field, put_fields, put_number, wide};
+use super::numbers::{put, put_field, put_fields, put_number};
 
-// A value's length; one above 16 counts as 16.
-fn length_in(w: u32) -> usize
-    ensures { result ≡ min w 16 }
-{
-    let n = w as usize;
-    if n < AnswerWords::VALUE {
-        n
-    } else {
-        AnswerWords::VALUE
-    }
-}
-
-// The side and the value words.
+// The side and the value words; a length above 16 counts as 16.
 fn put_value(out: &mut [u8], at: usize, words: &[u32]) -> usize
     requires words_len { length words.now ≡ 20 }
     requires at_in_bounds { at + 210 ≤ length out.old }
     ensures written { Written out.old at (value_in words.now) result out.new }
     ensures upper_bound { result ≤ at + 186 }
 {
-    let p = put_number(out, at, wide(words[2]));
-    let e = AnswerWords::HEAD + length_in(words[3]);
+    let p = put_number(out, at, u64::from(words[2]));
+    let e = AnswerWords::HEAD + (words[3] as usize).min(AnswerWords::VALUE);
     put_fields(out, p, &words[AnswerWords::HEAD..e])
 }
 
@@ -49,21 +37,16 @@ fn put_saying(out: &mut [u8], at: usize, words: &[u32]) -> usize
     ensures written { Written out.old at (saying_in words.now) result out.new }
     ensures upper_bound { result ≤ at + 189 }
 {
-    let said = words[0];
-    if said == 0 {
-        return put(out, at, b"tau");
+    match words[0] {
+        AnswerWords::SILENT => put(out, at, b"tau"),
+        AnswerWords::ENTERS => put_label(out, at, b"in", words),
+        AnswerWords::LEAVES => put_label(out, at, b"out", words),
+        AnswerWords::LOGS => put_label(out, at, b"log", words),
+        _ => {
+            let p = put(out, at, b"no");
+            put_field(out, p, u64::from(words[1]))
+        },
     }
-    if said == 1 {
-        return put_label(out, at, b"in", words);
-    }
-    if said == 2 {
-        return put_label(out, at, b"out", words);
-    }
-    if said == 4 {
-        return put_label(out, at, b"log", words);
-    }
-    let p = put(out, at, b"no");
-    put_field(out, p, wide(words[1]))
 }
 
 // The line of the answer with an index.
@@ -75,9 +58,8 @@ pub(crate) fn put_line(out: &mut [u8], at: usize, index: usize, answers: &[u32])
     ensures upper_bound { result ≤ at + 201 }
 {
     let from = AnswerWords::EACH * index;
-    let to = from + AnswerWords::EACH;
     let a = put_number(out, at, index as u64);
     let b = put(out, a, b"\t");
-    let c = put_saying(out, b, &answers[from..to]);
+    let c = put_saying(out, b, &answers[from..from + AnswerWords::EACH]);
     put(out, c, b"\n")
 }

@@ -53,17 +53,8 @@ pub(crate) fn put_fields(out: &mut [u8], at: usize, words: &[u32]) -> usize
     ensures upper_bound { result ≤ at + 176 }
 {
     let mut p = at;
-    let mut i: usize = 0;
-    while i < words.len() {
-        p = put_field(out, p, wide(words[i]));
-        i += 1;
+    for &w in words {
+        p = put_field(out, p, u64::from(w));
     }
     p
-}
-
-// A word as a number of 64 bits.
-pub(crate) fn wide(w: u32) -> u64
-    ensures { (result ≡ w) × (result < 4294967296) }
-{
-    w as u64
 }

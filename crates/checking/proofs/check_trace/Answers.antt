@@ -9,14 +9,14 @@ use Rattle.checking.proofs.check_trace.Goals as goal
 pub check_loaded-requires : goal.check_loaded-requires
 check_loaded-requires c =
     let loads : Composition = composition c.args.wrapper (map (λ c. c.now) c.args.nodes) (map (λ c. c.now) c.args.pools) in
-    let v = c.load_verdict-o in
+    let v = c.load_verdict in
     ok_loads (load loads) v.result v.ensures c.in-Ok.is
 
 pub returns-in-Refused : goal.returns-in-Refused
 unfolding check_trace
 returns-in-Refused c =
     let loads : Composition = composition c.args.wrapper (map (λ c. c.now) c.args.nodes) (map (λ c. c.now) c.args.pools) in
-    let v = c.load_verdict-o in
+    let v = c.load_verdict in
     let is = refused_loads (load loads) v.result _ _ _ v.ensures c.in-Refused.is in
     ap (check_from loads (step_records c.args.steps.now) (label_records c.args.labels.now)) (sym is)
 

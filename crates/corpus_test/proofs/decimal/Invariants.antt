@@ -1,10 +1,6 @@
--- `corpus_test::decimal` ends: the measure is what is left of the line.
-use Prim.Native.Nat.{◌-◌}
-use lib.ListN.{length}
+-- The measure is what is left of the line.
+use Rattle.std.proofs.Common.{length}
 use Rattle.corpus_test.proofs.decimal.Given as goal
 
-abbrev pub invariant-loop-i : goal.invariant-loop-i
-invariant-loop-i l = Unit {0}
-
-abbrev pub decreases-loop-i : goal.decreases-loop-i
-decreases-loop-i l = length l.line - l.i
+abbrev pub decreases-loop-b : goal.decreases-loop-b
+decreases-loop-b l = length l.rest

@@ -14,7 +14,7 @@ returns-then-found-ne0 c =
     let s = c.args.s.now in
     let bytes : Bytes s = λ k h. omega (arith, c.type_inv.s k) in
     let is = c.flags-found.ensures ∙ ap (flagged 8) c.word_at.ensures in
-    let fits : l.at + 8 ≤ length s = omega (arith, c.loop-at-test.true, c.eights-end.ensures) in
+    let fits : l.at + 8 ≤ length s = omega (arith, c.loop-at-test.true, c.saturating_sub-end.ensures) in
     sym (l.invariant ∙ hit s l.at _ fits bytes is c.if-found-ne0.true)
 
 pub loop-at-preserved : goal.loop-at-preserved
@@ -23,5 +23,5 @@ loop-at-preserved c =
     let s = c.args.s.now in
     let bytes : Bytes s = λ k h. omega (arith, c.type_inv.s k) in
     let is = c.flags-found.ensures ∙ ap (flagged 8) c.word_at.ensures in
-    let fits : l.at + 8 ≤ length s = omega (arith, c.loop-at-test.true, c.eights-end.ensures) in
+    let fits : l.at + 8 ≤ length s = omega (arith, c.loop-at-test.true, c.saturating_sub-end.ensures) in
     l.invariant ∙ miss s l.at _ fits bytes is c.if-found-ne0.false

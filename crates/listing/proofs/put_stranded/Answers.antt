@@ -1,46 +1,33 @@
-use mathlib.Core.Path.{◌≡◌}
-use Prim.Native.Nat.{◌<◌}
+use mathlib.Core.Path.{sym, subst}
+use Prim.Native.Nat.{ℕ, ◌+◌}
 use native.Mathlib.Omega.{arith}
-use lib.ListN.{length}
-use Rattle.values.proofs.Lists.{unmap}
-use Rattle.listing.proofs.ListLaws.{filled_none, filled_all, filled_length, filled_room, filled_more, filled_same}
+use Rattle.listing.proofs.ListLaws.{Filled, filled_none, filled_all, filled_room, filled_more, filled_same}
 use Rattle.listing.proofs.put_stranded.Goals as goal
+use Rattle.listing.proofs.put_stranded.Goals.{then-is_stranded, else-is_stranded}
 
 pub loop-k-init : goal.loop-k-init
-loop-k-init c = (omega arith, filled_none _ _)
+loop-k-init c = filled_none c.args.msgs.now c.args.out.now
 
 pub bounds-out-count : goal.bounds-out-count
 bounds-out-count c =
-    let full : length c.args.l.msgs ≡ 16 = search unmap in
-    let room : c.loop-k.count < length c.args.out.now =
     let at = c.loop-k in
-    let s = c.is_stranded in
-    filled_room c.args.l full c.requires.0 _ c.requires.1 at.k _ _ at.invariant.1 c.loop-k-test.true _ s.result s.ensures c.if-is_stranded.true in
-    let at = c.loop-k in
-    let same = filled_length c.args.l full c.requires.0 _ c.requires.1 at.k _ _ at.invariant.1 at.invariant.0 in
-    omega (arith, room, same)
-
-pub loop-k-preserved-then-is_stranded : goal.loop-k-preserved-then-is_stranded
-loop-k-preserved-then-is_stranded c =
-    let full : length c.args.l.msgs ≡ 16 = search unmap in
-    let at = c.loop-k in
-    let s = c.is_stranded in (
-      omega arith,
-      filled_more c.args.l full c.requires.0 _ c.requires.1 at.k _ _ at.invariant.1 c.loop-k-test.true _ s.result s.ensures c.if-is_stranded.true,
-    )
+    let room = filled_room c.args.msgs.now c.args.out.now c.requires.1 at.k at.count at.out at.invariant _ c.loop-k-test.true _ c.is_stranded.ensures c.if-is_stranded.true in
+    omega (arith, room)
 
 pub loop-k-preserved : goal.loop-k-preserved
 loop-k-preserved c =
-    let full : length c.args.l.msgs ≡ 16 = search unmap in
+    let ms = c.args.msgs.now in
+    let lent = c.args.out.now in
     let at = c.loop-k in
-    let s = c.is_stranded in (
-      omega arith,
-      filled_same c.args.l full c.requires.0 _ c.requires.1 at.k _ _ at.invariant.1 c.loop-k-test.true _ s.result s.ensures c.if-is_stranded.false,
-    )
+    let j = c.if-is_stranded in
+    elim j.branch [
+      | then-is_stranded b ↦
+          let more = filled_more ms lent c.requires.1 at.k at.count at.out at.invariant _ c.loop-k-test.true _ c.is_stranded.ensures b.if-is_stranded.true in
+          subst (λ (n : ℕ). Filled ms lent (at.k + 1) n j.out) (sym b.count-is) (subst (Filled ms lent (at.k + 1) (at.count + 1)) (sym b.out-is) more)
+      | else-is_stranded b ↦
+          let same = filled_same ms lent c.requires.1 at.k at.count at.out at.invariant _ c.loop-k-test.true _ c.is_stranded.ensures b.if-is_stranded.false in
+          subst (λ (n : ℕ). Filled ms lent (at.k + 1) n j.out) (sym b.count-is) (subst (Filled ms lent (at.k + 1) at.count) (sym b.out-is) same)
+    ]
 
 pub returns : goal.returns
-returns c =
-    let l = c.args.l in
-    let at = c.loop-k in
-    let all : at.k ≡ l.len = omega arith in
-    filled_all l _ _ at.k _ all at.invariant.1
+returns c = filled_all c.args.msgs.now c.args.out.now c.loop-k.out c.loop-k.k c.loop-k.count c.loop-k-test.false c.loop-k.invariant

@@ -9,8 +9,8 @@ use Rattle.reading.proofs.ReadLaws.{SoFar}
 use Rattle.reading.proofs.read.Given as goal
 
 abbrev pub invariant-loop-at : goal.invariant-loop-at
-invariant-loop-at l = (l.len ≡ length l.input) × (l.at ≤ l.len) × (l.n ≤ l.at + 1) ×
-    ((i : Input) × (l.places ≡ places_of i) × Holds i (lists l.initial.nodes l.initial.pools l.initial.steps) (lists l.nodes l.pools l.steps) × SoFar l.input l.n (pieces newline (slice l.at (length l.input) l.input)) i)
+invariant-loop-at l = (l.at ≤ length l.input) × (l.line ≤ l.at + 1) ×
+    ((i : Input) × (l.places ≡ places_of i) × Holds i (lists l.initial.nodes l.initial.pools l.initial.steps) (lists l.nodes l.pools l.steps) × SoFar l.input l.line (pieces newline (slice l.at (length l.input) l.input)) i)
 
 abbrev pub decreases-loop-at : goal.decreases-loop-at
-decreases-loop-at l = l.len - l.at
+decreases-loop-at l = length l.input - l.at

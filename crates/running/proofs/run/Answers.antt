@@ -1,58 +1,36 @@
-use mathlib.Core.Path.{◌≡◌, sym, ap, ◌∙◌}
+use mathlib.Core.Path.{◌≡◌, sym, ◌∙◌}
 use mathlib.Core.Bool.{true}
 use mathlib.Core.List.{map}
-use mathlib.Core.Option.{some}
 use Rattle.model.specs.Load.{Composition, is_ok, load}
 use Rattle.format.specs.Words.{steps_of}
 use Rattle.wrappers.specs.Compositions.{composition}
 use Rattle.loading.proofs.Faults.{ok_taken, ok_loads, refused_loads}
-use Rattle.running.specs.Running.{count_of, counted_of}
-use Rattle.running.proofs.RunLaws.{has_steps, has_room, run_broken, run_short, run_refused, run_done}
+use Rattle.running.proofs.RunLaws.{Has, has_steps, has_room, run_broken, run_short, run_refused, run_done}
 use Rattle.running.proofs.run.Goals as goal
+use Rattle.running.proofs.run.Goals.{In-Some, In-Ok}
+
+has : (c : In-Some) → Has (steps_of c.args.steps.now) c.in-Some.n
+has c = has_steps _ _ (sym c.count_steps.ensures ∙ c.in-Some.is)
+
+loads : (c : In-Ok) → is_ok (load (composition c.args.wrapper (map (λ x. x.now) c.args.nodes) (map (λ x. x.now) c.args.pools))) ≡ true
+loads c = ok_loads (load (composition c.args.wrapper (map (λ x. x.now) c.args.nodes) (map (λ x. x.now) c.args.pools))) _ c.load_verdict.ensures c.in-Ok.is
 
 pub returns-in_default : goal.returns-in_default
-returns-in_default c =
-    let loads : Composition = composition c.args.wrapper (map (λ c. c.now) c.args.nodes) (map (λ c. c.now) c.args.pools) in
-    run_broken loads c.args.steps.now c.args.out.now (sym c.count_steps-counted.ensures ∙ ap counted_of c.in_default.is)
+returns-in_default c = run_broken _ c.args.steps.now c.args.out.now (sym c.count_steps.ensures ∙ c.in_default.is)
 
 pub returns-then-out-n : goal.returns-then-out-n
-returns-then-out-n c =
-    let loads : Composition = composition c.args.wrapper (map (λ c. c.now) c.args.nodes) (map (λ c. c.now) c.args.pools) in
-    let steps-counted : count_of (steps_of c.args.steps.now) ≡ some c.in-Steps.n = sym c.count_steps-counted.ensures ∙ ap counted_of c.in-Steps.is in
-    let l = c.args.steps.now in
-    let h = has_steps (steps_of l) _ steps-counted in
-    run_short loads l c.args.out.now _ h c.if-out-n.true
+returns-then-out-n c = run_short _ c.args.steps.now c.args.out.now _ (has (goal.at.returns-then-out-n c).In-Some) c.if-out-n.true
 
 pub run_loaded-requires : goal.run_loaded-requires
-run_loaded-requires c =
-    let loads : Composition = composition c.args.wrapper (map (λ c. c.now) c.args.nodes) (map (λ c. c.now) c.args.pools) in
-    let steps-counted : count_of (steps_of c.args.steps.now) ≡ some c.in-Steps.n = sym c.count_steps-counted.ensures ∙ ap counted_of c.in-Steps.is in
-    let load_ok : is_ok (load loads) ≡ true =
-    let v = c.load_verdict-o in
-    ok_loads (load loads) v.result v.ensures c.in-Ok.is in
-    let counted = steps-counted in
-    (load_ok, record { count = counted; room = has_room _ _ c.if-out-n.false })
+run_loaded-requires c = (loads (goal.at.run_loaded-requires c).In-Ok, record { count = sym c.count_steps.ensures ∙ c.in-Some.is; room = has_room _ _ c.if-out-n.false })
 
 pub returns-in-Refused : goal.returns-in-Refused
 returns-in-Refused c =
-    let loads : Composition = composition c.args.wrapper (map (λ c. c.now) c.args.nodes) (map (λ c. c.now) c.args.pools) in
-    let steps-counted : count_of (steps_of c.args.steps.now) ≡ some c.in-Steps.n = sym c.count_steps-counted.ensures ∙ ap counted_of c.in-Steps.is in
-    let l = c.args.steps.now in
-    let h = has_steps (steps_of l) _ steps-counted in
-    let room = c.if-out-n.false in
-    let v = c.load_verdict-o in
-    let is = refused_loads (load loads) v.result _ _ _ v.ensures c.in-Refused.is in
-    run_refused loads l c.args.out.now _ h room _ _ _ is
+    let loads : Composition = composition c.args.wrapper (map (λ x. x.now) c.args.nodes) (map (λ x. x.now) c.args.pools) in
+    run_refused loads c.args.steps.now c.args.out.now _ (has (goal.at.returns-in-Refused c).In-Some) c.if-out-n.false _ _ _ (refused_loads (load loads) _ _ _ _ c.load_verdict.ensures c.in-Refused.is)
 
 pub returns-in-Ok : goal.returns-in-Ok
 returns-in-Ok c =
-    let loads : Composition = composition c.args.wrapper (map (λ c. c.now) c.args.nodes) (map (λ c. c.now) c.args.pools) in
-    let steps-counted : count_of (steps_of c.args.steps.now) ≡ some c.in-Steps.n = sym c.count_steps-counted.ensures ∙ ap counted_of c.in-Steps.is in
-    let load_ok : is_ok (load loads) ≡ true =
-    let v = c.load_verdict-o in
-    ok_loads (load loads) v.result v.ensures c.in-Ok.is in
-    let l = c.args.steps.now in
-    let h = has_steps (steps_of l) _ steps-counted in
-    let room = c.if-out-n.false in
-    let t = ok_taken loads load_ok in
-    run_done loads l c.args.out.now _ h room _ t.loaded _ (c.run_loaded.ensures _ t.loaded h.steps h.is)
+    let t = ok_taken _ (loads (goal.at.returns-in-Ok c).In-Ok) in
+    let h = has (goal.at.returns-in-Ok c).In-Some in
+    run_done _ c.args.steps.now c.args.out.now _ h c.if-out-n.false _ t.loaded _ (c.run_loaded.ensures _ t.loaded h.steps h.is)

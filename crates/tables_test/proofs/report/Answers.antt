@@ -6,4 +6,4 @@ use Rattle.tables_test.proofs.report.Goals as goal
 pub write_scopes-requires : goal.write_scopes-requires
 write_scopes-requires c =
     let t = table c.args.nodes.now c.args.pool.now in
-    passed t c.check.result c.check.ensures c.in-Passed.is
+    passed t c.check.result _ c.check.ensures c.in-Ok.is

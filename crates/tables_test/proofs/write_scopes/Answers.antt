@@ -8,7 +8,7 @@ unfolded_at-u-requires c =
     let t = table c.args.nodes.now c.args.pool.now in
     (c.requires, (passes_checked t c.requires).some)
 
-pub clear-requires : goal.clear-requires
-clear-requires c =
+pub clear-free-requires : goal.clear-free-requires
+clear-free-requires c =
     let t = table c.args.nodes.now c.args.pool.now in
     walks_at t c.requires 0 (passes_checked t c.requires).some

@@ -8,39 +8,39 @@ use Rattle.text.proofs.output_on.Goals as goal
 
 pub slice_bounds-parts-end : goal.slice_bounds-parts-end
 slice_bounds-parts-end c =
-    let w = whole_read _ c.read-r.ensures c.in-Whole.is in
+    let w = whole_read _ c.read.ensures c.in-Ok.is in
     sym (nodes_length w ∙ length-replicate {A = ℕ} _ 0)
 
 pub parts-ns-requires : goal.parts-ns-requires
 parts-ns-requires c =
-    let w = whole_read _ c.read-r.ensures c.in-Whole.is in
+    let w = whole_read _ c.read.ensures c.in-Ok.is in
     (nodes_room w (length-replicate {A = ℕ} _ 0), nodes_most w)
 
-pub slice_bounds-parts-end-in-Whole : goal.slice_bounds-parts-end-in-Whole
-slice_bounds-parts-end-in-Whole c =
-    let w = whole_read _ c.read-r.ensures c.in-Whole.is in
+pub slice_bounds-parts-end-in-Ok : goal.slice_bounds-parts-end-in-Ok
+slice_bounds-parts-end-in-Ok c =
+    let w = whole_read _ c.read.ensures c.in-Ok.is in
     sym (pools_length w ∙ length-replicate {A = ℕ} _ 0)
 
 pub parts-ps-requires : goal.parts-ps-requires
 parts-ps-requires c =
-    let w = whole_read _ c.read-r.ensures c.in-Whole.is in
+    let w = whole_read _ c.read.ensures c.in-Ok.is in
     (pools_room w (length-replicate {A = ℕ} _ 0), pools_most w)
 
 pub slice_bounds-steps-end : goal.slice_bounds-steps-end
 slice_bounds-steps-end c =
-    let w = whole_read _ c.read-r.ensures c.in-Whole.is in
+    let w = whole_read _ c.read.ensures c.in-Ok.is in
     words_within w (length-replicate {A = ℕ} _ 0)
 
 pub slice_bounds-run_output-end : goal.slice_bounds-run_output-end
 slice_bounds-run_output-end c =
-    let w = whole_read _ c.read-r.ensures c.in-Whole.is in
+    let w = whole_read _ c.read.ensures c.in-Ok.is in
     sym (length-take-le _ _ (words_within w (length-replicate {A = ℕ} _ 0)))
 
-pub returns-in-Fault : goal.returns-in-Fault
-returns-in-Fault c = page_of _ c.fault.ensures (fault_output _ _ c.read-r.ensures c.in-Fault.is)
+pub returns-in-Err : goal.returns-in-Err
+returns-in-Err c = page_of _ c.fault.ensures (fault_output _ _ c.read.ensures c.in-Err.is)
 
-pub returns-in-Whole : goal.returns-in-Whole
-returns-in-Whole c =
-    let w = whole_read _ c.read-r.ensures c.in-Whole.is in
+pub returns-in-Ok : goal.returns-in-Ok
+returns-in-Ok c =
+    let w = whole_read _ c.read.ensures c.in-Ok.is in
     let given = given_whole w (length-replicate {A = ℕ} _ 0) (length-replicate {A = ℕ} _ 0) (length-replicate {A = ℕ} _ 0) _ _ c.parts-ns.ensures c.parts-ps.ensures in
     page_of _ (c.run_output.ensures w.input given) (whole_output _ w.input w.is)

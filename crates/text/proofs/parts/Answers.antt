@@ -11,7 +11,7 @@ use borrow.Author.Rules.{rules}
 use Rattle.text.proofs.parts.Goals as goal
 
 pub loop-k-init : goal.loop-k-init
-loop-k-init c = (search rules, refl, λ j h. absurd (omega arith))
+loop-k-init c = (refl, λ j h. absurd (omega arith))
 
 pub overflow_mul-from : goal.overflow_mul-from
 overflow_mul-from c =
@@ -25,8 +25,8 @@ offset_bounds-counts-k c =
     let i = part_inside c.args.wide l.k (length all_sides) _ _ c.loop-k-test.true c.requires.0 (c.requires.1 l.k) in
     search (rules, i)
 
-pub overflow_add-to : goal.overflow_add-to
-overflow_add-to c =
+pub overflow_add-all : goal.overflow_add-all
+overflow_add-all c =
     let l = c.loop-k in
     let i = part_inside c.args.wide l.k (length all_sides) _ _ c.loop-k-test.true c.requires.0 (c.requires.1 l.k) in
     search (rules, i)
@@ -58,13 +58,12 @@ slice_bounds-all-end-in-loop-k c =
 pub loop-k-preserved : goal.loop-k-preserved
 loop-k-preserved c =
     let l = c.loop-k in
-    let n : length l.all ≡ length all_sides = sym (length-map l.all (λ x. x.now)) ∙ l.invariant.1 in (
-      search rules,
+    let n : length l.all ≡ length all_sides = sym (length-map l.all (λ x. x.now)) ∙ l.invariant.0 in (
       length-map (set l.all l.k _) (λ x. x.now) ∙ length-set l.all l.k _ ∙ n,
       λ j h. ap (λ (x : List (List ℕ)). get_or x j []) (map_set (λ x. x.now) l.all l.k _)
-          ∙ part_more (map (λ x. x.now) l.all) l.k _ (λ (x : ℕ). take (get_or c.args.counts x 0) (drop (c.args.wide * x) c.args.list.now)) (omega (arith, l.invariant.1, c.loop-k-test.true))
-          (part_size (c.args.wide * l.k) (get_or c.args.counts l.k 0) _) l.invariant.2 j h,
+          ∙ part_more (map (λ x. x.now) l.all) l.k _ (λ (x : ℕ). take (get_or c.args.counts x 0) (drop (c.args.wide * x) c.args.list.now)) (omega (arith, l.invariant.0, c.loop-k-test.true))
+          (part_size (c.args.wide * l.k) (get_or c.args.counts l.k 0) _) l.invariant.1 j h,
     )
 
 pub returns : goal.returns
-returns c = let l = c.loop-k in (l.invariant.1, λ k h. l.invariant.2 k (omega (arith, h, c.loop-k-test.false)))
+returns c = let l = c.loop-k in (l.invariant.0, λ k h. l.invariant.1 k (omega (arith, h, c.loop-k-test.false)))

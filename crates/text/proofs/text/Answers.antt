@@ -7,7 +7,7 @@ use Rattle.text.proofs.TextLaws.{text_short, text_written}
 use Rattle.text.proofs.text.Goals as goal
 
 pub returns-then-out-n : goal.returns-then-out-n
-returns-then-out-n c = text_short c.output_on-n.ensures _ c.if-out-n.true
+returns-then-out-n c = text_short c.output_on-n.ensures _ c.if-out-n.true _
 
 pub slice_bounds-page-end : goal.slice_bounds-page-end
 slice_bounds-page-end c = page_within c.output_on-n.ensures

@@ -1,9 +1,8 @@
-use borrow.Author.Rules.{rules}
-use Rattle.values.proofs.Words.{outside_low, outside_high}
+use Rattle.values.proofs.Words.{within_low, within_high}
 use Rattle.values.proofs.is_outside.Goals as goal
 
-pub returns-then-w-lt196608 : goal.returns-then-w-lt196608
-returns-then-w-lt196608 c = outside_low c.args.w (search rules)
+pub returns-then-w-ge196608 : goal.returns-then-w-ge196608
+returns-then-w-ge196608 c = within_high 196608 196863 c.args.w c.if-w-ge196608.true
 
-pub returns-else-w-lt196608 : goal.returns-else-w-lt196608
-returns-else-w-lt196608 c = outside_high c.args.w (search rules)
+pub returns-else-w-ge196608 : goal.returns-else-w-ge196608
+returns-else-w-ge196608 c = within_low 196608 196863 c.args.w c.if-w-ge196608.false

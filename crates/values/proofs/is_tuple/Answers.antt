@@ -1,9 +1,8 @@
-use borrow.Author.Rules.{rules}
-use Rattle.values.proofs.Words.{tuple_low, tuple_high}
+use Rattle.values.proofs.Words.{within_low, within_high}
 use Rattle.values.proofs.is_tuple.Goals as goal
 
-pub returns-then-w-lt4000000 : goal.returns-then-w-lt4000000
-returns-then-w-lt4000000 c = tuple_low c.args.w (search rules)
+pub returns-then-w-ge4000000 : goal.returns-then-w-ge4000000
+returns-then-w-ge4000000 c = within_high 4000000 4000015 c.args.w c.if-w-ge4000000.true
 
-pub returns-else-w-lt4000000 : goal.returns-else-w-lt4000000
-returns-else-w-lt4000000 c = tuple_high c.args.w (search rules)
+pub returns-else-w-ge4000000 : goal.returns-else-w-ge4000000
+returns-else-w-ge4000000 c = within_low 4000000 4000015 c.args.w c.if-w-ge4000000.false

@@ -1,17 +1,12 @@
 use mathlib.Core.Path.{sym, ◌∙◌}
 use borrow.Author.Tests.{leb-true, leb-false}
-use Rattle.values.proofs.Spans.{value_long, value_at_lem, value_bad}
+use Rattle.values.proofs.Spans.{value_long, value_of}
 use Rattle.values.proofs.is_value.Goals as goal
 
-pub returns-then-not-length_within : goal.returns-then-not-length_within
-returns-then-not-length_within c = value_long _ (leb-false _ 16 (sym c.length_within.ensures ∙ c.if-not-length_within.true))
+pub returns-then-length_within : goal.returns-then-length_within
+returns-then-length_within c =
+    let short = leb-true _ 16 (sym c.length_within.ensures ∙ c.if-length_within.true) in
+    c.eq.ensures ∙ value_of _ _ short c.item_end.ensures
 
-pub returns-in-At : goal.returns-in-At
-returns-in-At c =
-    let short = leb-true _ 16 (sym c.length_within.ensures ∙ c.if-not-length_within.false) in
-    value_at_lem _ _ short (sym c.item_end.ensures ∙ c.in-At.is)
-
-pub returns-in-Bad : goal.returns-in-Bad
-returns-in-Bad c =
-    let short = leb-true _ 16 (sym c.length_within.ensures ∙ c.if-not-length_within.false) in
-    value_bad _ short (sym c.item_end.ensures ∙ c.in-Bad.is)
+pub returns-else-length_within : goal.returns-else-length_within
+returns-else-length_within c = c.if-length_within.false ∙ value_long _ (leb-false _ 16 (sym c.length_within.ensures ∙ c.if-length_within.false))

@@ -16,31 +16,27 @@ loop-n-preserved-then-is_leaf c =
     (omega arith, l.invariant.1 ∙ span_leaf _ _ l.j l.n (omega arith) (omega arith) leaf)
 
 pub overflow_sub-k : goal.overflow_sub-k
-overflow_sub-k c = leb-true _ _ (fst _ _ (sym c.is_tuple.ensures ∙ c.if-is_tuple.true))
-
-pub overflow_cast-k : goal.overflow_cast-k
-overflow_cast-k c =
-    omega (arith, c.shared_slice_known-in-loop-n-1.given c.loop-n.j)
+overflow_sub-k c = leb-true _ _ (fst _ _ (sym c.is_tuple.ensures ∙ c.if-not-is_tuple.false))
 
 pub returns-then-s-j : goal.returns-then-s-j
 returns-then-s-j c =
     let l = c.loop-n in
     let other = sym c.is_leaf.ensures ∙ c.if-is_leaf.false in
-    let tuple = sym c.is_tuple.ensures ∙ c.if-is_tuple.true in
+    let tuple = sym c.is_tuple.ensures ∙ c.if-not-is_tuple.false in
     sym (l.invariant.1 ∙ span_tuple _ _ l.j l.n (omega arith) (omega arith) other tuple ∙ span_short _ _ _ _ (omega arith))
 
 pub loop-n-preserved : goal.loop-n-preserved
 loop-n-preserved c =
     let l = c.loop-n in
     let other = sym c.is_leaf.ensures ∙ c.if-is_leaf.false in
-    let tuple = sym c.is_tuple.ensures ∙ c.if-is_tuple.true in
+    let tuple = sym c.is_tuple.ensures ∙ c.if-not-is_tuple.false in
     (omega arith, l.invariant.1 ∙ span_tuple _ _ l.j l.n (omega arith) (omega arith) other tuple)
 
-pub returns-else-is_tuple : goal.returns-else-is_tuple
-returns-else-is_tuple c =
+pub returns-then-not-is_tuple : goal.returns-then-not-is_tuple
+returns-then-not-is_tuple c =
     let l = c.loop-n in
     let other = sym c.is_leaf.ensures ∙ c.if-is_leaf.false in
-    sym (l.invariant.1 ∙ span_bad _ _ l.j l.n (omega arith) (omega arith) other (sym c.is_tuple.ensures ∙ c.if-is_tuple.false))
+    sym (l.invariant.1 ∙ span_bad _ _ l.j l.n (omega arith) (omega arith) other (sym c.is_tuple.ensures ∙ c.if-not-is_tuple.true))
 
 pub returns : goal.returns
 returns c =

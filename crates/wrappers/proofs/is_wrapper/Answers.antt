@@ -1,11 +1,16 @@
-use Rattle.wrappers.proofs.Described.{one_wrapper, two_wrapper, three_wrapper}
+use native.Mathlib.Omega.{arith}
+use Rattle.std.proofs.lemmas.Grind.{common_steps}
+use Rattle.model.specs.Basics.{◌or◌}
 use Rattle.wrappers.proofs.is_wrapper.Goals as goal
 
-pub returns-then-w-eq1 : goal.returns-then-w-eq1
-returns-then-w-eq1 c = let a = c.args in one_wrapper a.w c.if-w-eq1.true
+pub returns-in-1-to-3 : goal.returns-in-1-to-3
+unfolding ◌or◌
+returns-in-1-to-3 c = grind (arith, common_steps)
 
-pub returns-then-w-eq2 : goal.returns-then-w-eq2
-returns-then-w-eq2 c = let a = c.args in two_wrapper a.w c.if-w-eq2.true
+pub returns-in_default : goal.returns-in_default
+unfolding ◌or◌
+returns-in_default c = grind (arith, common_steps)
 
-pub returns-else-w-eq2 : goal.returns-else-w-eq2
-returns-else-w-eq2 c = let a = c.args in three_wrapper a.w c.if-w-eq1.false c.if-w-eq2.false
+pub returns-in_default-2 : goal.returns-in_default-2
+unfolding ◌or◌
+returns-in_default-2 c = grind (arith, common_steps)

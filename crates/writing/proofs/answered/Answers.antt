@@ -12,14 +12,14 @@ returns-then-n-gt-MOST c = paged (spelled (answered_many _ _ c.if-n-gt-MOST.true
 pub loop-k-init : goal.loop-k-init
 loop-k-init c =
     let a = c.args in
-    (search rules, search rules, omega (arith, c.put-at.ensures.end), search rules, spelled (sym (lines_none 0 a.answers.now)) (nothing _ _))
+    (search rules, omega (arith, c.put-at.ensures.end), search rules, spelled (sym (lines_none 0 a.answers.now)) (nothing _ _))
 
 pub loop-k-preserved : goal.loop-k-preserved
 loop-k-preserved c =
     let l = c.loop-k in
     let line = c.put_line-at.ensures in
-    let lines = spelled (lines_more l.k c.args.answers.now) (joined l.invariant.4 line.written) in
-    (search rules, search rules, omega (arith, line.upper_bound), line.written.same ∙ l.invariant.3, lines)
+    let lines = spelled (lines_more l.k c.args.answers.now) (joined l.invariant.3 line.written) in
+    (search rules, omega (arith, line.upper_bound), line.written.same ∙ l.invariant.2, lines)
 
 pub returns : goal.returns
 returns c =
@@ -27,5 +27,5 @@ returns c =
     let first = c.put-at.ensures in
     let l = c.loop-k in
     let all : l.k ≡ a.n = omega arith in
-    let lines = joined first l.invariant.4 in
+    let lines = joined first l.invariant.3 in
     paged (spelled (answered_few a.n a.answers.now (search rules)) (rw all at lines)) (search rules) (omega arith)

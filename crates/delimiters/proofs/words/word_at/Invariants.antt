@@ -1,12 +1,9 @@
 -- The bytes from k on are in the word, the first of them lowest.
 use mathlib.Core.Path.{◌≡◌}
-use Prim.Native.Nat.{◌+◌, ◌-◌, ◌^◌, ◌<◌, ◌≤◌}
+use Prim.Native.Nat.{◌+◌, ◌-◌, ◌^◌, ◌<◌}
 use Rattle.format.specs.Bytes.{slice}
 use Rattle.delimiters.specs.Delimiters.{word}
 use Rattle.delimiters.proofs.words.word_at.Given as goal
 
 abbrev pub invariant-loop-k : goal.invariant-loop-k
-invariant-loop-k l = (l.k ≤ 8) × (l.w < 256 ^ (8 - l.k)) × (l.w ≡ word (slice (l.at + l.k) (l.at + 8) l.s))
-
-abbrev pub decreases-loop-k : goal.decreases-loop-k
-decreases-loop-k l = l.k
+invariant-loop-k l = (l.w < 256 ^ (8 - l.k)) × (l.w ≡ word (slice (l.at + l.k) (l.at + 8) l.s))

@@ -4,7 +4,7 @@ use Prim.Native.Nat.{◌+◌, ◌≤◌}
 use lib.ListN.{length, get_or}
 use Rattle.model.specs.Step.{local, settled}
 use Rattle.model.specs.Wrapper.{all_sides, described}
-use Rattle.wrappers.specs.declared.Source.TheVariants as route
+use Rattle.std.specs.Prelude.{Some}
 use Rattle.wrappers.specs.Routes.{source_for}
 use Rattle.wrappers.proofs.Described.{source_in}
 use Rattle.sides.specs.Sides.{core_of}
@@ -48,7 +48,7 @@ returns-in_default-f c =
 
 pub offset_bounds-rows-p : goal.offset_bounds-rows-p
 offset_bounds-rows-p c =
-    let source : let a = c.args in (route.Side (c.in-At-f.p + 1) ≡ source_for (described a.wrapper) a.side a.j) × (c.in-At-f.p + 1 ≤ length all_sides) =
+    let source : let a = c.args in (Some (c.in-At-f.p + 1) ≡ source_for (described a.wrapper) a.side a.j) × (c.in-At-f.p + 1 ≤ length all_sides) =
     let a = c.args in
     let r = c.route_offer-f in
     let from = route_at (described a.wrapper) a.side a.j r.result r.ensures _ c.in-At-f.is in
@@ -57,7 +57,7 @@ offset_bounds-rows-p c =
 
 pub bounds-rows-p : goal.bounds-rows-p
 bounds-rows-p c =
-    let source : let a = c.args in (route.Side (c.in-At-f.p + 1) ≡ source_for (described a.wrapper) a.side a.j) × (c.in-At-f.p + 1 ≤ length all_sides) =
+    let source : let a = c.args in (Some (c.in-At-f.p + 1) ≡ source_for (described a.wrapper) a.side a.j) × (c.in-At-f.p + 1 ≤ length all_sides) =
     let a = c.args in
     let r = c.route_offer-f in
     let from = route_at (described a.wrapper) a.side a.j r.result r.ensures _ c.in-At-f.is in
@@ -66,7 +66,7 @@ bounds-rows-p c =
 
 pub offset_bounds-shelved-p : goal.offset_bounds-shelved-p
 offset_bounds-shelved-p c =
-    let source : let a = c.args in (route.Side (c.in-At-f.p + 1) ≡ source_for (described a.wrapper) a.side a.j) × (c.in-At-f.p + 1 ≤ length all_sides) =
+    let source : let a = c.args in (Some (c.in-At-f.p + 1) ≡ source_for (described a.wrapper) a.side a.j) × (c.in-At-f.p + 1 ≤ length all_sides) =
     let a = c.args in
     let r = c.route_offer-f in
     let from = route_at (described a.wrapper) a.side a.j r.result r.ensures _ c.in-At-f.is in
@@ -75,7 +75,7 @@ offset_bounds-shelved-p c =
 
 pub bounds-shelved-p : goal.bounds-shelved-p
 bounds-shelved-p c =
-    let source : let a = c.args in (route.Side (c.in-At-f.p + 1) ≡ source_for (described a.wrapper) a.side a.j) × (c.in-At-f.p + 1 ≤ length all_sides) =
+    let source : let a = c.args in (Some (c.in-At-f.p + 1) ≡ source_for (described a.wrapper) a.side a.j) × (c.in-At-f.p + 1 ≤ length all_sides) =
     let a = c.args in
     let r = c.route_offer-f in
     let from = route_at (described a.wrapper) a.side a.j r.result r.ensures _ c.in-At-f.is in
@@ -84,7 +84,7 @@ bounds-shelved-p c =
 
 pub overflow_add-p : goal.overflow_add-p
 overflow_add-p c =
-    let source : let a = c.args in (route.Side (c.in-At-f.p + 1) ≡ source_for (described a.wrapper) a.side a.j) × (c.in-At-f.p + 1 ≤ length all_sides) =
+    let source : let a = c.args in (Some (c.in-At-f.p + 1) ≡ source_for (described a.wrapper) a.side a.j) × (c.in-At-f.p + 1 ≤ length all_sides) =
     let a = c.args in
     let r = c.route_offer-f in
     let from = route_at (described a.wrapper) a.side a.j r.result r.ensures _ c.in-At-f.is in
@@ -93,7 +93,7 @@ overflow_add-p c =
 
 pub take-requires : goal.take-requires
 take-requires c =
-    let source : let a = c.args in (route.Side (c.in-At-f.p + 1) ≡ source_for (described a.wrapper) a.side a.j) × (c.in-At-f.p + 1 ≤ length all_sides) =
+    let source : let a = c.args in (Some (c.in-At-f.p + 1) ≡ source_for (described a.wrapper) a.side a.j) × (c.in-At-f.p + 1 ≤ length all_sides) =
     let a = c.args in
     let r = c.route_offer-f in
     let from = route_at (described a.wrapper) a.side a.j r.result r.ensures _ c.in-At-f.is in
@@ -102,7 +102,7 @@ take-requires c =
 
 pub returns : goal.returns
 returns c =
-    let source : let a = c.args in (route.Side (c.in-At-f.p + 1) ≡ source_for (described a.wrapper) a.side a.j) × (c.in-At-f.p + 1 ≤ length all_sides) =
+    let source : let a = c.args in (Some (c.in-At-f.p + 1) ≡ source_for (described a.wrapper) a.side a.j) × (c.in-At-f.p + 1 ≤ length all_sides) =
     let a = c.args in
     let r = c.route_offer-f in
     let from = route_at (described a.wrapper) a.side a.j r.result r.ensures _ c.in-At-f.is in

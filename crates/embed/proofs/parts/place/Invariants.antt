@@ -1,12 +1,9 @@
--- `at` is the sum of the first i lengths, and inside the words.
+-- `at` is the sum of the lengths so far, or the end of the words where these are fewer.
 use mathlib.Core.Path.{◌≡◌}
-use Prim.Native.Nat.{◌-◌, ◌≤◌}
+use Prim.Native.Nat.{min}
 use lib.ListN.{length, take}
 use Rattle.embed.specs.Lent.{total}
 use Rattle.embed.proofs.parts.place.Given as goal
 
-abbrev pub invariant-loop-i : goal.invariant-loop-i
-invariant-loop-i l = (l.i ≤ l.k) × (l.i ≤ length l.lengths) × (l.at ≤ length l.words) × (l.at ≡ total (take l.i l.lengths))
-
-abbrev pub decreases-loop-i : goal.decreases-loop-i
-decreases-loop-i l = l.k - l.i
+abbrev pub invariant-loop-n : goal.invariant-loop-n
+invariant-loop-n l = l.at ≡ min (total (take l.n-index l.before)) (length l.words)

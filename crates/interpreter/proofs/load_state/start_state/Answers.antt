@@ -14,7 +14,7 @@ loop-k-init c =
     let ns = map (λ c. c.now) c.args.nodes in
     let ps = map (λ c. c.now) c.args.pools in
     let b = composition w ns ps in
-    (search rules, begin b _ (search unmap))
+    begin b _ (search unmap)
 
 pub side_at-requires : goal.side_at-requires
 side_at-requires c =
@@ -41,9 +41,9 @@ loop-k-preserved c =
     let long' : length c.args.pools ≡ 2 = search (rules, c.well_formed) in
     let n = c.number_of in
     let o = c.side_at in
-    let begun = c.loop-k.invariant.1 in
+    let begun = c.loop-k.invariant in
     let side = lent_side (λ c. c.now) w c.args.nodes c.args.pools k n.result _ _ long long' two n.ensures o.result o.ensures in
-    (search rules, turn b k _ o.result two begun side)
+    turn b k _ o.result two begun side
 
 pub returns : goal.returns
 returns c =
@@ -51,4 +51,4 @@ returns c =
     let ns = map (λ c. c.now) c.args.nodes in
     let ps = map (λ c. c.now) c.args.pools in
     let b = composition w ns ps in
-    turns_done b c.loop-k.k _ (search rules) c.loop-k.invariant.1
+    turns_done b c.loop-k.k _ (search rules) c.loop-k.invariant

@@ -63,7 +63,7 @@ side_step-d-requires c =
     let words = t.ensures.0 in
     let marks = t.ensures.1 in
     let long = t.ensures.2 in
-    let shelved = c.shelved_in-h.ensures in
+    let shelved = c.shelved_in-shelved.ensures in
     let may = own (λ c. c.now) w ts us _ _ s _ n k.result tl ul full long fits ready has k.ensures _ _ _ words marks shelved in
     (lw, lm, i.0, omega (arith, i.0, i.1), may, shelves s full long fits _ _ words shelved)
 
@@ -114,8 +114,8 @@ bounds-marks-k c =
     let k = c.place_of-k in
     omega (arith, i.0, i.1, k.ensures)
 
-pub put_at-requires : goal.put_at-requires
-put_at-requires c =
+pub put_at-after-requires : goal.put_at-after-requires
+put_at-after-requires c =
     let w = c.args.wrapper in
     let n = c.args.side in
     let i = has_number w n c.requires.2 in
@@ -143,10 +143,10 @@ returns c =
     let words = t.ensures.0 in
     let marks = t.ensures.1 in
     let long = t.ensures.2 in
-    let shelved = c.shelved_in-h.ensures in
+    let shelved = c.shelved_in-shelved.ensures in
     let y = asked c.args.kind n c.args.i c.args.j c.args.words.now in
     let marked = c.mark_left.ensures in
-    let put = c.put_at in
+    let put = c.put_at-after in
     let given = c.answered in
     result (λ c. c.now) w ts us _ _ s _ n k.result tl ul full long fits ready has k.ensures _ _ _ words marks shelved
     y refl _ _ d.result is marked _ _ put.result given.result put.ensures given.ensures

@@ -1,5 +1,4 @@
 use mathlib.Core.Path.{◌≡◌}
-use Prim.Native.Nat.{◌-◌, ◌≤◌}
 use lib.ListN.{length}
 use Rattle.interpreter.specs.Answered.{words_in}
 use Rattle.interpreter.proofs.StepLaws.{Filled, LongTo}
@@ -7,7 +6,4 @@ use Rattle.interpreter.proofs.step_state.take_out.Given as goal
 
 abbrev pub invariant-loop-k : goal.invariant-loop-k
 invariant-loop-k l =
-    (l.k ≤ 2) × (length l.rows ≡ 2) × (length l.marks ≡ 2) × Filled (λ o. o.words) l.s.sides l.k l.rows × Filled (λ o. o.left) l.s.sides l.k l.marks × LongTo l.k (words_in l.s)
-
-abbrev pub decreases-loop-k : goal.decreases-loop-k
-decreases-loop-k l = 2 - l.k
+    (length l.rows ≡ 2) × (length l.marks ≡ 2) × Filled (λ o. o.words) l.s.sides l.k l.rows × Filled (λ o. o.left) l.s.sides l.k l.marks × LongTo l.k (words_in l.s)

@@ -9,7 +9,7 @@ returns-then-has_side c =
     let t = table c.args.nodes.now c.args.pool.now in
     c.side_verdict.ensures c.args.n ∙ sym (fault_has (described c.args.wrapper) c.args.n t (sym c.has_side.ensures ∙ c.if-has_side.true))
 
-pub returns : goal.returns
-returns c =
+pub returns-else-has_side : goal.returns-else-has_side
+returns-else-has_side c =
     let t = table c.args.nodes.now c.args.pool.now in
     c.lack_verdict.ensures ∙ sym (fault_lacks (described c.args.wrapper) c.args.n t (sym c.has_side.ensures ∙ c.if-has_side.false))

@@ -1,34 +1,23 @@
-use mathlib.Core.Path.{◌≡◌, refl}
-use lib.ListN.{length}
-use lib.Seq.{paste-zero}
-use Rattle.running.proofs.RunLaws.{head_of, copy_next, copy_all, words_made}
-use borrow.Author.Rules.{rules}
+use mathlib.Core.Path.{◌≡◌, ap, ◌∙◌}
+use mathlib.Core.List.{List, ◌∷◌, append-nil}
+use Prim.Native.Nat.{ℕ}
 use native.Mathlib.Omega.{arith}
+use lib.ListN.{length}
+use Rattle.values.specs.Env.{view_value}
+use Rattle.running.proofs.RunLaws.{value_short, words_made}
+use borrow.Author.Rules.{rules}
 use Rattle.running.proofs.answer_words.words_of.Goals as goal
 
-pub loop-k-init : goal.loop-k-init
-loop-k-init c = let v = c.args.v in (omega arith, refl, paste-zero _ 4 v.words, refl)
-
-pub loop-k-preserved : goal.loop-k-preserved
-loop-k-preserved c =
-    let l = c.loop-k in
-    let a = c.args in
-    let said = c.label_word.result in
-    let number = c.number_word.result in
-    let head = head_of said number a.side c.narrow.result in
-    let full : length a.v.words ≡ 16 = search rules in
-    let more = copy_next l.of head 4 20 a.v.words l.k l.invariant.1 l.invariant.2 (omega arith) (omega (arith, full)) in
-    (omega arith, l.invariant.1, more, search rules)
+pub overflow_cast-words : goal.overflow_cast-words
+overflow_cast-words c =
+    let v = c.padded-v in
+    let full : length v.result.words ≡ 16 = search (rules, c.well_formed) in
+    omega (arith, v.ensures.len, value_short (view_value c.args.a.value) v.result.words v.ensures.words full)
 
 pub returns : goal.returns
 returns c =
-    let l = c.loop-k in
-    let a = c.args in
+    let v = c.padded-v in
     let said = c.label_word in
     let number = c.number_word in
-    let len = c.narrow in
-    let head = head_of said.result number.result a.side len.result in
-    let full : length a.v.words ≡ 16 = search rules in
-    let all = copy_all l.of head 4 a.v.words l.k 16 (omega arith) l.invariant.2 in
-    let made = words_made a.said said.result number.result a.side len.result a.v.len a.v.words l.of in
-    (full, l.invariant.3, λ short. made (len.ensures short) said.ensures number.ensures full all)
+    ap (λ (ws : List ℕ). said.result ∷ number.result ∷ c.args.a.side ∷ v.result.len ∷ ws) (append-nil _ ∙ c.copy_from_slice.ensures.after)
+    ∙ words_made c.args.a.said said.result number.result c.args.a.side v.result.len _ v.result.words said.ensures number.ensures v.ensures.len v.ensures.words

@@ -1,4 +1,5 @@
 use mathlib.Core.Path.{ap, ◌∙◌}
+use mathlib.Core.Bool.{not}
 use mathlib.Core.List.{List}
 use Prim.Native.Nat.{ℕ}
 use Rattle.model.specs.Values.{binders}
@@ -24,28 +25,28 @@ returns-then-clear t c =
     let node = c.node_at-x.ensures in
     left_yes a.nodes.now a.pool.now a.n a.ts.on c.requires _ node _ _ c.if-x-eq1.true c.clear.ensures c.if-clear.true c.clear-then-clear.ensures
 
-pub returns-then-x-eq1 : goal.returns-then-x-eq1
-returns-then-x-eq1 t c =
+pub returns-else-clear : goal.returns-else-clear
+returns-else-clear t c =
     let a = c.args in
     let node = c.node_at-x.ensures in
-    left_no a.nodes.now a.pool.now a.n a.ts.on c.requires _ node _ c.if-x-eq1.true c.clear.ensures c.if-clear.false
+    c.if-clear.false ∙ left_no a.nodes.now a.pool.now a.n a.ts.on c.requires _ node _ c.if-x-eq1.true c.clear.ensures c.if-clear.false
 
-pub returns-then-has : goal.returns-then-has
-returns-then-has t c =
+pub returns-else-not-has : goal.returns-else-not-has
+returns-else-not-has t c =
     let a = c.args in
     let node = c.node_at-x.ensures in
-    box_no a.nodes.now a.pool.now a.n a.ts.on c.requires _ node _ c.if-x-eq2.true c.has.ensures c.if-has.true
+    ap not c.if-not-has.false ∙ box_no a.nodes.now a.pool.now a.n a.ts.on c.requires _ node _ c.if-x-eq2.true c.has.ensures c.if-not-has.false
 
-pub clear-requires-then-x-eq2 : goal.clear-requires-then-x-eq2
-clear-requires-then-x-eq2 t c =
+pub clear-requires-then-not-has : goal.clear-requires-then-not-has
+clear-requires-then-not-has t c =
     let node = c.node_at-x.ensures in
     on_box _ _ _ c.requires _ node _ c.decreases c.if-x-eq2.true
 
-pub returns-then-x-eq2 : goal.returns-then-x-eq2
-returns-then-x-eq2 t c =
+pub returns-then-not-has : goal.returns-then-not-has
+returns-then-not-has t c =
     let a = c.args in
     let node = c.node_at-x.ensures in
-    box_yes a.nodes.now a.pool.now a.n a.ts.on c.requires _ node _ _ c.if-x-eq2.true c.has.ensures c.if-has.false c.clear-then-x-eq2.ensures
+    box_yes a.nodes.now a.pool.now a.n a.ts.on c.requires _ node _ _ c.if-x-eq2.true c.has.ensures c.if-not-has.true c.clear-then-not-has.ensures
 
 pub clear-requires-then-x-eq3 : goal.clear-requires-then-x-eq3
 clear-requires-then-x-eq3 t c =
@@ -74,14 +75,14 @@ unfolding leaf_of
 returns-then-outside t c =
     let a = c.args in
     let node = c.node_at-x.ensures in
-    let below = c.hide_names-below.ensures ∙ ap (λ (s : List ℕ). hide a.ts.on (binders s)) c.words_at.ensures in
+    let below = c.hide_names.ensures ∙ ap (λ (s : List ℕ). hide a.ts.on (binders s)) c.words_at.ensures in
     input_yes a.nodes.now a.pool.now a.n a.ts.on c.requires _ node _ _ _ c.if-x-ge5.true c.outside-then-x-ge5.ensures c.if-outside.true below c.clear-then-outside.ensures
 
-pub returns-then-x-ge5 : goal.returns-then-x-ge5
-returns-then-x-ge5 t c =
+pub returns-else-outside : goal.returns-else-outside
+returns-else-outside t c =
     let a = c.args in
     let node = c.node_at-x.ensures in
-    input_no a.nodes.now a.pool.now a.n a.ts.on c.requires _ node _ c.if-x-ge5.true c.outside-then-x-ge5.ensures c.if-outside.false
+    c.if-outside.false ∙ input_no a.nodes.now a.pool.now a.n a.ts.on c.requires _ node _ c.if-x-ge5.true c.outside-then-x-ge5.ensures c.if-outside.false
 
 pub returns : goal.returns
 returns t c =

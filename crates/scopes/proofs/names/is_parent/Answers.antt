@@ -1,10 +1,8 @@
 -- `scopes::names::is_parent` meets its contract.
-use mathlib.Core.Path.{◌∙◌}
+use Rattle.std.proofs.Common.{rules, ◌∙◌}
+use Rattle.scopes.specs.Names.{is_child}
 use Rattle.scopes.proofs.NameLaws.{parent_by}
 use Rattle.scopes.proofs.names.is_parent.Goals as goal
 
 pub returns : goal.returns
-returns c =
-    let a = c.args in
-    let tests = parent_by a.x a.m _ _ _ _ c.is_child.ensures c.is_child-2.ensures c.is_child-3.ensures c.is_child-4.ensures in
-    c.any_of_four.ensures ∙ tests
+returns c = c.any_field.ensures (λ u w. is_child u w c.args.m) (λ u w b e. search rules) ∙ parent_by c.args.x c.args.m

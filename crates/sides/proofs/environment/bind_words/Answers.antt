@@ -1,10 +1,5 @@
-use lib.ListN.{length-set}
 use Rattle.sides.proofs.Binding.{words_bound}
-use borrow.Author.Rules.{rules}
 use Rattle.sides.proofs.environment.bind_words.Goals as goal
-
-pub slice_bounds-put_words-end : goal.slice_bounds-put_words-end
-slice_bounds-put_words-end c = simp length-set (search rules)
 
 pub returns : goal.returns
 returns c =

@@ -1,18 +1,5 @@
-use mathlib.Core.Path.{refl}
-use Rattle.sides.proofs.Storing.{part_turn, values_stored}
-use borrow.Author.Rules.{rules}
-use native.Mathlib.Omega.{arith}
+use Rattle.sides.proofs.Storing.{values_copied}
 use Rattle.sides.proofs.inputs.copy_values.Goals as goal
 
-pub loop-k-init : goal.loop-k-init
-loop-k-init c = (search rules, search rules, refl)
-
-pub loop-k-preserved : goal.loop-k-preserved
-loop-k-preserved c =
-    let l = c.loop-k in
-    (search rules, search rules, part_turn c.args.d.now c.args.s.now l.d 8 8 l.k (omega arith) l.invariant.2)
-
 pub returns : goal.returns
-returns c =
-    let l = c.loop-k in
-    values_stored c.args.d.now c.args.s.now l.d c.args.n l.k (omega arith) l.invariant.2
+returns c = values_copied c.args.d.now c.args.s.now _ c.args.n c.requires.0 c.requires.1 c.requires.2 c.copy_from_slice.ensures.after

@@ -1,14 +1,9 @@
-use mathlib.Core.Path.{refl}
 use Rattle.sides.proofs.Reading.{place_short, value_read}
 use native.Mathlib.Omega.{arith}
 use Rattle.sides.proofs.places.value_in.Goals as goal
-
-pub overflow_add-e : goal.overflow_add-e
-overflow_add-e c = omega (arith, place_short c.args.v.now c.requires.1)
 
 pub slice_bounds-of-end : goal.slice_bounds-of-end
 slice_bounds-of-end c = omega (arith, place_short c.args.v.now c.requires.1)
 
 pub returns : goal.returns
-returns c =
-    value_read c.args.v.now c.wide-n.result _ _ c.wide-n.ensures refl c.requires.0 c.requires.1 c.of.ensures
+returns c = value_read c.args.v.now _ c.requires.0 c.requires.1 c.of.ensures

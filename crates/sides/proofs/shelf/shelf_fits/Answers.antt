@@ -1,40 +1,27 @@
-use mathlib.Core.Path.{refl, sym, ap, ◌∙◌}
-use mathlib.Core.Bool.{true, false}
+use mathlib.Core.Path.{refl, sym, ◌∙◌}
 use mathlib.Core.List.{[]}
-use Prim.Native.Nat.{ℕ, ◌<◌}
+use Prim.Native.Nat.{ℕ, ◌+◌, ◌*◌}
+use native.Mathlib.Omega.{arith}
 use lib.Dec.{leb}
-use Rattle.sides.proofs.Lists.{every_more, stops, fits_fails, fits_all}
+use lib.ListN.{get_or}
+use Rattle.std.proofs.Common.{rules, tests}
+use Rattle.std.proofs.lemmas.Iterator.{YieldsList-from_range}
+use Rattle.std.proofs.lemmas.Iterator.Search.{all_from_yields_List}
 use borrow.Author.Tests.{leb-true}
 use Rattle.sides.specs.Layout.{shelf_of, fits_place}
+use Rattle.sides.proofs.Lists.{and_then, and_else, all_places}
 use Rattle.sides.proofs.Reading.{shelf_count, shelf_fits}
-use borrow.Author.Rules.{rules}
-use native.Mathlib.Omega.{arith}
 use Rattle.sides.proofs.shelf.shelf_fits.Goals as goal
 
-pub returns-then-not-shelf_within : goal.returns-then-not-shelf_within
-returns-then-not-shelf_within c = stops _ _ (sym c.shelf_within.ensures ∙ c.if-not-shelf_within.true)
-
-pub loop-k-init : goal.loop-k-init
-loop-k-init c = (leb-true _ 32 (sym c.shelf_within.ensures ∙ c.if-not-shelf_within.false), search rules, refl)
-
-pub loop-k-preserved : goal.loop-k-preserved
-loop-k-preserved c =
-    let z = c.loop-k in
+pub returns-then-shelf_within : goal.returns-then-shelf_within
+returns-then-shelf_within c =
     let l = c.args.rows.now in
-    let k32 : z.k < 32 = omega (arith, z.invariant) in
-    let short = ap (λ (n : ℕ). leb n 16) (sym c.wide.ensures) ∙ sym c.length_within.ensures ∙ c.if-length_within.true in
-    (z.invariant.0, search rules, every_more fits_place (shelf_of l) z.k [] (rw (shelf_count l) k32) (shelf_fits l z.k true k32 short) z.invariant.2)
+    let n = c.args.n in
+    let short = λ (k : ℕ). leb (get_or l (4640 + 17 * k) 0) 16 in
+    let few = leb-true n 32 (sym c.shelf_within.ensures ∙ c.if-shelf_within.true) in
+    let all = all_from_yields_List short _ _ _ c.all.ensures.ran (YieldsList-from_range 0 n n refl (omega arith)) (λ x b q k. search (rules, tests)) in
+    let each = all_places fits_place short (shelf_of l) [] n (rw (shelf_count l) few) (λ k m. sym (shelf_fits l k _ (omega arith) refl)) in
+    and_then _ _ c.shelf_within.ensures c.if-shelf_within.true (all ∙ each)
 
-pub returns-else-length_within : goal.returns-else-length_within
-returns-else-length_within c =
-    let z = c.loop-k in
-    let l = c.args.rows.now in
-    let k32 : z.k < 32 = omega (arith, z.invariant) in
-    let long = ap (λ (n : ℕ). leb n 16) (sym c.wide.ensures) ∙ sym c.length_within.ensures ∙ c.if-length_within.false in
-    fits_fails fits_place (shelf_of l) 32 (shelf_count l) z.k c.args.n [] (omega arith) z.invariant.0 (shelf_fits l z.k false k32 long)
-
-pub returns : goal.returns
-returns c =
-    let z = c.loop-k in
-    let l = c.args.rows.now in
-    fits_all fits_place (shelf_of l) 32 (shelf_count l) z.k c.args.n (omega (arith, z.invariant)) z.invariant.0 z.invariant.2
+pub returns-else-shelf_within : goal.returns-else-shelf_within
+returns-else-shelf_within c = and_else _ _ c.shelf_within.ensures c.if-shelf_within.false

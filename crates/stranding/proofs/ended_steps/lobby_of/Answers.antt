@@ -22,10 +22,10 @@ returns-then-has_side c =
     let has : has_side (described c.args.wrapper) c.args.side ≡ true = sym c.has_side.ensures ∙ c.if-has_side.true in
     let k = c.place_of in
     let i = has_number c.args.wrapper c.args.side has in
-    (lobby_has c.args.wrapper c.args.side c.args.rests has c.requires.0 k.result k.ensures _, c.requires.1 k.result _ (omega (arith, i.0, i.1, k.ensures)))
+    (lobby_has c.args.wrapper c.args.side c.args.rests.now has c.requires.0 k.result k.ensures _, c.requires.1 k.result _ (omega (arith, i.0, i.1, k.ensures)))
 
 pub returns : goal.returns
 returns c =
     let none = c.empty.ensures in
     let lacks = sym c.has_side.ensures ∙ c.if-has_side.false in
-    (none.view ∙ lobby_lacks c.args.wrapper c.args.side c.args.rests lacks, omega (arith, none.len))
+    (none.view ∙ lobby_lacks c.args.wrapper c.args.side c.args.rests.now lacks, omega (arith, none.len))

@@ -4,8 +4,5 @@ use lib.ListN.{get_or-eq_default}
 use native.Mathlib.Omega.{arith}
 use Rattle.tables.proofs.nodes.field_at.Goals as goal
 
-pub returns-else-k-nodes : goal.returns-else-k-nodes
-returns-else-k-nodes c = λ pool. sym (get_or-eq_default c.args.nodes.now 0 (omega arith))
-
 pub returns-else-n-nodes : goal.returns-else-n-nodes
 returns-else-n-nodes c = λ pool. sym (get_or-eq_default c.args.nodes.now 0 (omega arith))

@@ -1,9 +1,6 @@
--- `tables::scope::node_if_over` meets its contract.
-use Rattle.tables.proofs.ScopeLaws.{over_few, over_many}
+use Rattle.std.proofs.Common.{◌∙◌}
+use Rattle.tables.proofs.ScopeLaws.{node_over}
 use Rattle.tables.proofs.scope.node_if_over.Goals as goal
 
-pub returns-then-k-le8 : goal.returns-then-k-le8
-returns-then-k-le8 c = over_few _ _ c.if-k-le8.true
-
-pub returns-else-k-le8 : goal.returns-else-k-le8
-returns-else-k-le8 c = over_many _ _ c.if-k-le8.false
+pub returns : goal.returns
+returns c = c.then_some.ensures ∙ node_over c.args.k c.args.n c.requires

@@ -6,6 +6,3 @@ use Rattle.test_schedules.proofs.lists.inputs.Given as goal
 
 abbrev pub invariant-loop-k : goal.invariant-loop-k
 invariant-loop-k l = sets l.nodes (5 * l.k) (nodes_from (input_node l.kind) l.k (l.b - l.k)) ≡ sets l.initial.nodes (5 * l.a) (nodes_from (input_node l.kind) l.a (l.b - l.a))
-
-abbrev pub decreases-loop-k : goal.decreases-loop-k
-decreases-loop-k l = l.b - l.k

@@ -17,8 +17,8 @@ put_sent-requires c =
     let value = value_fits a.nodes.now a.pool.now a.n _ node (env_of a.e.now a.d) _ c.words_at.ensures c.requires.1 in
     (o.long, o.free, omega (arith, o.place), o.width, o.few, o.values, value)
 
-pub overflow_add-r : goal.overflow_add-r
-overflow_add-r c = omega (arith, c.requires.0.free)
+pub overflow_add-result : goal.overflow_add-result
+overflow_add-result c = omega (arith, c.requires.0.free)
 
 pub returns : goal.returns
 unfolding leaf_of

@@ -6,12 +6,12 @@ use Rattle.values.proofs.Lists.{unmap}
 use Rattle.values.proofs.Matches.{bound_in, bound_out}
 use Rattle.values.proofs.Bound.push.Goals as goal
 
-pub returns-then-n-lt-MOST : goal.returns-then-n-lt-MOST
-returns-then-n-lt-MOST c = λ v.
+pub returns-then-self-lt-MOST : goal.returns-then-self-lt-MOST
+returns-then-self-lt-MOST c = λ v.
     let full : length c.args.self.rows ≡ 8 = search (rules, unmap) in
-    bound_in v c.args.self _ full c.if-n-lt-MOST.true
+    bound_in v c.args.self _ full c.if-self-lt-MOST.true
 
-pub returns-else-n-lt-MOST : goal.returns-else-n-lt-MOST
-returns-else-n-lt-MOST c = λ v.
+pub returns-else-self-lt-MOST : goal.returns-else-self-lt-MOST
+returns-else-self-lt-MOST c = λ v.
     let full : length c.args.self.rows ≡ 8 = search (rules, unmap) in
-    bound_out v c.args.self (record { start = c.args.start; len = c.args.len }) full c.if-n-lt-MOST.false
+    bound_out v c.args.self (record { start = c.args.start; len = c.args.len }) full c.if-self-lt-MOST.false

@@ -1,12 +1,17 @@
 -- Box 0, or an earlier parent and a held name.
-use Rattle.wellformed.proofs.ListLaws.{box_zero, box_later, box_orphan}
+use Rattle.std.proofs.Common.{rules}
+use Rattle.model.specs.Basics.{◌or◌, ◌&◌}
+use Rattle.wellformed.specs.Clauses.{box_at}
 use Rattle.wellformed.proofs.boxes.box_ok.Goals as goal
 
 pub returns-then-i-eq0 : goal.returns-then-i-eq0
-returns-then-i-eq0 c = box_zero _ _ _ c.if-i-eq0.true
+unfolding box_at ◌or◌ ◌&◌
+returns-then-i-eq0 c = search rules
 
 pub returns-then-parent-i : goal.returns-then-parent-i
-returns-then-parent-i c = box_later _ _ _ c.if-i-eq0.false _ c.if-parent-i.true c.held.ensures
+unfolding box_at ◌or◌ ◌&◌
+returns-then-parent-i c = search rules
 
-pub returns : goal.returns
-returns c = box_orphan _ _ _ c.if-i-eq0.false c.if-parent-i.false
+pub returns-else-parent-i : goal.returns-else-parent-i
+unfolding box_at ◌or◌ ◌&◌
+returns-else-parent-i c = search rules

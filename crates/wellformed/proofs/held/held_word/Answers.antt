@@ -1,9 +1,12 @@
--- A tuple word, or a name.
-use Rattle.wellformed.proofs.HeldLaws.{word_tuple, word_name}
+use Rattle.std.proofs.Common.{rules}
+use Rattle.model.specs.Basics.{◌or◌}
+use Rattle.model.specs.WellFormed.{held_word}
 use Rattle.wellformed.proofs.held.held_word.Goals as goal
 
 pub returns-then-w-ge4000000 : goal.returns-then-w-ge4000000
-returns-then-w-ge4000000 c = word_tuple _ _ c.if-w-ge4000000.true
+unfolding held_word ◌or◌
+returns-then-w-ge4000000 c = search rules
 
-pub returns : goal.returns
-returns c = word_name _ _ _ c.if-w-ge4000000.false c.held.ensures
+pub returns-else-w-ge4000000 : goal.returns-else-w-ge4000000
+unfolding held_word ◌or◌
+returns-else-w-ge4000000 c = search rules

@@ -1,52 +1,28 @@
--- The messages before k pass.
-use mathlib.Core.Path.{◌≡◌, refl, sym, ◌∙◌}
-use Prim.Native.Nat.{◌≤◌}
-use native.Mathlib.Omega.{arith}
+use Rattle.std.proofs.Common.{◌≤◌, ◌∙◌, ap, take, rules}
+use Rattle.std.proofs.iter.runs.Made.{chains}
+use Rattle.std.proofs.lemmas.Iterator.{YieldsList-from_slice}
+use Rattle.std.proofs.lemmas.Iterator.Adapters.{serves_from_places}
 use borrow.Author.Tests.{leb-true}
-use lib.ListN.{length}
+use Rattle.model.proofs.Basics.Tests.{fst, snd}
 use Rattle.model.specs.WellFormed.{wf_message}
-use Rattle.values.proofs.Lists.{unmap}
 use Rattle.wrappers.specs.Copies.{log_if}
 use Rattle.sides.specs.Views.{view_message, fits_message}
-use Rattle.wellformed.proofs.TestLaws.{from_every, rows_more, rows_not, rows_all, fits_count, fits_at_lem}
+use Rattle.wellformed.proofs.TestLaws.{each, each_at, every_map}
 use Rattle.wellformed.proofs.lobby.lobby_ok.Goals as goal
 
-pub loop-k-init : goal.loop-k-init
-loop-k-init c =
-    let places : length c.args.l.msgs ≡ 16 = search unmap in
-    let few : c.args.l.len ≤ length c.args.l.msgs = fits_count fits_message c.args.l.msgs c.args.l.len 16 places c.requires in
-    (omega arith, omega (arith, few, places), refl)
+pub shared_ref_as_front-iter : goal.shared_ref_as_front-iter
+shared_ref_as_front-iter c = leb-true _ _ (fst _ _ c.requires)
 
-pub message_ok-requires : goal.message_ok-requires
-message_ok-requires c =
-    let places : length c.args.l.msgs ≡ 16 = search unmap in
-    leb-true _ _ (fits_at_lem fits_message c.args.l.msgs c.args.l.len 16 places c.requires c.loop-k.k _ c.loop-k-test.true)
-
-pub loop-k-preserved : goal.loop-k-preserved
-loop-k-preserved c =
-    let places : length c.args.l.msgs ≡ 16 = search unmap in
-    let few : c.args.l.len ≤ length c.args.l.msgs = fits_count fits_message c.args.l.msgs c.args.l.len 16 places c.requires in
-    let a = c.args in
-    let l = c.loop-k in
-    let h = c.loop-k-test.true in
-    let passes = sym c.message_ok.ensures ∙ c.if-message_ok.true in
-    (omega arith, l.invariant.1, rows_more view_message (λ j m. wf_message a.shelved (log_if a.logging) a.counts.now m) a.l.msgs a.l.len few l.k _ h passes l.invariant.2)
-
-pub returns-else-message_ok : goal.returns-else-message_ok
-returns-else-message_ok c =
-    let places : length c.args.l.msgs ≡ 16 = search unmap in
-    let few : c.args.l.len ≤ length c.args.l.msgs = fits_count fits_message c.args.l.msgs c.args.l.len 16 places c.requires in
-    let a = c.args in
-    let l = c.loop-k in
-    let fails = sym c.message_ok.ensures ∙ c.if-message_ok.false in
-    rows_not view_message (λ j m. wf_message a.shelved (log_if a.logging) a.counts.now m) a.l.msgs a.l.len few l.k _ c.loop-k-test.true fails l.invariant.2 ∙
-    from_every (wf_message a.shelved (log_if a.logging) a.counts.now) 0 _
+pub all-requires-clause-callable : goal.all-requires-clause-callable
+all-requires-clause-callable c =
+    let held = take c.args.l.now.len c.args.l.now.msgs in
+    serves_from_places (YieldsList-from_slice held (search rules)) (λ x q r. search rules) (λ x k below is.
+    let fits : x.now.value.len ≤ 16 = leb-true _ _ (ap fits_message is ∙ each_at fits_message held (snd _ _ c.requires) k x.now below) in
+    search (rules, fits))
 
 pub returns : goal.returns
 returns c =
-    let places : length c.args.l.msgs ≡ 16 = search unmap in
-    let few : c.args.l.len ≤ length c.args.l.msgs = fits_count fits_message c.args.l.msgs c.args.l.len 16 places c.requires in
     let a = c.args in
-    let l = c.loop-k in
-    rows_all view_message (λ j m. wf_message a.shelved (log_if a.logging) a.counts.now m) a.l.msgs a.l.len few l.k c.loop-k-test.false l.invariant.2 ∙
-    from_every (wf_message a.shelved (log_if a.logging) a.counts.now) 0 _
+    let test = wf_message a.shelved (log_if a.logging) a.counts.now in
+    let held = take a.l.now.len a.l.now.msgs in
+    each (λ m. test (view_message m)) held c.all.result (search (rules, chains)) ∙ every_map test view_message held

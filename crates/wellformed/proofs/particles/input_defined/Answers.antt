@@ -14,7 +14,7 @@ defined_at-requires c =
     let t = table a.nodes.now a.pool.now in
     let w = c.requires in
     let env = env_is t a.words.now a.i w _ _ _ refl c.input_env-n.ensures in
-    let node = c.wide.ensures ∙ c.word_at.ensures in
+    let node = c.word_at.ensures in
     (w.passes, rw node w.inside, env.1)
 
 pub returns : goal.returns
@@ -22,5 +22,5 @@ returns c =
     let a = c.args in
     let t = table a.nodes.now a.pool.now in
     let env = env_is t a.words.now a.i c.requires _ _ _ refl c.input_env-n.ensures in
-    let node = c.wide.ensures ∙ c.word_at.ensures in
+    let node = c.word_at.ensures in
     c.defined_at.ensures ∙ ap₂ (λ (n : ℕ) (e : Env). defined (term t n) e) node env.0

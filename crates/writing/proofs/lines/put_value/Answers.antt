@@ -5,4 +5,4 @@ use Rattle.writing.proofs.lines.put_value.Goals as goal
 
 pub returns-clause-written : goal.returns-clause-written
 returns-clause-written c =
-    spelled (value_in_lem c.args.words.now _ _ c.wide.ensures.0 c.length_in-e.ensures) (joined c.put_number-p.ensures.written c.put_fields.ensures.written)
+    spelled (value_in_lem c.args.words.now _ _ c.from.ensures c.min-e.ensures) (joined c.put_number-p.ensures.written c.put_fields.ensures.written)

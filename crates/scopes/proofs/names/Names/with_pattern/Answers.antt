@@ -13,24 +13,24 @@ loop-i-init c =
     let a = c.args in
     let full : length a.self.rows ≡ 8 = search rules in
     let few = view_few a.self.rows a.self.top 0 full in
-    (search rules, back_start a.s.now (view_names a.self) few)
+    back_start a.s.now (view_names a.self) few
 
 pub loop-i-preserved-then-w-le63 : goal.loop-i-preserved-then-w-le63
 loop-i-preserved-then-w-le63 c =
     let l = c.loop-i in
     let a = c.args in
-    let step = step_name a.s.now l.i (l.i - 1) (view_names a.self) (view_names l.r) (omega arith) (omega arith) l.invariant.1 in
-    (search rules, step _ c.if-w-le63.true c.with_outer-r.ensures)
+    let step = step_name a.s.now l.i (l.i - 1) (view_names a.self) (view_names l.r) (omega arith) (omega arith) l.invariant in
+    step _ c.if-w-le63.true c.with_outer-r.ensures
 
 pub loop-i-preserved : goal.loop-i-preserved
 loop-i-preserved c =
     let l = c.loop-i in
     let a = c.args in
-    let step = step_other a.s.now l.i (l.i - 1) (view_names a.self) (view_names l.r) (omega arith) (omega arith) l.invariant.1 in
-    (search rules, step c.if-w-le63.false)
+    let step = step_other a.s.now l.i (l.i - 1) (view_names a.self) (view_names l.r) (omega arith) (omega arith) l.invariant in
+    step c.if-w-le63.false
 
 pub returns : goal.returns
 returns c =
     let l = c.loop-i in
     let a = c.args in
-    back_end a.s.now (view_names a.self) (view_names l.r) l.i (omega arith) l.invariant.1
+    back_end a.s.now (view_names a.self) (view_names l.r) l.i (omega arith) l.invariant

@@ -1,5 +1,6 @@
 -- `tables::name_set::NameSet::has` meets its contract.
-use mathlib.Core.Path.{◌≡◌, sym}
+use mathlib.Core.Path.{◌≡◌, sym, ◌∙◌}
+use borrow.Author.Tests.{le-ltb}
 use mathlib.Core.Bool.{false}
 use lib.ListN.{length, get_or-eq_default}
 use native.Mathlib.Omega.{arith}
@@ -9,4 +10,4 @@ use Rattle.tables.proofs.name_set.NameSet.has.Goals as goal
 pub returns-else-x-lt-NAMES : goal.returns-else-x-lt-NAMES
 returns-else-x-lt-NAMES c =
     let full : length c.args.self.on ≡ 64 = search rules in
-    sym (get_or-eq_default c.args.self.on false {n = c.args.x} (omega arith))
+    le-ltb c.args.x 64 c.if-x-lt-NAMES.false ∙ sym (get_or-eq_default c.args.self.on false {n = c.args.x} (omega arith))

@@ -1,9 +1,0 @@
--- `trials_test::rounds::takes` meets its contract.
-use Prim.Native.Nat.{◌-◌, ◌≤◌}
-use Rattle.trials_test.proofs.rounds.takes.Given as goal
-
-abbrev pub invariant-loop-k : goal.invariant-loop-k
-invariant-loop-k l = l.k ≤ l.n
-
-abbrev pub decreases-loop-k : goal.decreases-loop-k
-decreases-loop-k l = l.n - l.k
