@@ -3,7 +3,8 @@
 
 usage: tools/design_places.py [--count] [TREE]      (default: this repository; --count: the numbers alone)
 
-A place is printed as FILE:LINE and its text. A place that a line `// Stays ..` stands at or right above is marked `stays`.
+A place is printed as FILE:LINE and its text. A place that a line `// Stays ..` stands at or right above is marked `stays`, and so is a
+refusal by its number where the enum that holds it is marked.
 What a section finds is found by its form alone: whether it is one of the point's places is said on that page.
 """
 import difflib
@@ -203,18 +204,25 @@ POINTS = [
 ]
 
 
+def of_a_type_that_stays(all_sources, text):
+    """Whether a place is a refusal by number of an enum that is marked as staying: `Offer::Refused(13)`."""
+    found = re.search(r"\b(\w+)::Refused\(\d", text)
+    return bool(found) and any(re.search(r"\benum %s\b" % found.group(1), line) and s.stays(at) for s in all_sources for at, line in enumerate(s.code))
+
+
 def main():
     args = [a for a in sys.argv[1:] if a != "--count"]
     top = args[0] if args else HERE
     all_sources = list(sources(top))
     for title, find in POINTS:
         places = list(find(all_sources))
-        stay = sum(1 for s, at, _ in places if s.stays(at))
+        kept = [s.stays(at) or of_a_type_that_stays(all_sources, text) for s, at, text in places]
+        stay = sum(kept)
         crates = len({s.name.split(os.sep)[1] for s, _, _ in places})
         print("%-52s %4d in %2d crates, %d marked as staying" % (title, len(places), crates, stay))
         if "--count" not in sys.argv:
-            for s, at, text in places:
-                print("    %s:%d: %s%s" % (s.name, at + 1, "stays: " if s.stays(at) else "", text))
+            for (s, at, text), stays in zip(places, kept):
+                print("    %s:%d: %s%s" % (s.name, at + 1, "stays: " if stays else "", text))
 
 
 main()

@@ -9,6 +9,7 @@ use Rattle.claims.specs.Claims.{records_past, step_records, label_records, visib
 use Rattle.steps.specs.declared.Said.{Said}
 use Rattle.steps.specs.declared.Said.TheVariants as said
 use Rattle.answers.specs.Answers.{said_of}
+use Rattle.loading.specs.Loading.{told_by}
 use Rattle.checking.specs.declared.TraceError.{TraceError}
 use Rattle.checking.specs.declared.TraceError.TheVariants.{Unloaded, StepAt, LabelAt}
 use Rattle.checking.specs.declared.claimed_labels.Agreed.{Agreed}
@@ -16,7 +17,7 @@ use Rattle.checking.specs.declared.claimed_labels.Agreed.{Agreed}
 -- the verdict that the result says
 abbrev pub verdict_of : Result ⊤ TraceError → Verdict
 verdict_of (Ok u) = accepted
-verdict_of (Err (Unloaded k i m)) = unloaded (record { number = k; side = i; node = m })
+verdict_of (Err (Unloaded f)) = unloaded (told_by f)
 verdict_of (Err (StepAt k)) = step_at_fault k
 verdict_of (Err (LabelAt k)) = label_at_fault k
 

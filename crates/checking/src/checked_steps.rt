@@ -34,6 +34,7 @@ pub(crate) fn check_loaded(
     let mut agreed = Ok(Agreed { at: 0, count: 0 });
     let mut p: usize = 0;
     let mut k: usize = 0;
+    // Stays a loop by places: `successors` would give the ends of the records, and not that the last one breaks off.
     while p < steps.len() {
         let Some(e) = record_end(steps, p, 4) else {
             return Err(TraceError::StepAt(k)); // its record breaks off

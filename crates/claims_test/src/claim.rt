@@ -1,18 +1,18 @@
 // A claim and its line. A step is words: kind, side, i, j, how many value words, value words. A label is words: channel (0 `in`,
 // 1 `out`, 3 `log`), side, how many value words, value words.
 use checking::{TraceError, check_trace};
+use test_output::{number, write};
 use test_schedules::lists::append;
-use test_schedules::shown::{number, write};
 
 // The verdict in words.
 fn verdict(c: Result<(), TraceError>) {
     match c {
         Ok(()) => write(b" accepted"),
-        Err(TraceError::Unloaded(cause, side, node)) => {
+        Err(TraceError::Unloaded(f)) => {
             write(b" refused");
-            number(cause);
-            number(side as usize);
-            number(node);
+            number(f.cause.number());
+            number(f.side as usize);
+            number(f.node);
         },
         Err(TraceError::StepAt(k)) => {
             write(b" 20 at");

@@ -1,7 +1,7 @@
 // Labels at fault.
 use crate::claim::{copied, copier, first, listing};
+use test_output::write;
 use test_schedules::lists::{append, repeat};
-use test_schedules::shown::write;
 
 // Listing A with some labels claimed.
 fn copying(name: &[u8], labels: &[u32]) {

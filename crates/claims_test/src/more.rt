@@ -1,6 +1,6 @@
 // Beyond the table: both lists of listing A cut at every place, and wrappers that are none.
 use crate::claim::{copier, first, listing, part};
-use test_schedules::shown::{number, write};
+use test_output::{number, write};
 
 // A line for each place of a list, and one behind its last word: the claim with the list cut there.
 fn all_cuts<F: Fn(&[u32])>(name: &[u8], list: &[u32], claim: F)

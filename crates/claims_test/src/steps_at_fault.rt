@@ -1,7 +1,7 @@
 // Steps at fault.
 use crate::claim::{alone, copied, first, listing, part, wrapped};
+use test_output::write;
 use test_schedules::lists::append;
-use test_schedules::shown::write;
 
 // Steps of the copier, with the label of the first: 20 enters.
 fn entered(name: &[u8], steps: &[u32]) {

@@ -1,6 +1,6 @@
 // Claims as a whole.
 use crate::claim::{copied, first, listing, wrapped};
-use test_schedules::shown::write;
+use test_output::write;
 
 // Listing A, with both its labels.
 fn listed() {

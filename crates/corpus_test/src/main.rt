@@ -6,7 +6,10 @@
 // breaks off or has a header that cannot be read, and nothing after that place is looked at; at the end `R runs, D differ`.
 #![tactic(auto)]
 
-use text::{TooShort, text};
+use text::text;
+
+// The descriptor of standard output.
+const STDOUT: i32 = 1;
 
 // More runs than this are not read.
 const MOST_RUNS: usize = 100000;
@@ -23,14 +26,6 @@ struct Malformed;
 struct Count {
     runs: usize,
     differ: usize,
-}
-
-fn write(text: &[u8]) {
-    io::write_all(1, text);
-}
-
-fn write_number(n: usize) {
-    io::print_decimal(1, n as u64);
 }
 
 // The next byte; none where the file ends.
@@ -104,18 +99,9 @@ fn read_part(part: &mut [u8]) -> Result<(), Malformed> {
     }
 }
 
-// Whether the bytes written are the recorded ones.
-fn output_is(out: &[u8], w: Result<usize, TooShort>, recorded: &[u8]) -> bool {
-    match w {
-        Ok(n) => { n <= out.len() && &out[..n] == recorded },
-        Err(_) => false,
-    }
-}
-
 // Whether an input has the recorded output.
 fn has_output(input: &[u8], recorded: &[u8], out: &mut [u8]) -> bool {
-    let w = text(input, out);
-    output_is(out, w, recorded)
+    text(input, out).is_ok_and(|n| n <= out.len() && &out[..n] == recorded)
 }
 
 // Reads the header of run k and its two parts, and replays it: whether it has the recorded output; none where the file ends.
@@ -136,15 +122,15 @@ fn replay_next(
 }
 
 fn write_malformed(k: usize) {
-    write(b"malformed at run ");
-    write_number(k);
-    write(b"\n");
+    io::write_all(STDOUT, b"malformed at run ");
+    io::print_decimal(STDOUT, k as u64);
+    io::write_all(STDOUT, b"\n");
 }
 
 fn write_differs(k: usize) {
-    write(b"run ");
-    write_number(k);
-    write(b" differs\n");
+    io::write_all(STDOUT, b"run ");
+    io::print_decimal(STDOUT, k as u64);
+    io::write_all(STDOUT, b" differs\n");
 }
 
 // Replays run after run up to the file's end, and writes which differ.
@@ -176,8 +162,8 @@ fn main() {
     let mut recorded = [0u8; 206848];
     let mut out = [0u8; 206848];
     let c = replay_all(&mut input, &mut recorded, &mut out);
-    write_number(c.runs);
-    write(b" runs, ");
-    write_number(c.differ);
-    write(b" differ\n");
+    io::print_decimal(STDOUT, c.runs as u64);
+    io::write_all(STDOUT, b" runs, ");
+    io::print_decimal(STDOUT, c.differ as u64);
+    io::write_all(STDOUT, b" differ\n");
 }

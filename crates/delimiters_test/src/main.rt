@@ -28,14 +28,6 @@ impl Case {
     const NEAR: [u8; 8] = [0, 8, 9, 10, 11, 137, 138, 255];
 }
 
-fn text(s: &[u8]) {
-    io::write_all(STDOUT, s);
-}
-
-fn number(n: u64) {
-    io::print_decimal(STDOUT, n);
-}
-
 // The search as document 02 has it, one place after the other.
 fn by_places(s: &[u8], start: usize) -> usize {
     let mut found = s.len();
@@ -96,16 +88,16 @@ fn try_odd(even: u8, tally: &mut Tally) {
 
 // What the search finds from a start on, behind a blank.
 fn show(s: &[u8], start: usize) {
-    text(b" ");
-    number(next_delimiter(s, start) as u64);
+    io::write_all(STDOUT, b" ");
+    io::print_decimal(STDOUT, next_delimiter(s, start) as u64);
 }
 
 fn show_some() {
-    text(b"W\\t2\\nN from 0, 2, 4, 5, 9:");
+    io::write_all(STDOUT, b"W\\t2\\nN from 0, 2, 4, 5, 9:");
     for start in [0, 2, 4, 5, 9] {
         show(b"W\t2\nN", start);
     }
-    text(b"\n");
+    io::write_all(STDOUT, b"\n");
 }
 
 fn main() {
@@ -117,8 +109,8 @@ fn main() {
     for even in Case::NEAR {
         try_odd(even, &mut tally);
     }
-    number(tally.compared);
-    text(b" compared, ");
-    number(tally.differ);
-    text(b" differ\n");
+    io::print_decimal(STDOUT, tally.compared);
+    io::write_all(STDOUT, b" compared, ");
+    io::print_decimal(STDOUT, tally.differ);
+    io::write_all(STDOUT, b" differ\n");
 }

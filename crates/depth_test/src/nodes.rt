@@ -29,13 +29,20 @@ fn parallel(nodes: &mut [u32; 4400], k: usize, left: bool) {
     }
 }
 
-// A spine of n parallels from node a on, each with one child that is nil.
-pub fn spine(nodes: &mut [u32; 4400], a: usize, n: usize, left: bool) {
+// What is put at n nodes: a and each second one after it.
+fn every_second<F: Fn(&mut [u32; 4400], usize)>(nodes: &mut [u32; 4400], a: usize, n: usize, put: F)
+    requires { F.IsAlwaysCallable put }
+{
     let mut at = a;
     for _ in 0..n {
-        parallel(nodes, at, left);
+        put(nodes, at);
         at = at.wrapping_add(2);
     }
+}
+
+// A spine of n parallels from node a on, each with one child that is nil.
+pub fn spine(nodes: &mut [u32; 4400], a: usize, n: usize, left: bool) {
+    every_second(nodes, a, n, |nodes, k| parallel(nodes, k, left));
 }
 
 // An output on `out` to the parent.
@@ -45,11 +52,7 @@ pub fn output(nodes: &mut [u32; 4400], k: usize, place: u32) {
 
 // Outputs at n nodes: a and each second one after it.
 pub fn outputs(nodes: &mut [u32; 4400], a: usize, n: usize, place: u32) {
-    let mut at = a;
-    for _ in 0..n {
-        output(nodes, at, place);
-        at = at.wrapping_add(2);
-    }
+    every_second(nodes, a, n, |nodes, k| output(nodes, k, place));
 }
 
 // A root (6 stays, 5 goes) that binds y, over 127 parallels.

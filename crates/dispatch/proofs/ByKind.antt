@@ -10,7 +10,7 @@ use lib.ListN.{length, take}
 use lib.Seq.{take_all}
 use Rattle.model.specs.Basics.{◌&◌, choose, Res, refuse, done, bind, need}
 use Rattle.model.specs.Side.{Core}
-use Rattle.model.specs.Wrapper.{Route, Wrapper, shelves}
+use Rattle.model.specs.Wrapper.{Route, shelves}
 use Rattle.model.specs.Load.{Setting}
 use Rattle.model.specs.Step.{Moved, settled, go_down, up, pass, leave, descend, meet, enter, takes, inner, route_to, local}
 use Rattle.std.specs.Prelude.{Some, None}
@@ -20,36 +20,26 @@ use Rattle.steps.specs.declared.RestStep.{RestStep}
 use Rattle.steps.specs.StepIs.{Sane, StepIs}
 use Rattle.steps.specs.declared.Said.TheVariants as said
 use Rattle.steps.specs.declared.Offer.{Offer}
-use Rattle.steps.specs.declared.Offer.TheVariants.{At, Refused}
+use Rattle.steps.specs.declared.Offer.TheVariants.{Refused}
 use Rattle.steps.specs.Asked.{Says, number_of, with_shelf}
-use Rattle.steps.proofs.Held.{sane, refused_is}
+use Rattle.steps.proofs.Held.{sane, offer_refused}
 use Rattle.steps.proofs.Settling.{no_left, no_right}
 use Rattle.steps.proofs.Settings.{up_with}
 use Rattle.meeting.specs.Meeting.{with_table}
 use Rattle.meeting.proofs.Settings.{meet_with}
-use Rattle.dispatch.specs.Stepping.{asked, RouteOffer, OnePlaceKind, one_place, two_places, OwnReady}
+use Rattle.dispatch.specs.Stepping.{asked, OnePlaceKind, one_place, two_places, OwnReady}
 
 -- a side that a step may act on
 pub own_sane : (c : Setting) (l : List ℕ) (o : Rest) → OwnReady c l o → Sane l o
 own_sane c l o h = sane c h.counts l o h.long h.arrays h.formed
 
 -- a step by what it equals
-pub step_by : (x y : Res Moved) (l : List ℕ) (o : Rest) (m : List ℕ) (r : RestStep) → x ≡ y → StepIs y l o m r → StepIs x l o m r
-step_by x y l o m r e h = subst (λ (z : Res Moved). StepIs z l o m r) (sym e) h
+pub step_by : {x y : Res Moved} {l : List ℕ} {o : Rest} {m : List ℕ} {r : RestStep} → x ≡ y → StepIs y l o m r → StepIs x l o m r
+step_by {x} {y} {l} {o} {m} {r} e h = subst (λ (z : Res Moved). StepIs z l o m r) (sym e) h
 
 -- where a test refuses with 10
-pub ten_is : (x : Res Moved) (l : List ℕ) (o : Rest) (k : ℕ) (r : RestStep) → x ≡ refuse 10 → k ≡ 10 → Says (said.Refused k) o r → StepIs x l o l r
-ten_is x l o k r e is says = refused_is x l o k r (e ∙ ap refuse (sym is)) says
-
--- what the check of a route answered
-module _ (v : Wrapper) (m j : ℕ) (a : Offer) (w : RouteOffer v m j a) where
-  pub route_at : (k : ℕ) → a ≡ At k → Some (k + 1) ≡ source_for v m j
-  route_at k e = subst (λ (y : Offer). RouteOffer v m j y) e w
-
-  pub route_refused : (n k : ℕ) → a ≡ Refused n → k ≡ number_of a → (k ≡ 10) × (None ≡ source_for v m j)
-  route_refused n k e q =
-      let z : (n ≡ 10) × (None ≡ source_for v m j) = subst (λ (y : Offer). RouteOffer v m j y) e w in
-      (q ∙ ap number_of e ∙ z.0, z.1)
+pub ten_is : {x : Res Moved} {l : List ℕ} {o : Rest} {a : Offer} {n : ℕ} {r : RestStep} → x ≡ refuse 10 → n ≡ 10 → a ≡ Refused n → Says (said.Refused (number_of a)) o r → StepIs x l o l r
+ten_is {x} {l} e is q says = offer_refused l (e ∙ ap refuse (sym is)) q says
 
 -- a number by its bounds
 beyond : (n k : ℕ) → n ≤ k → (k ≡ n → ⊥) → n + 1 ≤ k

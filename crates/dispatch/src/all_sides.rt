@@ -17,10 +17,10 @@ use wrappers::source_of;
 fn route_offer(wrapper: u32, side: u32, j: usize) -> Offer
     ensures { RouteOffer (described wrapper) side j result }
 {
-    match source_of(wrapper, side, j) {
-        Some(m) => Offer::At(place_of(m)),
-        None => Offer::Refused(10),
-    }
+    let Some(m) = source_of(wrapper, side, j) else {
+        return Offer::Refused(10);
+    };
+    Offer::At(place_of(m))
 }
 
 // Kind 8 of the side at place k: there are no value words, and j names a route. No word changes.
@@ -40,16 +40,17 @@ fn taking(
 {
     let a = wordless(words, i);
     let Offer::At(q) = a else {
-        return RestStep::plain(Said::Refused(a.number()), o);
+        return RestStep::refused(a, o);
     };
     let f = route_offer(wrapper, side, j);
     let Offer::At(p) = f else {
-        return RestStep::plain(Said::Refused(f.number()), o);
+        return RestStep::refused(f, o);
     };
     take(&rows[k], o, &rows[p], shelved[p], p + 1, q)
 }
 
 // Kinds 1 to 8 of a side. `shelved` says how many values each side has on its shelf.
+// Stays a number for the kind: the clause of side_step is of any number that is asked (`asked kind ..`), others than 1 to 8 too.
 pub fn side_step(
     wrapper: u32,
     nodes: &[u32],
@@ -68,6 +69,7 @@ pub fn side_step(
     ensures { (n : ℕ) → LocalAt (setting_of wrapper side nodes.now pool.now) marks.now rows.old shelved (asked kind n i j words.now) o rows.new result }
 {
     let k = place_of(side);
+    // Stays a number: the clause speaks of every number that is asked, as above.
     if kind == 8 {
         return taking(wrapper, side, rows, k, shelved, o, i, j, words);
     }
@@ -90,13 +92,7 @@ pub fn side_step(
 fn says_left(said: Said) -> bool
     ensures { result ≡ says_left said }
 {
-    match said {
-        Said::In => false,
-        Said::Out => true,
-        Said::Log => true,
-        Said::Silent => false,
-        Said::Refused(_) => false,
-    }
+    matches!(said, Said::Out | Said::Log)
 }
 
 // The marks of a side after what it said: the minted names of a value that left are marked. The caller has seen that v fits its array.

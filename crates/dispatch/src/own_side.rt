@@ -26,29 +26,21 @@ fn one_place(
     requires { Sane rows.old o × OnePlaceKind kind }
     ensures { StepIs (settled (one_place (with_shelf shelving) (log_if logging) (core_of rows.old o) kind i)) rows.old o rows.new result }
 {
-    if kind == 2 {
-        return down(rows, o, i);
+    // Stays a number: the clause of `side_step` speaks of every number that is asked.
+    match kind {
+        2 => down(rows, o, i),
+        3 => up(shelving, rows, o, i),
+        6 => pass(rows, o, logging, i),
+        _ => leave(rows, o, i),
     }
-    if kind == 3 {
-        return up(shelving, rows, o, i);
-    }
-    if kind == 6 {
-        return pass(rows, o, logging, i);
-    }
-    leave(rows, o, i)
 }
 
 // Whether the kind is one of 2 to 7, and j, which those of one place do not use, is 0. The position is i.
 fn place_offer(kind: u32, i: usize, j: usize) -> Offer
     ensures { OfferIf ((2 ≤ kind) × (kind ≤ 7) × (j ≡ 0)) i 10 result }
 {
-    if kind < 2 {
-        return Offer::Refused(10);
-    }
-    if 7 < kind {
-        return Offer::Refused(10);
-    }
-    if j != 0 {
+    // Stays a number: the clause of `side_step` speaks of every number that is asked.
+    if kind < 2 || 7 < kind || j != 0 {
         return Offer::Refused(10);
     }
     Offer::At(i)
@@ -58,7 +50,7 @@ fn place_offer(kind: u32, i: usize, j: usize) -> Offer
 pub(crate) fn wordless(words: &[u32], i: usize) -> Offer
     ensures { OfferIf (length words.now ≡ 0) i 10 result }
 {
-    if words.len() != 0 {
+    if !words.is_empty() {
         return Offer::Refused(10);
     }
     Offer::At(i)
@@ -68,10 +60,7 @@ pub(crate) fn wordless(words: &[u32], i: usize) -> Offer
 fn no_place_offer(i: usize, j: usize, words: &[u32]) -> Offer
     ensures { OfferIf ((i ≡ 0) × (j ≡ 0)) (length words.now) 10 result }
 {
-    if i != 0 {
-        return Offer::Refused(10);
-    }
-    if j != 0 {
+    if i != 0 || j != 0 {
         return Offer::Refused(10);
     }
     Offer::At(words.len())
@@ -92,17 +81,18 @@ fn two_places(
     requires { OwnReady (setting_of wrapper side nodes.now pool.now) rows.old o }
     ensures { StepIs (settled (two_places (setting_of wrapper side nodes.now pool.now) (core_of rows.old o) kind i j)) rows.old o rows.new result }
 {
-    if kind == 4 {
-        return descend(rows, o, i, j);
+    // Stays a number: the clause of `side_step` speaks of every number that is asked.
+    match kind {
+        4 => descend(rows, o, i, j),
+        5 => meet(nodes, pool, side, rows, o, i, j),
+        _ => {
+            let a = place_offer(kind, i, j);
+            let Offer::At(k) = a else {
+                return RestStep::refused(a, o);
+            };
+            one_place(has_shelf(wrapper, side), has_log(wrapper), rows, o, kind, k)
+        }
     }
-    if kind == 5 {
-        return meet(nodes, pool, side, rows, o, i, j);
-    }
-    let a = place_offer(kind, i, j);
-    let Offer::At(k) = a else {
-        return RestStep::plain(Said::Refused(a.number()), o);
-    };
-    one_place(has_shelf(wrapper, side), has_log(wrapper), rows, o, kind, k)
 }
 
 // Kind 1: unused i and j must be 0.
@@ -120,7 +110,7 @@ fn entering(
 {
     let a = no_place_offer(i, j, words);
     let Offer::At(n) = a else {
-        return RestStep::plain(Said::Refused(a.number()), o);
+        return RestStep::refused(a, o);
     };
     enter(rows, o, has_log(wrapper), marks, &words[..n])
 }
@@ -142,12 +132,13 @@ pub(crate) fn own_step(
     requires { (OwnReady (setting_of wrapper side nodes.now pool.now) rows.old o) × (length marks.now ≡ length all_sides) × (kind ≡ 8 → ⊥) }
     ensures { (sh : ShelvesBy) (n : ℕ) → LocalIs (setting_of wrapper side nodes.now pool.now) marks.now sh (asked kind n i j words.now) rows.old o rows.new result }
 {
+    // Stays a number: the clause of `side_step` speaks of every number that is asked.
     if kind == 1 {
         return entering(wrapper, rows, o, marks, i, j, words);
     }
     let a = wordless(words, i);
     let Offer::At(k) = a else {
-        return RestStep::plain(Said::Refused(a.number()), o);
+        return RestStep::refused(a, o);
     };
     two_places(wrapper, nodes, pool, side, rows, o, kind, k, j)
 }

@@ -2,15 +2,17 @@
 // nodes, side 1's pool, side 2's nodes, and so on; `lengths` has the length of each of these parts in words.
 #![tactic(auto)]
 
-ghost use Rattle.std.specs.Prelude.{length};
+ghost use Rattle.std.specs.Prelude.{◌≡◌, [], ◌∷◌, length};
 ghost use Rattle.format.specs.Output.{output};
 ghost use Rattle.format.specs.Words.{run_of};
 ghost use Rattle.claims.specs.Claims.{check_trace};
+ghost use Rattle.loading.specs.Loading.{told_by};
 ghost use Rattle.embed.specs.Lent.{lent_composition};
 ghost use Rattle.stranding.specs.Stranding.{stranded_after};
 ghost use Rattle.embed.specs.Numbers.{TextNumbers, RunNumbers, TraceNumbers, AfterNumbers};
 
 use checking::{TraceError, check_trace};
+use loading::LoadRefusal;
 use parts::parts;
 use running::{RunError, run};
 use stranding::{AfterError, stranded_after};
@@ -36,6 +38,13 @@ pub extern "C" fn bench_text(input: &[u8], out: &mut [u8], bytes: &mut usize) ->
     }
 }
 
+// Number, side and node of load's refusal.
+fn refusal_numbers(f: LoadRefusal) -> [usize; 3]
+    ensures { result ≡ (told_by f).number ∷ (told_by f).side ∷ (told_by f).node ∷ [] }
+{
+    [f.cause.number(), f.side as usize, f.node]
+}
+
 // A run of a list of steps; its answers are written to `out`, 20 words each. Answers 0 where it is done, and `numbers` has how many
 // answers there are; 1 where load refuses, with its number, side and node; 2 where the steps break off; 3 where `out` is too short.
 #[unsafe(no_mangle)]
@@ -56,8 +65,8 @@ pub extern "C" fn bench_run(
             *numbers = [n, 0, 0];
             0
         },
-        Err(RunError::Refused(number, side, node)) => {
-            *numbers = [number, side as usize, node];
+        Err(RunError::Refused(f)) => {
+            *numbers = refusal_numbers(f);
             1
         },
         Err(RunError::BrokenOff) => {
@@ -91,9 +100,9 @@ pub extern "C" fn bench_check_trace(
             *place = [0, 0];
             0
         },
-        Err(TraceError::Unloaded(number, side, node)) => {
-            *place = [side as usize, node];
-            number
+        Err(TraceError::Unloaded(f)) => {
+            *place = [f.side as usize, f.node];
+            f.cause.number()
         },
         Err(TraceError::StepAt(k)) => {
             *place = [0, k];
@@ -128,8 +137,8 @@ pub extern "C" fn bench_stranded_after(
             *numbers = [count, 0, 0];
             0
         },
-        Err(AfterError::Unloaded(cause, of, node)) => {
-            *numbers = [cause, of as usize, node];
+        Err(AfterError::Unloaded(f)) => {
+            *numbers = refusal_numbers(f);
             1
         },
         Err(AfterError::BrokenOff) => {

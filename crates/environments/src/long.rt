@@ -12,11 +12,12 @@ ghost use Rattle.environments.specs.Long.{long_in, size_for, size_by, long_by};
 use crate::named::by_names;
 use sides::Rows;
 use tables::name_set::NameSet;
-use tables::nodes::node_at;
+use tables::nodes::{Kind, node_at};
 use tables::pool::words_at;
 use values::{Leaf, Value};
 
 // How many words each name of a table, 0 to 63, stands for.
+// Stays a struct of one array: its methods answer for a number past 63 too, and their clauses name the array, `of`.
 #[derive(Clone, Copy)]
 pub(crate) struct Sizes {
     of: [u8; NameSet::NAMES],
@@ -24,6 +25,7 @@ pub(crate) struct Sizes {
 
 impl Sizes {
     // The name x stands for m words. A number past 63 is no name of a table.
+    // Stays beside NameSet::put: the contracts of both crates name each struct's own array, `of` and `on`.
     fn put(mut self, x: usize, m: u8) -> Sizes
         ensures { result.of ≡ set self.of x m }
     {
@@ -63,6 +65,7 @@ fn over_long(t: Sizes, s: &[u32]) -> bool
     for &w in s {
         n += t.size_for(w);
         if !Value::length_within(n) {
+            // Stays a loop that returns: it stops past 16 words, so that the sum fits for a slice of any length.
             return true;
         }
     }
@@ -75,12 +78,13 @@ fn long_in(nodes: &[u32], pool: &[u32], n: usize, t: Sizes) -> bool
     ensures { result ≡ long_by (term (table nodes.now pool.now) n) t.of }
 {
     let x = node_at(nodes, n);
-    match x.kind {
-        1 => long_in(nodes, pool, x.a, t) || long_in(nodes, pool, x.b, t),
-        2 => long_in(nodes, pool, x.b, t),
-        3 => long_in(nodes, pool, x.b, t.put(x.a, 1)),
-        4 => over_long(t, words_at(Leaf::Public, pool, x.c)),
-        _ => false,
+    match x.kind() {
+        Kind::Par => long_in(nodes, pool, x.a, t) || long_in(nodes, pool, x.b, t),
+        Kind::Box => long_in(nodes, pool, x.b, t),
+        Kind::New => long_in(nodes, pool, x.b, t.put(x.a, 1)),
+        Kind::Out => over_long(t, words_at(Leaf::Public, pool, x.c)),
+        // Stays an arm: no output unfolds from these, and the other arms ask more.
+        Kind::Nil | Kind::In | Kind::Rep => false,
     }
 }
 

@@ -22,8 +22,9 @@ use Rattle.sides.specs.declared.Rest.{Rest}
 use Rattle.sides.specs.declared.Side.{Side}
 use Rattle.sides.specs.declared.State.{State}
 use Rattle.sides.specs.Sides.{SideIs, fits_side, view_side, view_state, fits_arrays, state_of}
-use Rattle.loading.specs.declared.Outcome.{Outcome}
-use Rattle.loading.specs.declared.Outcome.TheVariants.{Ok, Refused}
+use Rattle.std.specs.Prelude.{Ok, Err}
+use Rattle.std.specs.declared.result.Result.{Result}
+use Rattle.loading.specs.declared.LoadRefusal.{LoadRefusal}
 use Rattle.loading.specs.Loading.{refusal_of, refusal_in}
 use Rattle.loading.specs.Starting.{Startable, StartIs}
 use Rattle.loading.proofs.Faults.{ok_taken, ok_loads, refused_loads, table_at, side_number, map_at}
@@ -111,22 +112,22 @@ turns_done b k l h g =
 state_some : (r : State) → fits_arrays r ≡ true → state_of r ≡ some (view_state r)
 state_some r e = rw e
 
-module _ (l : Loaded) (a : Outcome) (s : State) (e : refusal_of a ≡ refusal_in l) where
+module _ (l : Loaded) (a : Result Unit LoadRefusal) (s : State) (e : refusal_of a ≡ refusal_in l) where
   -- by what the outcome is
-  answer_by_lem : (o : Outcome) → a ≡ o → loaded_by (refusal_of a) (view_state s) ≡ loaded_by (refusal_of o) (view_state s)
-  answer_by_lem o z = ap (λ (y : Outcome). loaded_by (refusal_of y) (view_state s)) z
+  answer_by_lem : (o : Result Unit LoadRefusal) → a ≡ o → loaded_by (refusal_of a) (view_state s) ≡ loaded_by (refusal_of o) (view_state s)
+  answer_by_lem o z = ap (λ (y : Result Unit LoadRefusal). loaded_by (refusal_of y) (view_state s)) z
 
-  pub load_refused : (i j k : ℕ) → a ≡ Refused i j k → StateIs (record { sides = map (λ n. no_side) all_sides }) s → LoadIs l (record { outcome = a; state = s })
-  load_refused i j k z h =
-      let q = refused_loads l a i j k e z in
-      record { answer = answer_by_lem (Refused i j k) z ∙ sym q; state = state_some s h.fits ∙ ap some (h.view ∙ sym (ap state_loaded q)) }
+  pub load_refused : (f : LoadRefusal) → a ≡ Err f → StateIs (record { sides = map (λ n. no_side) all_sides }) s → LoadIs l (record { outcome = a; state = s })
+  load_refused f z h =
+      let q = refused_loads l a f e z in
+      record { answer = answer_by_lem (Err f) z ∙ sym q; state = state_some s h.fits ∙ ap some (h.view ∙ sym (ap state_loaded q)) }
 
-  load_ok : (t : MState) → a ≡ Ok → l ≡ ok t → StateIs t s → LoadIs l (record { outcome = a; state = s })
-  load_ok t z q h = record { answer = answer_by_lem Ok z ∙ ap ok h.view ∙ sym q; state = state_some s h.fits ∙ ap some (h.view ∙ sym (ap state_loaded q)) }
+  load_ok : (t : MState) (u : Unit) → a ≡ Ok u → l ≡ ok t → StateIs t s → LoadIs l (record { outcome = a; state = s })
+  load_ok t u z q h = record { answer = answer_by_lem (Ok u) z ∙ ap ok h.view ∙ sym q; state = state_some s h.fits ∙ ap some (h.view ∙ sym (ap state_loaded q)) }
 
-module _ (b : Composition) (a : Outcome) (e : refusal_of a ≡ refusal_in (load b)) (z : a ≡ Ok) where
+module _ (b : Composition) (a : Result Unit LoadRefusal) (e : refusal_of a ≡ refusal_in (load b)) (u : Unit) (z : a ≡ Ok u) where
   pub load_done : (s : State) → StateIs (record { sides = map (start_of b) all_sides }) s → LoadIs (load b) (record { outcome = a; state = s })
-  load_done s h = load_ok (load b) a s e (record { sides = map (start_of b) all_sides }) z (ok_taken b (ok_loads (load b) a e z)).loaded h
+  load_done s h = load_ok (load b) a s e (record { sides = map (start_of b) all_sides }) u z (ok_taken b (ok_loads (load b) a u e z)).loaded h
 
   pub all_startable : AllStartable b
-  all_startable = record { sides = (ok_taken b (ok_loads (load b) a e z)).sides }
+  all_startable = record { sides = (ok_taken b (ok_loads (load b) a u e z)).sides }

@@ -13,7 +13,7 @@ use lib.Seq.{set-get_or, get_or-set_same, take-suc, take-suc-set, take_all}
 use Rattle.model.specs.Basics.{◌&◌, Res, every}
 use Rattle.model.specs.Side.{Side as MSide, State as MState}
 use Rattle.model.specs.Wrapper.{all_sides, described, has_side}
-use Rattle.model.specs.Load.{Composition, wrapper_of, Setting, is_ok, load}
+use Rattle.model.specs.Load.{Composition, Loaded, wrapper_of, Setting, is_ok, load}
 use Rattle.model.specs.WellFormed.{wf_state, ready}
 use Rattle.model.specs.Step.{Step, Moved, settled, local, refusal, Result, step, answer_to, after_step}
 use Rattle.model.specs.Answer.{given}
@@ -37,8 +37,10 @@ use Rattle.dispatch.specs.Sharing.{shelves_in, shelved_of, Shelves, sides_in, st
 use Rattle.dispatch.proofs.AllSides.{shelves_of}
 use Rattle.dispatch.proofs.InState as there
 use Rattle.model.proofs.Formed.Invariant.{which}
-use Rattle.loading.specs.declared.Outcome.{Outcome}
-use Rattle.loading.specs.declared.Outcome.TheVariants.{Ok, Refused}
+use Rattle.std.specs.Prelude.{Ok, Err}
+use Rattle.std.specs.declared.result.Result as rust
+use Rattle.std.specs.Result as rust_result
+use Rattle.loading.specs.declared.LoadRefusal.{LoadRefusal}
 use Rattle.loading.specs.Loading.{refusal_of, refusal_in}
 use Rattle.loading.proofs.Faults.{map_at, ok_taken, ok_loads, refused_loads}
 use Rattle.loading.proofs.Starting.{has_place}
@@ -133,14 +135,18 @@ pub long_all : (ls : List (List ℕ)) (k : ℕ) → length all_sides ≤ k → L
 long_all ls k h g = record { long = λ i a. g.long i (omega arith) }
 
 -- WHETHER A STATE IS READY
-module _ (b : Composition) (s : State) (a : Outcome) (e : refusal_of a ≡ refusal_in (load b)) where
-  pub ready_refused : (i j k : ℕ) → a ≡ Refused i j k → false ≡ fits_arrays s & ready b (view_state s)
-  unfolding ready
-  ready_refused i j k z = sym (no_right _ _ (no_left _ _ (ap is_ok (refused_loads (load b) a i j k e z))))
+ok_same : (l : Loaded) (a : rust.Result Unit LoadRefusal) → refusal_of a ≡ refusal_in l → rust_result.is_ok a ≡ is_ok l
+ok_same l (Ok u) e = sym (ok_loads l (Ok u) u e refl)
+ok_same l (Err f) e = sym (ap is_ok (refused_loads l (Err f) f e refl))
 
-  module _ (z : a ≡ Ok) where
+module _ (b : Composition) (s : State) (a : rust.Result Unit LoadRefusal) (e : refusal_of a ≡ refusal_in (load b)) where
+  pub ready_refused : rust_result.is_ok a ≡ false → false ≡ fits_arrays s & ready b (view_state s)
+  unfolding ready
+  ready_refused z = sym (no_right _ _ (no_left _ _ (sym (ok_same (load b) a e) ∙ z)))
+
+  module _ (z : rust_result.is_ok a ≡ true) where
     loads : is_ok (load b) ≡ true
-    loads = ok_loads (load b) a e z
+    loads = sym (ok_same (load b) a e) ∙ z
 
     pub tables_pass : TablesPass b
     tables_pass = λ n h. ((ok_taken b loads).sides n (which b.wrapper n h) h).passes

@@ -1,7 +1,7 @@
 // Load, the eight steps and the question `stranded`: the exported functions. Nothing is asked of what they are lent or given.
 #![tactic(auto)]
 
-use loading::Outcome;
+use loading::LoadRefusal;
 use sides::State;
 use steps::Said;
 use values::Value;
@@ -14,9 +14,11 @@ pub use load_state::load;
 pub use step_state::step;
 pub use stranded_positions::stranded;
 
+// What load says, and the state beside it: the sides at their start, or, where it refuses, sides that have nothing.
+// Stays a struct beside the Result: `LoadIs`, the clause of `load`, is of the state on a refusal too.
 #[derive(Clone, Copy)]
 pub struct LoadAnswer {
-    pub outcome: Outcome,
+    pub outcome: Result<(), LoadRefusal>,
     pub state: State,
 }
 

@@ -10,7 +10,7 @@ ghost use Rattle.loading.specs.Starting.{Startable};
 ghost use Rattle.interpreter.specs.Loaded.{StateIs, AllStartable, LoadIs};
 
 use crate::LoadAnswer;
-use loading::{Outcome, load_verdict, number_of, start_of};
+use loading::{load_verdict, number_of, start_of};
 use sides::{Rows, Side, Sides, State};
 use wrappers::has_side;
 
@@ -71,10 +71,9 @@ pub fn load(
     ensures { LoadIs (load (composition wrapper (map (λ x. x.now) nodes.entry) (map (λ x. x.now) pools.entry))) result }
 {
     let outcome = load_verdict(wrapper, nodes, pools);
-    let Outcome::Ok = outcome else {
-        let state = empty_state();
-        return LoadAnswer { outcome, state };
+    let state = match outcome {
+        Ok(()) => start_state(wrapper, nodes, pools),
+        Err(_) => empty_state(),
     };
-    let state = start_state(wrapper, nodes, pools);
     LoadAnswer { outcome, state }
 }

@@ -13,7 +13,7 @@ ghost use Rattle.interpreter.specs.Answered.{words_in, left_in, AllLong, Answere
 use crate::Stepped;
 use answers::padded;
 use dispatch::{mark_left, side_step};
-use loading::{Outcome, load_verdict, place_of};
+use loading::{load_verdict, place_of};
 use sides::{Rest, Rows, Side, Sides, State};
 use steps::Said;
 use values::Value;
@@ -49,8 +49,7 @@ pub(crate) fn is_ready(
 ) -> bool
     ensures { result ≡ fits_arrays s & ready (composition wrapper (map (λ x. x.now) nodes.entry) (map (λ x. x.now) pools.entry)) (view_state s) }
 {
-    matches!(load_verdict(wrapper, nodes, pools), Outcome::Ok)
-        && well_formed(wrapper, nodes, pools, s)
+    load_verdict(wrapper, nodes, pools).is_ok() && well_formed(wrapper, nodes, pools, s)
 }
 
 // The words and the marks of a side, at place k of those of all sides.
@@ -63,7 +62,7 @@ fn lend_side(
     requires { (k < length all_sides) × (length rows.old ≡ length all_sides) × (length marks.old ≡ length all_sides) }
     ensures { (rows.new ≡ set rows.old k o.words) × (marks.new ≡ set marks.old k o.left) × (length o.words ≡ 5184) }
 {
-    // Stays two locals: the prover does not cover `rows[k] = o.words`, an array field stored straight from another.
+    // Stays two locals: tried without them, and the prover does not cover `rows[k] = o.words`, an array field stored straight from another.
     let words = o.words;
     let left = o.left;
     rows[k] = words;
@@ -71,7 +70,7 @@ fn lend_side(
 }
 
 // The words and the marks of all sides, out of a state.
-// Stays by value, `s: State`: behind a reference the prover does not find how many sides there are, after the loop.
+// Stays by value, `s: State`: tried by reference, behind which the prover does not find how many sides there are, after the loop.
 fn take_out(
     s: State,
     rows: &mut [[u32; Rows::WORDS]; Sides::COUNT],

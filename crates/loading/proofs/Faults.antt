@@ -23,16 +23,15 @@ use Rattle.model.proofs.Formed.Counts.{Added, unfolds_adds}
 use Rattle.std.proofs.Common.{Result, Ok as fine, Err}
 use Rattle.tables.specs.declared.checks.Cause.TheVariants as cause
 use Rattle.tables.specs.declared.checks.Fault.{Fault as Found}
-use Rattle.tables.specs.Checks.{number_of, Passes, fault_of}
+use Rattle.tables.specs.Checks.{Passes, fault_of}
 use Rattle.tables.specs.Nodes as slices
 use Rattle.scopes.specs.declared.unfolded.Unfolded.{Unfolded}
 use Rattle.scopes.specs.Unfolded.{UnfoldsTo}
 use Rattle.scopes.proofs.ScopeBound.{no_fault, passes_checked}
 use Rattle.wrappers.specs.Compositions.{tables_of, composition}
-use Rattle.loading.specs.declared.Outcome.{Outcome}
-use Rattle.loading.specs.declared.Outcome.TheVariants.{Ok, Refused}
+use Rattle.loading.specs.declared.LoadRefusal.{LoadRefusal}
 use Rattle.loading.specs.Starting.{Startable}
-use Rattle.loading.specs.Loading.{fault_at, refusal_of, refusal_in}
+use Rattle.loading.specs.Loading.{fault_at, told_by, refusal_of, refusal_in}
 
 -- A SIDE'S FAULT
 pub root_in : (t : Table) → Passes t → 0 < count t
@@ -107,7 +106,7 @@ abbrev walk : Res Fault → ℕ → Loaded → Loaded
 walk (done f) i k = refused (record { number = f.number; side = i; node = f.node })
 walk (refuse x) i k = k
 
-walk_bad : (q : Res Fault) (i : ℕ) (k : Loaded) (v : Result Unit Found) (f : Found) → fault_of v ≡ q → v ≡ Err f → refusal_of (Refused (number_of f.cause) i f.node) ≡ refusal_in (walk q i k)
+walk_bad : (q : Res Fault) (i : ℕ) (k : Loaded) (v : Result Unit Found) (f : Found) → fault_of v ≡ q → v ≡ Err f → refusal_of (Err (record { cause = f.cause; side = i; node = f.node })) ≡ refusal_in (walk q i k)
 walk_bad q i k v f e z = ap (λ (r : Res Fault). refusal_in (walk r i k)) (sym (ap fault_of z) ∙ e)
 
 walk_good : (q : Res Fault) (i : ℕ) (k : Loaded) (v : Result Unit Found) (u : Unit) → fault_of v ≡ q → v ≡ fine u → walk q i k ≡ k
@@ -164,7 +163,7 @@ load_none : (b : Composition) → is_wrapper b.wrapper ≡ false → load b ≡ 
 unfolding load
 load_none b e = rw (e, load)
 
-pub load_unknown : (b : Composition) → is_wrapper b.wrapper ≡ false → refusal_of (Refused 1 0 0) ≡ refusal_in (load b)
+pub load_unknown : (b : Composition) → is_wrapper b.wrapper ≡ false → refusal_of (Err (record { cause = cause.Size; side = 0; node = 0 })) ≡ refusal_in (load b)
 load_unknown b e = sym (ap refusal_in (load_none b e))
 
 pub load_known : (b : Composition) → is_wrapper b.wrapper ≡ true → load b ≡ load_sides b all_sides (started b)
@@ -202,7 +201,7 @@ module _ (w : ℕ) (ns ps : List (List ℕ)) (k : ℕ) (a : k < length ns) (c : 
   pub turn_good : (u : Unit) → v ≡ fine u → FromPlace b k → FromPlace b (k + 1)
   turn_good u z p = p ∙ here ∙ walk_good f (k + 1) _ v u is z
 
-  pub turn_bad : (x : Found) → v ≡ Err x → FromPlace b k → refusal_of (Refused (number_of x.cause) (k + 1) x.node) ≡ refusal_in (load b)
+  pub turn_bad : (x : Found) → v ≡ Err x → FromPlace b k → refusal_of (Err (record { cause = x.cause; side = k + 1; node = x.node })) ≡ refusal_in (load b)
   turn_bad x z p = walk_bad f (k + 1) (load_sides b (drop (k + 1) all_sides) (started b)) v x is z ∙ ap refusal_in (sym (p ∙ here))
 
 drop_all : (l : List ℕ) (k : ℕ) → length l ≤ k → drop k l ≡ []
@@ -211,7 +210,7 @@ drop_all [] (suc k) h = refl
 drop_all (x ∷ l) zero h = absurd (omega arith)
 drop_all (x ∷ l) (suc k) h = drop_all l k (omega arith)
 
-pub turns_end : (b : Composition) (k : ℕ) → length all_sides ≤ k → FromPlace b k → refusal_of Ok ≡ refusal_in (load b)
+pub turns_end : (b : Composition) (k : ℕ) → length all_sides ≤ k → FromPlace b k → refusal_of (fine tt) ≡ refusal_in (load b)
 unfolding load_sides
 turns_end b k h p = sym (ap refusal_in (p ∙ ap (λ (l : List ℕ). load_sides b l (started b)) (drop_all all_sides k h)))
 
@@ -250,17 +249,17 @@ ok_taken b e = by (is_wrapper b.wrapper) refl
         }
     by false w = absurd (false≢true (sym (ap is_ok (load_none b w)) ∙ e))
 
--- WHAT AN OUTCOME SAYS of a load
-pub ok_loads : (l : Loaded) (a : Outcome) → refusal_of a ≡ refusal_in l → a ≡ Ok → is_ok l ≡ true
-ok_loads (refused x) a e z =
+-- WHAT LOAD'S ANSWER SAYS of a load
+pub ok_loads : (l : Loaded) (a : Result Unit LoadRefusal) (u : Unit) → refusal_of a ≡ refusal_in l → a ≡ fine u → is_ok l ≡ true
+ok_loads (refused x) a u e z =
     let y : none ≡ some x = sym (ap refusal_of z) ∙ e in
     let m : ◌≡◌ {A = ℕ} 0 1 = cc in
     absurd (omega arith)
-ok_loads (ok s) a e z = refl
+ok_loads (ok s) a u e z = refl
 
-pub refused_loads : (l : Loaded) (a : Outcome) (k i m : ℕ) → refusal_of a ≡ refusal_in l → a ≡ Refused k i m → l ≡ refused (record { number = k; side = i; node = m })
-refused_loads (refused x) a k i m e z = ap refused (some_inj (sym e ∙ ap refusal_of z))
-refused_loads (ok s) a k i m e z =
-    let y : refusal_of (Refused k i m) ≡ none = sym (ap refusal_of z) ∙ e in
+pub refused_loads : (l : Loaded) (a : Result Unit LoadRefusal) (f : LoadRefusal) → refusal_of a ≡ refusal_in l → a ≡ Err f → l ≡ refused (told_by f)
+refused_loads (refused x) a f e z = ap refused (some_inj (sym e ∙ ap refusal_of z))
+refused_loads (ok s) a f e z =
+    let y : refusal_of (Err f) ≡ none = sym (ap refusal_of z) ∙ e in
     let w : ◌≡◌ {A = ℕ} 0 1 = cc in
     absurd (omega arith)

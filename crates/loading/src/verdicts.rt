@@ -7,7 +7,7 @@ ghost use Rattle.tables.specs.Checks.{fault_of};
 ghost use Rattle.wrappers.specs.Compositions.{composition};
 ghost use Rattle.loading.specs.Loading.{fault_at, refusal_of, refusal_in};
 
-use crate::Outcome;
+use crate::LoadRefusal;
 use scopes::unfolded::unfolded_at;
 use sides::{Side, Sides};
 use tables::checks::{Cause, Fault, check};
@@ -75,17 +75,25 @@ pub fn load_verdict(
     wrapper: u32,
     nodes: [&[u32]; Sides::COUNT],
     pools: [&[u32]; Sides::COUNT],
-) -> Outcome
+) -> Result<(), LoadRefusal>
     ensures { refusal_of result ≡ refusal_in (load (composition wrapper (map (λ x. x.now) nodes.entry) (map (λ x. x.now) pools.entry))) }
 {
     if !is_wrapper(wrapper) {
-        return Outcome::Refused(1, 0, 0);
+        return Err(LoadRefusal {
+            cause: Cause::Size,
+            side: 0,
+            node: 0,
+        });
     }
     for k in 0..Sides::COUNT {
         let n = number_of(k);
         if let Err(f) = fault_at(wrapper, n, nodes[k], pools[k]) {
-            return Outcome::Refused(f.cause.number(), n, f.node);
+            return Err(LoadRefusal {
+                cause: f.cause,
+                side: n,
+                node: f.node,
+            });
         }
     }
-    Outcome::Ok
+    Ok(())
 }

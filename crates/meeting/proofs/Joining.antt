@@ -29,7 +29,7 @@ use Rattle.environments.proofs.Slots.{env_sized}
 use Rattle.environments.proofs.Waiting.{env_is}
 use Rattle.steps.specs.declared.Offer.{Offer}
 use Rattle.steps.specs.declared.Offer.TheVariants.{At, Refused}
-use Rattle.steps.specs.Asked.{OfferIf, channel_in, value_in}
+use Rattle.steps.specs.Asked.{channel_in, value_in}
 use Rattle.unfolding.specs.Scoped.{Scoped}
 use Rattle.meeting.specs.Meeting.{node_at, input_env, input_pattern, fits_at, Joinable, MatchAnswer, BodyAnswer, Joins, Joining}
 use Rattle.meeting.proofs.PairLaws.{is_false}
@@ -70,12 +70,10 @@ module _ {t : Table} {l : List ℕ} {i j : ℕ} (J : Joinable t l i j) where
     fit_asks = (J.waits.long, J.row, J.waits.row, its_env.1.long, its_env.1.few)
 
     -- 13
-    pub join_13 : (a : Offer) → OfferIf (fits_at t l i j (env_of e d) ≡ true) n 13 a → {x : ℕ} → a ≡ Refused x → (e' : List ℕ) → Joining t l i j e' a
-    join_13 a h {x} q e' =
-        let no : (x ≡ 13) × (fits_at t l i j (env_of e d) ≡ true → ⊥) = subst (λ (y : Offer). OfferIf (fits_at t l i j (env_of e d) ≡ true) n 13 y) q h in
-        let unfit : fits_at t l i j ρ ≡ false = sym (ap (fits_at t l i j) its_env.0) ∙ is_false _ no.1 in
-        subst (λ (y : Offer). Joining t l i j e' y) (sym q)
-        (λ c ct s. for_all c ct s ∙ meet_13 (on_table c) s i j _ _ _ _ _ n (values_of (row_at l j)) n (eqb (kind t n) 6) _ _ pat _ the_term unfit ∙ ap refuse (sym no.0))
+    pub join_13 : {x : ℕ} → (x ≡ 13) × (fits_at t l i j (env_of e d) ≡ true → ⊥) → (e' : List ℕ) → Joining t l i j e' (Refused x)
+    join_13 unmet e' =
+        let unfit : fits_at t l i j ρ ≡ false = sym (ap (fits_at t l i j) its_env.0) ∙ is_false _ unmet.1 in
+        λ c ct s. for_all c ct s ∙ meet_13 (on_table c) s i j _ _ _ _ _ n (values_of (row_at l j)) n (eqb (kind t n) 6) _ _ pat _ the_term unfit ∙ ap refuse (sym unmet.0)
 
 -- where the two fit: the pattern at place p is matched with the output's value v, the input's environment stands in e, d names of it
 pub record Fitted (t : Table) (l : List ℕ) (i j : ℕ) (e₀ e : List ℕ) (d p : ℕ) (v : Value) : Type 0 where
@@ -118,73 +116,67 @@ module _ {t : Table} {l : List ℕ} {i j : ℕ} {e₀ e : List ℕ} {d p : ℕ} 
   met : matches (pattern_at t.pool p) 1 (view_value v) ≡ matches pattern 1 (value_in l i)
   met = ap₂ (λ (x u : List ℕ). matches x 1 u) pat_is F.value.view
 
-  module _ (e' : List ℕ) (b : Offer) (h : MatchAnswer (pattern_at t.pool p) (view_value v) (env_of e d) e' b) where
-    pub join_14 : {x : ℕ} → b ≡ Refused x → Joining t l i j e' b
-    join_14 {x} q =
-        let no : (x ≡ 14) × (matches (pattern_at t.pool p) 1 (view_value v) ≡ refuse 14) = subst (λ (z : Offer). MatchAnswer (pattern_at t.pool p) (view_value v) (env_of e d) e' z) q h in
-        let none = sym met ∙ no.1 in
-        subst (λ (z : Offer). Joining t l i j e' z) (sym q)
-        (λ c ct s. for_all J c ct s ∙ meet_14 (on_table J c) s i j _ _ _ _ _ node (values_of (row_at l j)) node (eqb (kind t node) 6) _ _ pattern _ (the_term J) fits none ∙ ap refuse (sym no.0))
+  pub join_14 : {x : ℕ} → (x ≡ 14) × (matches (pattern_at t.pool p) 1 (view_value v) ≡ refuse 14) → (e' : List ℕ) → Joining t l i j e' (Refused x)
+  join_14 unmet e' =
+      let none = sym met ∙ unmet.1 in
+      λ c ct s. for_all J c ct s ∙ meet_14 (on_table J c) s i j _ _ _ _ _ node (values_of (row_at l j)) node (eqb (kind t node) 6) _ _ pattern _ (the_term J) fits none ∙ ap refuse (sym unmet.0)
 
-    -- THE BODY at node u, with k names in force
-    module _ {k : ℕ} (q : b ≡ At k) where
-      bound : MatchAnswer (pattern_at t.pool p) (view_value v) (env_of e d) e' (At k)
-      bound = subst (λ (z : Offer). MatchAnswer (pattern_at t.pool p) (view_value v) (env_of e d) e' z) q h
+  -- THE BODY at node u, with k names in force
+  module _ (e' : List ℕ) {k : ℕ} (bound : MatchAnswer (pattern_at t.pool p) (view_value v) (env_of e d) e' (At k)) where
+    abbrev m : Fit
+    m = bound.0
 
-      abbrev m : Fit
-      m = bound.0
+    abbrev π : Env
+    π = extend outer (binders pattern) m.bound
 
-      abbrev π : Env
-      π = extend outer (binders pattern) m.bound
+    matched : matches pattern 1 (value_in l i) ≡ done m
+    matched = sym met ∙ bound.1
 
-      matched : matches pattern 1 (value_in l i) ≡ done m
-      matched = sym met ∙ bound.1
+    env_now : env_of e' k ≡ π
+    env_now = bound.2 ∙ ap₂ (λ (o : Env) (x : List ℕ). extend o (binders x) m.bound) env.0 pat_is
 
-      env_now : env_of e' k ≡ π
-      env_now = bound.2 ∙ ap₂ (λ (o : Env) (x : List ℕ). extend o (binders x) m.bound) env.0 pat_is
+    fits_now : Fits e' k
+    fits_now = bound.3
 
-      fits_now : Fits e' k
-      fits_now = bound.3
+    pub some_width : length e' ≡ length e₀
+    some_width = fits_now.long ∙ sym F.width
 
-      pub some_width : length e' ≡ length e₀
-      some_width = fits_now.long ∙ sym F.width
+    paired : Sized π
+    paired = subst (λ (o : Env). Sized o) env_now (env_sized e' k fits_now)
 
-      paired : Sized π
-      paired = subst (λ (o : Env). Sized o) env_now (env_sized e' k fits_now)
+    inside : field t node 4 < count t
+    inside = body_inside t J.waits.passes node J.waits.inside J.kind
 
-      inside : field t node 4 < count t
-      inside = body_inside t J.waits.passes node J.waits.inside J.kind
+    scoped : Scoped t (field t node 4) k
+    scoped =
+        let names : length (take k e') ≡ length π.names = ap (λ (o : Env). length o.names) env_now in
+        let all : length π.names ≡ length (scope t node) + length (binders pattern) = length-append (scope t node) (binders pattern) in
+        let there = body_names t J.waits.passes node J.waits.inside J.kind in
+        record { passes = J.waits.passes; inside = inside; names = omega (arith, names, all, there, length-take k e', fits_now.few, fits_now.long) }
 
-      scoped : Scoped t (field t node 4) k
-      scoped =
-          let names : length (take k e') ≡ length π.names = ap (λ (o : Env). length o.names) env_now in
-          let all : length π.names ≡ length (scope t node) + length (binders pattern) = length-append (scope t node) (binders pattern) in
-          let there = body_names t J.waits.passes node J.waits.inside J.kind in
-          record { passes = J.waits.passes; inside = inside; names = omega (arith, names, all, there, length-take k e', fits_now.few, fits_now.long) }
+    joins : defined (term t (field t node 4)) π ≡ true → long_in (term t (field t node 4)) π ≡ false → Joins t l i j e' k
+    joins df sh = record {
+      fits = fits;
+      fit = m;
+      matched = matched;
+      env = env_now;
+      words = fits_now;
+      scoped = scoped;
+      is_defined = ap (defined (term t (field t node 4))) env_now ∙ df;
+      short = ap (long_in (term t (field t node 4))) env_now ∙ sh;
+    }
 
-      joins : defined (term t (field t node 4)) π ≡ true → long_in (term t (field t node 4)) π ≡ false → Joins t l i j e' k
-      joins df sh = record {
-        fits = fits;
-        fit = m;
-        matched = matched;
-        env = env_now;
-        words = fits_now;
-        scoped = scoped;
-        is_defined = ap (defined (term t (field t node 4))) env_now ∙ df;
-        short = ap (long_in (term t (field t node 4))) env_now ∙ sh;
-      }
+    module _ {u : ℕ} (ue : u ≡ field t node 4) where
+      pub body_asks : Passes t × (u < count t) × Fits e' k
+      body_asks = (J.waits.passes, subst (λ (x : ℕ). x < count t) (sym ue) inside, fits_now)
 
-      module _ {u : ℕ} (ue : u ≡ field t node 4) where
-        pub body_asks : Passes t × (u < count t) × Fits e' k
-        body_asks = (J.waits.passes, subst (λ (x : ℕ). x < count t) (sym ue) inside, fits_now)
+      answered : (a : Offer) → BodyAnswer k (term t (field t node 4)) π a → Joining t l i j e' a
+      answered (At x) (same, df, sh) = subst (λ (z : ℕ). Joins t l i j e' z) (sym same) (joins df sh)
+      answered (Refused x) a = λ c ct s. for_all J c ct s ∙
+          ⊎_elim
+          (λ q. meet_15 (on_table J c) s i j _ _ _ _ _ node (values_of (row_at l j)) node (eqb (kind t node) 6) _ _ pattern _ (the_term J) fits m matched q.1 ∙ ap refuse (sym q.0))
+          (λ q. meet_16 (on_table J c) s i j _ _ _ _ _ node (values_of (row_at l j)) node (eqb (kind t node) 6) _ _ pattern _ (the_term J) fits m matched q.1 paired q.2 ∙ ap refuse (sym q.0))
+          a
 
-        answered : (a : Offer) → BodyAnswer k (term t (field t node 4)) π a → Joining t l i j e' a
-        answered (At x) (same, df, sh) = subst (λ (z : ℕ). Joins t l i j e' z) (sym same) (joins df sh)
-        answered (Refused x) a = λ c ct s. for_all J c ct s ∙
-            ⊎_elim
-            (λ q. meet_15 (on_table J c) s i j _ _ _ _ _ node (values_of (row_at l j)) node (eqb (kind t node) 6) _ _ pattern _ (the_term J) fits m matched q.1 ∙ ap refuse (sym q.0))
-            (λ q. meet_16 (on_table J c) s i j _ _ _ _ _ node (values_of (row_at l j)) node (eqb (kind t node) 6) _ _ pattern _ (the_term J) fits m matched q.1 paired q.2 ∙ ap refuse (sym q.0))
-            a
-
-        pub join_body : (a : Offer) → BodyAnswer k (term t u) (env_of e' k) a → Joining t l i j e' a
-        join_body a h = answered a (subst (λ (o : Env). BodyAnswer k (term t (field t node 4)) o a) env_now (subst (λ (x : ℕ). BodyAnswer k (term t x) (env_of e' k) a) ue h))
+      pub join_body : (a : Offer) → BodyAnswer k (term t u) (env_of e' k) a → Joining t l i j e' a
+      join_body a h = answered a (subst (λ (o : Env). BodyAnswer k (term t (field t node 4)) o a) env_now (subst (λ (x : ℕ). BodyAnswer k (term t x) (env_of e' k) a) ue h))

@@ -1,7 +1,7 @@
 -- The whole step: what a pair is given, and the side after it, a law for each way that the code goes.
 use mathlib.Core.Path.{◌≡◌, refl, sym, ap, ap₂, subst, ◌∙◌}
 use mathlib.Core.Bool.{Bool, true, false, cond}
-use mathlib.Core.List.{List, [], map}
+use mathlib.Core.List.{List, map}
 use mathlib.Core.Option.{some}
 use Prim.Native.Nat.{ℕ, ◌+◌, ◌-◌, ◌<◌, ◌≤◌}
 use native.Mathlib.Omega.{arith}
@@ -21,7 +21,12 @@ use Rattle.model.proofs.Basics.Tests.{fst, snd, both, length_gone}
 use Rattle.model.proofs.Formed.Growing.{CoreOk, core_ok}
 use Rattle.model.proofs.Basics.Environments.{Sized}
 use Rattle.tables.specs.declared.nodes.Node.{Node}
-use Rattle.tables.specs.Nodes.{table, NodeIs}
+use Rattle.tables.specs.declared.nodes.Kind.{Kind}
+use Rattle.tables.specs.declared.nodes.Kind.TheVariants.{Rep}
+use Rattle.tables.specs.contracts.nodes.Kind.{the_type}
+use Rattle.tables.specs.Nodes.{table, NodeIs, KindIs}
+use Rattle.tables.proofs.WalkLaws.{same_rep}
+use denote.Enum.Bare.{sameb}
 use Rattle.tables.specs.Checks.{Passes}
 use Rattle.sides.specs.declared.Rest.{Rest}
 use Rattle.sides.specs.Layout.{parts, row_at, view_place, fits_place, view_row, view_rows, fits_rows, view_boxes, view_shelf}
@@ -32,18 +37,18 @@ use Rattle.environments.specs.Long.{long_in}
 use Rattle.environments.proofs.Slots.{env_sized}
 use Rattle.steps.specs.declared.Said.TheVariants as said
 use Rattle.steps.specs.declared.Offer.{Offer}
-use Rattle.steps.specs.declared.Offer.TheVariants.{At, Refused}
-use Rattle.steps.specs.Asked.{OfferIs, OfferIf, number_of}
+use Rattle.steps.specs.declared.Offer.TheVariants.{Refused}
+use Rattle.steps.specs.Asked.{number_of}
 use Rattle.steps.proofs.Settling.{limits_in}
-use Rattle.steps.proofs.Held.{offer_at, every_elem}
+use Rattle.steps.proofs.Held.{every_elem}
 use Rattle.steps.specs.declared.RestStep.{RestStep}
 use Rattle.steps.specs.Asked.{Says}
 use Rattle.steps.specs.StepIs.{Sane, StepIs}
 use Rattle.steps.proofs.Held.{sane, side_rows, side_lobby, side_shelf, boxes_kept, rows_cap, rows_n, boxes_cap, boxes_n, row_in, fits_at_lem, value_in_place, output_home}
-use Rattle.steps.proofs.Held.{if_at, if_refused, offer_refused, refused_is, quiet_is}
+use Rattle.steps.proofs.Held.{offer_refused, quiet_is}
 use Rattle.unfolding.specs.declared.Counts.{Counts}
 use Rattle.unfolding.specs.Unfolded.{counted, put_counts, CanUnfold, UnfoldedIs}
-use Rattle.meeting.specs.Meeting.{with_table, Meetable, MeetablePair, PairAt, node_at, body_at, input_env, input_pattern, Joins, Joining, room_for, Apart, RowsLeft}
+use Rattle.meeting.specs.Meeting.{Meetable, MeetablePair, PairAt, node_at, body_at, input_env, input_pattern, Joins, Joining, room_for, Apart, RowsLeft}
 use Rattle.meeting.proofs.MeetSteps.{meet_at, meet_17, meet_done}
 use Rattle.meeting.proofs.PairLaws.{is_false}
 use Rattle.meeting.proofs.Joining.{the_term, on_table, for_all}
@@ -101,31 +106,14 @@ length_left false l i j p q n = go (ltb i j) refl
     go true e = let a = length_gone l j q in let lt = ltb-true i j e in let d = length_gone (remove l j) i (omega arith) in omega (arith, a, d)
     go false e = let a = length_gone l i p in let ge = ltb-false i j e in let d = length_gone (remove l i) j (omega (arith, n)) in omega (arith, a, d)
 
--- WHAT THE CHECK FOR AN OUTPUT AND AN INPUT ANSWERED: a refusal, or the input's position
-module _ (l : List ℕ) (o : Rest) (i j : ℕ) (a : Offer)
-    (h : (c : Setting) (s : Core) → s.contents.particles ≡ view_rows l o.particles → OfferIs (settled (meet c s i j)) j (PairAt l o.particles i) a) where
-  pub no_pair : {n k : ℕ} → a ≡ Refused n → k ≡ number_of a → {r : RestStep} → Says (said.Refused k) o r → (c : Setting) → StepIs (settled (meet c (core_of l o) i j)) l o l r
-  no_pair {n} {k} q e {r} says c = offer_refused (settled (meet c (core_of l o) i j)) j (PairAt l o.particles i) a (h c (core_of l o) refl) n k l o r q e says
-
-  module _ {k : ℕ} (q : a ≡ At k) where
-    at : (k ≡ j) × PairAt l o.particles i k
-    at =
-        let c : Setting = with_table 0 (record { nodes = []; pool = [] }) in
-        offer_at (settled (meet c (core_of l o) i j)) j (PairAt l o.particles i) a (h c (core_of l o) refl) k q
-
-    pub pair_at : PairAt l o.particles i k
-    pair_at = at.1
-
-    pub met_at : (c : Setting) {m : List ℕ} {r : RestStep} → StepIs (settled (meet c (core_of l o) i k)) l o m r → StepIs (settled (meet c (core_of l o) i j)) l o m r
-    met_at c {m} {r} x = subst (λ (y : ℕ). StepIs (settled (meet c (core_of l o) i y)) l o m r) at.0 x
-
--- where the checks 13 to 16 answer how many names are in force
-pub joined_at : (t : Table) (l : List ℕ) (i j : ℕ) (e : List ℕ) (a : Offer) → Joining t l i j e a → {d : ℕ} → a ≡ At d → Joins t l i j e d
-joined_at t l i j e a h q = subst (λ (y : Offer). Joining t l i j e y) q h
+-- the pair at the position that the check answered, which is the j that was asked for
+pub met_at : (c : Setting) (l : List ℕ) (o : Rest) (i j k : ℕ) {m : List ℕ} {r : RestStep} → k ≡ j → StepIs (settled (meet c (core_of l o) i k)) l o m r → StepIs (settled (meet c (core_of l o) i j)) l o m r
+met_at c l o i j k {m} {r} same x = subst (λ (y : ℕ). StepIs (settled (meet c (core_of l o) i y)) l o m r) same x
 
 -- an input is replicated where its node's kind is 6
-pub replicated_is : (ns pool : List ℕ) {n k : ℕ} → n ≡ k → {x : Node} → NodeIs ns n x → eqb x.kind 6 ≡ eqb (kind (table ns pool) k) 6
-replicated_is ns pool q i = ap (λ (y : ℕ). eqb y 6) (i.k ∙ ap (kind (table ns pool)) q)
+pub replicated_is : (ns pool : List ℕ) {n k : ℕ} → n ≡ k → {x : Node} → NodeIs ns n x → (κ : Kind) → KindIs x.word κ →
+    {b : Bool} → b ≡ sameb the_type κ Rep → b ≡ eqb (kind (table ns pool) k) 6
+replicated_is ns pool q i κ h e = e ∙ same_rep _ κ h ∙ ap (λ (y : ℕ). eqb y 6) (i.k ∙ ap (kind (table ns pool)) q)
 
 -- THE PAIR
 module _ {t : Table} {side : ℕ} {l : List ℕ} {o : Rest} {i j : ℕ} (M : MeetablePair t side l o i j) where
@@ -147,12 +135,9 @@ module _ {t : Table} {side : ℕ} {l : List ℕ} {o : Rest} {i j : ℕ} (M : Mee
       meet_at c (core_of l o) i j _ _ (view_row_lem l o.particles i M.pair.held_i (rows_cap l o ok)) (view_row_lem l o.particles j M.pair.held_j (rows_cap l o ok))
 
   -- a refusal of 13 to 16
-  pub pair_refused : (e : List ℕ) (a : Offer) → Joining t l i j e a → {x k : ℕ} → a ≡ Refused x → k ≡ number_of a → {r : RestStep} → Says (said.Refused k) o r →
+  pub pair_refused : (e : List ℕ) {x : ℕ} → Joining t l i j e (Refused x) → {a : Offer} → a ≡ Refused x → {r : RestStep} → Says (said.Refused (number_of a)) o r →
       (c : Setting) → c.table ≡ t → StepIs (settled (meet c (core_of l o) i j)) l o l r
-  pair_refused e a h {x} {k} q ke {r} says c ct =
-      let no : Joining t l i j e (Refused x) = subst (λ (y : Offer). Joining t l i j e y) q h in
-      let number : x ≡ k = sym (ke ∙ ap number_of q) in
-      refused_is _ l o k r (ap settled (at_pair c) ∙ no c ct (core_of l o) ∙ ap refuse number) says
+  pair_refused e unmet q says c ct = offer_refused l (ap settled (at_pair c) ∙ unmet c ct (core_of l o)) q says
 
 -- where they join: the body, at node n, is to unfold under the first d names of e, and so many rows are left
 pub record Joined (t : Table) (side : ℕ) (l : List ℕ) (o : Rest) (i j : ℕ) (e : List ℕ) (d : ℕ) (replicated : Bool) (left n : ℕ) : Type 0 where
@@ -207,86 +192,85 @@ module _ {t : Table} {side : ℕ} {l : List ℕ} {o : Rest} {i j : ℕ} {e : Lis
       (J.scoped.passes, subst (λ (x : ℕ). x < count t) (sym K.body) J.scoped.inside, omega (arith, K.rows, rows_cap l o (ok M)), boxes_cap l o (ok M), (limits_in (core_of l o) (ok M).few).minted)
 
   -- 17
-  module _ (a : Offer) (w : OfferIf (Room n) n 17 a) where
-    pub pair_full : {x k : ℕ} → a ≡ Refused x → k ≡ number_of a → {r : RestStep} → Says (said.Refused k) o r → (c : Setting) → c.table ≡ t → StepIs (settled (meet c (core_of l o) i j)) l o l r
-    pair_full {x} {k} q ke {r} says c ct =
-        let no = if_refused (Room n) n 17 a w x k q ke in
-        let none : room_for (term t node) left o.boxes o.minted ≡ false = is_false _ (λ y. no.1 (subst Room (sym K.body) y)) in
-        let full = meet_17 (on_table M.joinable c) (core_of l o) i j _ _ _ _ _ (node_at l j) (values_of (row_at l j)) (node_at l j) (eqb (kind t (node_at l j)) 6) _ _ _ _
-        (the_term M.joinable) J.fits J.fit J.matched its_defined its_sized its_short (ok M).short_outputs (ok M).few left remain_left (room_then ∙ none) in
-        refused_is _ l o k r (ap settled (at_pair M c) ∙ for_all M.joinable c ct (core_of l o) ∙ full ∙ ap refuse (sym no.0)) says
+  pub pair_full : {x : ℕ} → (x ≡ 17) × (Room n → ⊥) → {a : Offer} → a ≡ Refused x → {r : RestStep} → Says (said.Refused (number_of a)) o r →
+      (c : Setting) → c.table ≡ t → StepIs (settled (meet c (core_of l o) i j)) l o l r
+  pair_full unmet q says c ct =
+      let none : room_for (term t node) left o.boxes o.minted ≡ false = is_false _ (λ y. unmet.1 (subst Room (sym K.body) y)) in
+      let full = meet_17 (on_table M.joinable c) (core_of l o) i j _ _ _ _ _ (node_at l j) (values_of (row_at l j)) (node_at l j) (eqb (kind t (node_at l j)) 6) _ _ _ _
+      (the_term M.joinable) J.fits J.fit J.matched its_defined its_sized its_short (ok M).short_outputs (ok M).few left remain_left (room_then ∙ none) in
+      offer_refused l (ap settled (at_pair M c) ∙ for_all M.joinable c ct (core_of l o) ∙ full ∙ ap refuse (sym unmet.0)) q says
 
-    -- THERE IS ROOM: the rows are gone, and the body, at node k, unfolds in box b
-    module _ {k : ℕ} (q : a ≡ At k) {m : List ℕ} (R : RowsLeft replicated l o.particles i j m) {b : ℕ} (be : b ≡ get_or (row_at l i) 1 0) where
-      abbrev before : Counts
-      before = record { particles = left; boxes = o.boxes; minted = o.minted }
+  -- THERE IS ROOM: the rows are gone, and the body, at node k, unfolds in box b
+  module _ {k : ℕ} (w : (k ≡ n) × Room n) {m : List ℕ} (R : RowsLeft replicated l o.particles i j m) {b : ℕ} (be : b ≡ get_or (row_at l i) 1 0) where
+    abbrev before : Counts
+    before = record { particles = left; boxes = o.boxes; minted = o.minted }
 
-      at_node : k ≡ node
-      at_node = (if_at (Room n) n 17 a w k q).0 ∙ K.body
+    at_node : k ≡ node
+    at_node = w.0 ∙ K.body
 
-      room : Room node
-      room = subst Room K.body (if_at (Room n) n 17 a w k q).1
+    room : Room node
+    room = subst Room K.body w.1
 
-      room_yes : (left + particles_in (term t node) ≤ 32) × (o.boxes + boxes_in (term t node) ≤ 16) × (o.minted + new_names_in (term t node) ≤ 256)
-      room_yes =
-          let few = leb-true (left + particles_in (term t node)) 32 (fst _ _ room) in
-          let some-boxes = leb-true (o.boxes + boxes_in (term t node)) 16 (fst _ _ (snd _ _ room)) in
-          (few, some-boxes, leb-true (o.minted + new_names_in (term t node)) 256 (snd _ _ (snd _ _ room)))
+    room_yes : (left + particles_in (term t node) ≤ 32) × (o.boxes + boxes_in (term t node) ≤ 16) × (o.minted + new_names_in (term t node) ≤ 256)
+    room_yes =
+        let few = leb-true (left + particles_in (term t node)) 32 (fst _ _ room) in
+        let some-boxes = leb-true (o.boxes + boxes_in (term t node)) 16 (fst _ _ (snd _ _ room)) in
+        (few, some-boxes, leb-true (o.minted + new_names_in (term t node)) 256 (snd _ _ (snd _ _ room)))
 
-      can : CanUnfold t side node b e d m before
-      can = record {
-        narrow = M.narrow;
-        scoped = J.scoped;
-        short = J.short;
-        particles = room_yes.0;
-        boxes = room_yes.1;
-        minted = room_yes.2;
-        place = omega (arith, be, output_home l o (ok M) i M.pair.held_i M.pair.out, boxes_cap l o (ok M));
-        long = R.long ∙ (ok M).long;
-        width = J.words.long;
-        values = J.words.places;
-        fits = ap (fits_rows m) K.rows ∙ R.fits (side_rows l o (ok M).arrays);
-      }
+    can : CanUnfold t side node b e d m before
+    can = record {
+      narrow = M.narrow;
+      scoped = J.scoped;
+      short = J.short;
+      particles = room_yes.0;
+      boxes = room_yes.1;
+      minted = room_yes.2;
+      place = omega (arith, be, output_home l o (ok M) i M.pair.held_i M.pair.out, boxes_cap l o (ok M));
+      long = R.long ∙ (ok M).long;
+      width = J.words.long;
+      values = J.words.places;
+      fits = ap (fits_rows m) K.rows ∙ R.fits (side_rows l o (ok M).arrays);
+    }
 
-      pub body_can : CanUnfold t side k b e d m before
-      body_can = subst (λ (x : ℕ). CanUnfold t side x b e d m before) (sym at_node) can
+    pub body_can : CanUnfold t side k b e d m before
+    body_can = subst (λ (x : ℕ). CanUnfold t side x b e d m before) (sym at_node) can
 
-      -- what the body is added to, as the model has it
-      before_is : counted m before ≡ with_particles (core_of l o).contents remains
-      before_is =
-          let ps : view_rows m left ≡ remains = ap (view_rows m) K.rows ∙ R.view ∙ ap (λ (a : Bool). without a (view_rows l o.particles) i j) K.again in
-          ap₂ (λ (x : List Particle) (z : List Box). record { particles = x; boxes = z; minted = o.minted }) ps (boxes_kept l m R.behind o.boxes)
+    -- what the body is added to, as the model has it
+    before_is : counted m before ≡ with_particles (core_of l o).contents remains
+    before_is =
+        let ps : view_rows m left ≡ remains = ap (view_rows m) K.rows ∙ R.view ∙ ap (λ (a : Bool). without a (view_rows l o.particles) i j) K.again in
+        ap₂ (λ (x : List Particle) (z : List Box). record { particles = x; boxes = z; minted = o.minted }) ps (boxes_kept l m R.behind o.boxes)
 
-      module _ {f z : List ℕ} {u : Counts} (U : UnfoldedIs side (term t k) b e d m before f z u) where
-        unfolded : UnfoldedIs side (term t node) b e d m before f z u
-        unfolded = subst (λ (x : ℕ). UnfoldedIs side (term t x) b e d m before f z u) at_node U
+    module _ {f z : List ℕ} {u : Counts} (U : UnfoldedIs side (term t k) b e d m before f z u) where
+      unfolded : UnfoldedIs side (term t node) b e d m before f z u
+      unfolded = subst (λ (x : ℕ). UnfoldedIs side (term t x) b e d m before f z u) at_node U
 
-        shelf_same : drop 4640 z ≡ drop 4640 l
-        shelf_same = unfolded.shelf ∙ sym (drop-drop 32 4608 m) ∙ ap (drop 32) R.behind ∙ drop-drop 32 4608 l
+      shelf_same : drop 4640 z ≡ drop 4640 l
+      shelf_same = unfolded.shelf ∙ sym (drop-drop 32 4608 m) ∙ ap (drop 32) R.behind ∙ drop-drop 32 4608 l
 
-        after_fits : fits_side z (put_counts o u) ≡ true
-        after_fits =
-            let shelf = ap (λ (x : List ℕ). leb o.shelved 32 & every fits_place (take o.shelved (parts 17 32 x))) shelf_same ∙ side_shelf l o (ok M).arrays in
-            both _ _ unfolded.fits (both _ _ (le-leb u.boxes 16 (omega (arith, unfolded.boxes, room_yes.1))) (both _ _ (side_lobby l o (ok M).arrays) shelf))
+      after_fits : fits_side z (put_counts o u) ≡ true
+      after_fits =
+          let shelf = ap (λ (x : List ℕ). leb o.shelved 32 & every fits_place (take o.shelved (parts 17 32 x))) shelf_same ∙ side_shelf l o (ok M).arrays in
+          both _ _ unfolded.fits (both _ _ (le-leb u.boxes 16 (omega (arith, unfolded.boxes, room_yes.1))) (both _ _ (side_lobby l o (ok M).arrays) shelf))
 
-        module _ (c : Setting) (cs : c.side ≡ side) (ct : c.table ≡ t) where
-          abbrev after : Core
-          after = with_contents (core_of l o) (unfolds c.side (term t node) π (get_or (row_at l i) 1 0) (with_particles (core_of l o).contents remains))
+      module _ (c : Setting) (cs : c.side ≡ side) (ct : c.table ≡ t) where
+        abbrev after : Core
+        after = with_contents (core_of l o) (unfolds c.side (term t node) π (get_or (row_at l i) 1 0) (with_particles (core_of l o).contents remains))
 
-          contents_are : counted z u ≡ unfolds c.side (term t node) π (get_or (row_at l i) 1 0) (with_particles (core_of l o).contents remains)
-          contents_are =
-              unfolded.view ∙ ap (λ (v : Env). unfolds side (term t node) v b (counted m before)) J.env ∙
-              ap₂ (λ (x : ℕ) (v : Contents). unfolds side (term t node) π x v) be before_is ∙
-              ap (λ (x : ℕ). unfolds x (term t node) π (get_or (row_at l i) 1 0) (with_particles (core_of l o).contents remains)) (sym cs)
+        contents_are : counted z u ≡ unfolds c.side (term t node) π (get_or (row_at l i) 1 0) (with_particles (core_of l o).contents remains)
+        contents_are =
+            unfolded.view ∙ ap (λ (v : Env). unfolds side (term t node) v b (counted m before)) J.env ∙
+            ap₂ (λ (x : ℕ) (v : Contents). unfolds side (term t node) π x v) be before_is ∙
+            ap (λ (x : ℕ). unfolds x (term t node) π (get_or (row_at l i) 1 0) (with_particles (core_of l o).contents remains)) (sym cs)
 
-          after_is : core_of z (put_counts o u) ≡ after
-          after_is =
-              let shelf : view_shelf z o.shelved ≡ view_shelf l o.shelved = ap (λ (x : List ℕ). map view_place (take o.shelved (parts 17 32 x))) shelf_same in
-              ap₂ (λ (x : Contents) (h : List (List ℕ)). record { contents = x; lobby = (core_of l o).lobby; shelf = h; taken = o.taken }) contents_are shelf
+        after_is : core_of z (put_counts o u) ≡ after
+        after_is =
+            let shelf : view_shelf z o.shelved ≡ view_shelf l o.shelved = ap (λ (x : List ℕ). map view_place (take o.shelved (parts 17 32 x))) shelf_same in
+            ap₂ (λ (x : Contents) (h : List (List ℕ)). record { contents = x; lobby = (core_of l o).lobby; shelf = h; taken = o.taken }) contents_are shelf
 
-          pub pair_did : {s : Rest} → s ≡ put_counts o u → {r : RestStep} → Says said.Silent s r → StepIs (settled (meet c (core_of l o) i j)) l o z r
-          pair_did {s} se {r} says =
-              let did = meet_done (on_table M.joinable c) (core_of l o) i j _ _ _ _ _ (node_at l j) (values_of (row_at l j)) (node_at l j) (eqb (kind t (node_at l j)) 6) _ _ _ _
-              (the_term M.joinable) J.fits J.fit J.matched its_defined its_sized its_short (ok M).short_outputs (ok M).few left remain_left (room_then ∙ room) in
-              let whole = ap settled (at_pair M c) ∙ for_all M.joinable c ct (core_of l o) ∙ did in
-              quiet_is _ after l z o s (put_counts o u) r whole says se after_is (unfolded.long ∙ R.long) after_fits
+        pub pair_did : {s : Rest} → s ≡ put_counts o u → {r : RestStep} → Says said.Silent s r → StepIs (settled (meet c (core_of l o) i j)) l o z r
+        pair_did {s} se {r} says =
+            let did = meet_done (on_table M.joinable c) (core_of l o) i j _ _ _ _ _ (node_at l j) (values_of (row_at l j)) (node_at l j) (eqb (kind t (node_at l j)) 6) _ _ _ _
+            (the_term M.joinable) J.fits J.fit J.matched its_defined its_sized its_short (ok M).short_outputs (ok M).few left remain_left (room_then ∙ room) in
+            let whole = ap settled (at_pair M c) ∙ for_all M.joinable c ct (core_of l o) ∙ did in
+            quiet_is _ after l z o s (put_counts o u) r whole says se after_is (unfolded.long ∙ R.long) after_fits

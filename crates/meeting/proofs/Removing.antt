@@ -1,11 +1,11 @@
 -- The rows that go, and 17 by the counts: a law for each way that the code goes.
-use mathlib.Core.Path.{◌≡◌, sym, ap, subst, ◌∙◌}
+use mathlib.Core.Path.{◌≡◌, refl, sym, ap, subst, ◌∙◌}
 use mathlib.Core.Bool.{Bool, true, false, cond}
 use mathlib.Core.List.{List}
-use Prim.Native.Nat.{ℕ, ◌+◌, ◌-◌, ◌<◌, ◌≤◌}
+use Prim.Native.Nat.{ℕ, ◌+◌, ◌-◌, ◌<◌, ◌≤◌, min, max}
 use native.Mathlib.Omega.{arith}
-use borrow.Author.Tests.{lt-ltb, le-ltb}
-use lib.Dec.{leb}
+use borrow.Author.Tests.{lt-ltb, le-ltb, ltb-true, ltb-false}
+use lib.Dec.{leb, ltb}
 use lib.ListN.{length, drop}
 use Rattle.model.specs.Basics.{◌&◌, remove}
 use Rattle.model.specs.Table.{Term}
@@ -77,6 +77,22 @@ module _ {l : List ℕ} {n i j : ℕ} (A : Apart l n i j) {replicated : Bool} {m
       where
         above : j ≤ i → j < n - 1
         above g = omega (arith, A.held_i, A.other)
+
+    -- the higher of the two first
+    pub gone_pair : {a b : ℕ} → a ≡ max i j → b ≡ min i j → (k ≡ n - 1) × (w ≡ row_gone l a n) → m ≡ row_gone w b k → RowsLeft replicated l n i j m
+    gone_pair {a} {b} ae be (ke, we) me = go (ltb i j) refl
+      where
+        go : (c : Bool) → ltb i j ≡ c → RowsLeft replicated l n i j m
+        go true q =
+            let h = ltb-true i j q in
+            let first : a ≡ j = omega (arith, ae, h) in
+            let second : b ≡ i = omega (arith, be, h) in
+            gone_below h (ke, we ∙ ap (λ (x : ℕ). row_gone l x n) first) (me ∙ ap (λ (x : ℕ). row_gone w x k) second)
+        go false q =
+            let h = ltb-false i j q in
+            let first : a ≡ i = omega (arith, ae, h) in
+            let second : b ≡ j = omega (arith, be, h) in
+            gone_above h (ke, we ∙ ap (λ (x : ℕ). row_gone l x n) first) (me ∙ ap (λ (x : ℕ). row_gone w x k) second)
 
 -- 17 by the counts
 pub room_is : (a : Term) (particles boxes minted : ℕ) (u : Unfolded) → UnfoldsTo a u →

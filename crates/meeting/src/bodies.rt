@@ -15,10 +15,7 @@ pub(crate) fn rows_left(n: usize, replicated: bool) -> usize
     requires { 2 ≤ n }
     ensures { result ≡ n - cond replicated 1 2 }
 {
-    if replicated {
-        return n - 1;
-    }
-    n - 2
+    if replicated { n - 1 } else { n - 2 }
 }
 
 // 17: whether the limits are kept where the body at node n unfolds beside so many particles, boxes and minted names. The position is n.
@@ -40,20 +37,15 @@ pub(crate) fn room_offer(
     Offer::At(n)
 }
 
-// The output i of n rows goes, and the input j unless it is replicated.
+// The output i of n rows goes, and the input j unless it is replicated: the higher row first, as the rows behind one that goes move up.
 pub(crate) fn remove_pair(rows: &mut [u32], n: usize, replicated: bool, i: usize, j: usize)
     requires { Apart rows.old n i j }
     ensures { RowsLeft replicated rows.old n i j rows.new }
 {
     if replicated {
         remove_row(rows, i, n);
-        return;
+    } else {
+        let k = remove_row(rows, i.max(j), n);
+        remove_row(rows, i.min(j), k);
     }
-    if i < j {
-        let k = remove_row(rows, j, n);
-        remove_row(rows, i, k);
-        return;
-    }
-    let k = remove_row(rows, i, n);
-    remove_row(rows, j, k);
 }

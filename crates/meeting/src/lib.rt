@@ -17,34 +17,21 @@ use bodies::{remove_pair, room_offer, rows_left};
 use pairs::join_offer;
 use sides::{Rest, Row, Rows, word_at};
 use steps::{Offer, RestStep, Said};
-use tables::nodes::node_at;
+use tables::nodes::{Kind, node_at};
 use unfolding::{Counts, unfold_at};
 
 mod bodies; // the rows that go, the limits, the counts after
 mod pairs; // whether an output and an input meet
-
-// A word as a number of places.
-pub(crate) fn wide(x: u32) -> usize
-    ensures { result ≡ x }
-{
-    x as usize
-}
 
 // Whether row i of n is an output and row j an input. The position is j.
 fn pair_offer(rows: &[u32], n: usize, i: usize, j: usize) -> Offer
     requires { (length rows.now ≡ 5184) × (n ≤ 32) }
     ensures { (c : Setting) (s : Core) → s.contents.particles ≡ view_rows rows.now n → OfferIs (settled (meet c s i j)) j (PairAt rows.now n i) result }
 {
-    if n <= i {
+    if n <= i || n <= j {
         return Offer::Refused(10);
     }
-    if n <= j {
-        return Offer::Refused(10);
-    }
-    if word_at(rows, i, Row::OUTPUT) != 1 {
-        return Offer::Refused(13);
-    }
-    if word_at(rows, j, Row::OUTPUT) == 1 {
+    if word_at(rows, i, Row::OUTPUT) != 1 || word_at(rows, j, Row::OUTPUT) == 1 {
         return Offer::Refused(13);
     }
     Offer::At(j)
@@ -66,16 +53,16 @@ fn meet_pair(
     let mut e = [0; Rows::WIDTH];
     let a = join_offer(nodes, pool, rows, i, j, &mut e);
     let Offer::At(d) = a else {
-        return RestStep::plain(Said::Refused(a.number()), o);
+        return RestStep::refused(a, o);
     };
-    let x = node_at(nodes, wide(word_at(rows, j, Row::NODE)));
-    let replicated = x.kind == 6;
+    let x = node_at(nodes, word_at(rows, j, Row::NODE) as usize);
+    let replicated = x.kind() == Kind::Rep;
     let left = rows_left(o.particles, replicated);
     let f = room_offer(nodes, pool, x.d, left, o.boxes, o.minted);
     let Offer::At(n) = f else {
-        return RestStep::plain(Said::Refused(f.number()), o);
+        return RestStep::refused(f, o);
     };
-    let b = wide(word_at(rows, i, Row::BOX));
+    let b = word_at(rows, i, Row::BOX) as usize;
     remove_pair(rows, o.particles, replicated, i, j);
     let c = Counts {
         particles: left,
@@ -101,7 +88,7 @@ pub fn meet(
 {
     let a = pair_offer(rows, o.particles, i, j);
     let Offer::At(k) = a else {
-        return RestStep::plain(Said::Refused(a.number()), o);
+        return RestStep::refused(a, o);
     };
     meet_pair(nodes, pool, side, rows, o, i, k)
 }

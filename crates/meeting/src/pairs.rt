@@ -10,7 +10,6 @@ ghost use Rattle.environments.specs.Matching.{pattern_at, Matchable};
 ghost use Rattle.steps.specs.Asked.{OfferIf};
 ghost use Rattle.meeting.specs.Meeting.{node_at, fits_at, Joinable, MatchAnswer, BodyAnswer, Joining};
 
-use crate::wide;
 use environments::{defined_at, input_env, match_value, too_long};
 use sides::{Row, tag_at, tag_in, tags_fit, value_at, word_at, word_in};
 use steps::Offer;
@@ -23,14 +22,11 @@ fn fit_offer(nodes: &[u32], rows: &[u32], i: usize, j: usize, e: &[u32], d: usiz
     requires { (length rows.now ≡ 5184) × (i < 32) × (j < 32) × (length e.now ≡ 144) × (d ≤ 8) }
     ensures { (pool : List ℕ) → OfferIf (fits_at (table nodes.now pool) rows.now i j (env_of e.now d) ≡ true) (node_at rows.now j) 13 result }
 {
-    if word_at(rows, i, Row::BOX) != word_at(rows, j, Row::BOX) {
-        return Offer::Refused(13);
-    }
-    let n = wide(word_at(rows, j, Row::NODE));
-    if word_at(rows, i, Row::CHANNEL) != word_in(e, d, field_at(nodes, n, 1)) {
-        return Offer::Refused(13);
-    }
-    if !tags_fit(tag_at(rows, i), tag_in(e, d, field_at(nodes, n, 2))) {
+    let n = word_at(rows, j, Row::NODE) as usize;
+    if word_at(rows, i, Row::BOX) != word_at(rows, j, Row::BOX)
+        || word_at(rows, i, Row::CHANNEL) != word_in(e, d, field_at(nodes, n, 1))
+        || !tags_fit(tag_at(rows, i), tag_in(e, d, field_at(nodes, n, 2)))
+    {
         return Offer::Refused(13);
     }
     Offer::At(n)

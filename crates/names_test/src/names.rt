@@ -1,7 +1,6 @@
 // Names and values, at every place that holds one.
 ghost use Rattle.std.specs.Prelude.{◌<◌, ◌≤◌};
 
-use test_output::size;
 use test_states::{Start, case, value_case, wrapper_of};
 use values::Value;
 use wrappers::has_shelf;
@@ -14,7 +13,7 @@ fn is_place(place: usize, start: Start, side: u32) -> bool {
 // Each of the words as a name, or as a value of one word, at a place.
 fn names_at(good: bool, start: Start, side: u32, place: usize, words: &[u32]) {
     for &w in words {
-        case(good, start, side, place, size(w));
+        case(good, start, side, place, w as usize);
     }
 }
 
@@ -54,7 +53,7 @@ fn value_of(row: [u32; 6]) -> Value {
     words[..4].copy_from_slice(&[a, b, c, d]);
     Value {
         words,
-        len: size(len),
+        len: len as usize,
     }
 }
 

@@ -7,6 +7,7 @@ ghost use Rattle.reading.specs.Fields.{option_of, view_line, LineEnds, short, li
 use delimiters::next_delimiter;
 
 // A line's letter and numbers, and the place of its newline.
+// Stays an array with a length beside it: fixed memory, no heap.
 #[derive(Clone, Copy)]
 pub(crate) struct Line {
     pub(crate) letter: u8,
@@ -49,6 +50,7 @@ fn with_numbers(letter: u8, s: &[u8], from: usize) -> Option<Line>
     let mut words = [0u32; Line::MOST];
     let mut len: usize = 0;
     let mut at = from;
+    // Stays a loop by places: `next_delimiter` finds a field's end by eight bytes at once; a split would look at each byte by itself.
     loop {
         let q = next_delimiter(s, at);
         let w = number_in(&s[at..q])?;

@@ -14,6 +14,7 @@ use sides::Sides;
 
 // How far the lent lists are filled: the words of each side's part of them, from side 1 on. `steps` counts steps, `words` the
 // words of the list of steps.
+// Stays counts apart from the words that they count: fixed memory, no heap; and callers lend the words alone.
 #[derive(Clone, Copy)]
 pub struct Places {
     // Stays a number: by the contract of `read` (places_of) it is the rank of the definitions' Input, which is one.
@@ -78,6 +79,7 @@ pub fn read(
     }
     let mut line: usize = 1;
     let mut at: usize = 0;
+    // Stays a loop by places: `line_at` finds a line's end as it reads it; a split would look for it once more.
     while at < input.len() {
         let fault = Fault { line, places };
         let l = line_at(input, at).ok_or(fault)?;

@@ -8,7 +8,8 @@ mod more; // lengths, uses of bound names, descending, minted names
 mod stranded; // trial B
 
 use running::run;
-use test_schedules::shown::{number, outcome, write};
+use test_output::{number, write};
+use test_schedules::shown::outcome;
 
 // From which place on all words are 7.
 fn unchanged_from(out: &[u32]) -> usize {

@@ -1,16 +1,16 @@
 // Trial B by words: side 2 sends `mid` up, it can go nowhere, and its position is asked for.
 use stranding::{AfterError, stranded_after};
-use test_schedules::shown::{number, words, write};
+use test_output::{number, write, write_words};
 
 // How many positions, load's refusal, that the steps break off, or 22.
 fn told(a: Result<usize, AfterError>) {
     match a {
         Ok(n) => number(n),
-        Err(AfterError::Unloaded(k, side, node)) => {
+        Err(AfterError::Unloaded(f)) => {
             write(b" refused");
-            number(k);
-            number(side as usize);
-            number(node);
+            number(f.cause.number());
+            number(f.side as usize);
+            number(f.node);
         },
         Err(AfterError::BrokenOff) => write(b" broken off"),
         Err(AfterError::TooShort) => write(b" too short (22)"),
@@ -33,7 +33,7 @@ fn lent_line<'a>(
     write(b":");
     told(stranded_after(wrapper, [nil, nodes], [pool, pool], steps, side, list));
     write(b",");
-    words(list);
+    write_words(list);
     write(b"\n");
 }
 

@@ -28,6 +28,8 @@ use Rattle.steps.specs.declared.Said.TheVariants as said
 use Rattle.answers.specs.Answers.{said_of, given_for}
 use Rattle.execution.specs.Execution.{record_end}
 use Rattle.execution.proofs.RecordEnds.{steps_found, steps_broken}
+use Rattle.loading.specs.declared.LoadRefusal.{LoadRefusal}
+use Rattle.loading.specs.Loading.{told_by}
 use Rattle.running.specs.declared.RunError.{RunError}
 use Rattle.running.specs.declared.RunError.TheVariants as error
 use Rattle.running.specs.Running.{count_of, Put, RunIs}
@@ -220,8 +222,8 @@ module _ (b : Composition) (l lent : List ℕ) where
     unfolding choose
     room_left room = by_room false (le-ltb (length lent) (20 * length h.steps) (omega (arith, h.many)))
 
-    pub run_refused : n ≤ length lent / 20 → (k i m : ℕ) → load b ≡ refused (record { number = k; side = i; node = m }) → RunIs (run_of b l (length lent)) lent lent (Err (error.Refused k i m))
-    run_refused room k i m e = run_by (room_left room ∙ ap (run_from b h.steps) e) (record { answer = refl; put = record { size = refl; words = refl } })
+    pub run_refused : n ≤ length lent / 20 → (f : LoadRefusal) → load b ≡ refused (told_by f) → RunIs (run_of b l (length lent)) lent lent (Err (error.Refused f))
+    run_refused room f e = run_by (room_left room ∙ ap (run_from b h.steps) e) (record { answer = refl; put = record { size = refl; words = refl } })
 
     pub run_done : n ≤ length lent / 20 → (s : MState) → load b ≡ ok s → (new : List ℕ) →
         Put (all_answer_words (answers b s h.steps)) n lent new → RunIs (run_of b l (length lent)) lent new (Ok n)

@@ -6,6 +6,7 @@ use Rattle.std.proofs.Math.Option as maybe
 use Rattle.model.specs.Step.{Step}
 use Rattle.format.specs.Words.{answers_of, broken_off, too_short, unloaded, answered, written_by, onto}
 use Rattle.format.specs.Words.{Ran as FRan}
+use Rattle.loading.specs.Loading.{told_by}
 use Rattle.running.specs.declared.RunError.{RunError}
 use Rattle.running.specs.declared.RunError.TheVariants.{Refused, BrokenOff, TooShort}
 
@@ -23,7 +24,7 @@ pub record Put (ws : List ℕ) (n : ℕ) (lent after : List ℕ) : Type 0 where
 -- off, or too few lent words; how many the answers are is n, so that no two cases give the same
 abbrev pub ran_of : Result ℕ RunError → (after : List ℕ) → FRan
 ran_of (Ok n) ws = answered (answers_of n ws)
-ran_of (Err (Refused k i m)) ws = unloaded (record { number = k; side = i; node = m })
+ran_of (Err (Refused f)) ws = unloaded (told_by f)
 ran_of (Err BrokenOff) ws = broken_off
 ran_of (Err TooShort) ws = too_short
 

@@ -2,13 +2,14 @@
 // state well formed.
 #![tactic(auto)]
 
-ghost use Rattle.std.specs.Prelude.{map, length};
+ghost use Rattle.std.specs.Prelude.{◌≡◌, map, length};
 ghost use Rattle.format.specs.Words.{run_of};
 ghost use Rattle.wrappers.specs.Compositions.{composition};
+ghost use Rattle.running.specs.declared.RunError.TheVariants.{Refused};
 ghost use Rattle.running.specs.Running.{RunIs};
 
 use answer_words::Words;
-use loading::{Outcome, load_verdict};
+use loading::{LoadRefusal, load_verdict};
 use runs::run_loaded;
 use sides::Sides;
 use step_words::count_steps;
@@ -17,12 +18,21 @@ mod answer_words; // answers as words
 mod runs; // the steps of a list of words
 mod step_words; // words as steps
 
-// Why there is no run: number, side and node of load's refusal, that the steps break off, or that the lent words are too few.
+// Why there is no run: load refuses, the steps break off, or the lent words are too few.
 #[derive(Clone, Copy, PartialEq, Eq)]
 pub enum RunError {
-    Refused(usize, u32, usize),
+    Refused(LoadRefusal),
     BrokenOff,
     TooShort,
+}
+
+impl From<LoadRefusal> for RunError {
+    ghost from_gives = { λ f e. e ≡ Refused f };
+
+    // Load's refusal, as it is.
+    fn from(f: LoadRefusal) -> RunError {
+        RunError::Refused(f)
+    }
 }
 
 // A run: the tables loaded, and the steps of a list of words from there; 20 words for each answer. Gives how many answers there are.
@@ -41,11 +51,7 @@ pub fn run(
     if out.len() / Words::COUNT < n {
         return Err(RunError::TooShort);
     }
-    match load_verdict(wrapper, nodes, pools) {
-        Outcome::Refused(number, side, node) => Err(RunError::Refused(number, side, node)),
-        Outcome::Ok => {
-            run_loaded(wrapper, nodes, pools, steps, n, out);
-            Ok(n)
-        },
-    }
+    load_verdict(wrapper, nodes, pools)?;
+    run_loaded(wrapper, nodes, pools, steps, n, out);
+    Ok(n)
 }

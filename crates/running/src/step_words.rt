@@ -11,6 +11,7 @@ pub(crate) fn count_steps(steps: &[u32]) -> Option<usize>
 {
     let mut p: usize = 0;
     let mut n: usize = 0;
+    // Stays a loop by places: `successors` would give the ends of the records, and not that the last one breaks off.
     while p < steps.len() {
         p = record_end(steps, p, 4)?;
         n += 1;

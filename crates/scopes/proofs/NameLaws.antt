@@ -116,14 +116,14 @@ back_end s v r (suc i) h e = absurd (omega arith)
 
 -- THE NAMES THAT A NODE BINDS
 module _ (ns pool : List ℕ) (n : ℕ) (x : Node) (i : NodeIs ns n x) where
-  pub bound_new : x.kind ≡ 3 → bound (table ns pool) n ≡ field (table ns pool) n 1 ∷ []
-  bound_new e = rw (← i.k, eq-eqb x.kind 3 e)
+  pub bound_new : x.word ≡ 3 → bound (table ns pool) n ≡ field (table ns pool) n 1 ∷ []
+  bound_new e = rw (← i.k, eq-eqb x.word 3 e)
 
-  pub bound_input : 5 ≤ x.kind → bound (table ns pool) n ≡ pattern_names pool x.c
-  bound_input h = rw (← i.k, ne_eqb x.kind 3 (λ q. omega arith), le-leb 5 x.kind h, i.f3)
+  pub bound_input : 5 ≤ x.word → bound (table ns pool) n ≡ pattern_names pool x.c
+  bound_input h = rw (← i.k, ne_eqb x.word 3 (λ q. omega arith), le-leb 5 x.word h, i.f3)
 
-  pub bound_none : ((x.kind ≡ 3) → ⊥) → x.kind < 5 → bound (table ns pool) n ≡ []
-  bound_none e h = rw (← i.k, ne_eqb x.kind 3 e, lt-leb 5 x.kind h)
+  pub bound_none : ((x.word ≡ 3) → ⊥) → x.word < 5 → bound (table ns pool) n ≡ []
+  bound_none e h = rw (← i.k, ne_eqb x.word 3 e, lt-leb 5 x.word h)
 
 -- WHETHER A NODE IS THE PARENT
 -- a test of one field, as many as one of them names the child

@@ -1,10 +1,7 @@
 -- What the term at a node unfolds to, by the node's kind: one law for each way that the code goes.
-use mathlib.Core.Path.{◌≡◌, refl, sym, ap, subst}
+use mathlib.Core.Path.{◌≡◌, refl, sym, subst}
 use mathlib.Core.List.{List}
-use mir.Val.{bool_byte}
-use Prim.Native.Nat.{ℕ, zero, suc, ◌+◌, ◌-◌, ◌<◌}
-use borrow.Author.Tests.{le-leb}
-use lib.Dec.{leb}
+use Prim.Native.Nat.{ℕ, zero, suc, ◌+◌, ◌-◌, ◌<◌, ◌≤◌}
 use native.Mathlib.Omega.{arith}
 use Rattle.model.specs.Table.{Table, count, Term, build, term}
 use Rattle.tables.specs.declared.nodes.Node.{Node}
@@ -35,23 +32,23 @@ module _ (ns pool : List ℕ) (n : ℕ) (o : Passes (table ns pool) × (n < coun
     below : (m : ℕ) → (count t - m < T) × Walks t m → Below m
     below m h = (h.0, (o.0, h.1.inside))
 
-    pub to_left : x.kind ≡ 1 → Below x.a
+    pub to_left : x.word ≡ 1 → Below x.a
     to_left k = below x.a (on_left ns pool n walks x i T e k)
 
-    pub to_right : x.kind ≡ 1 → Below x.b
+    pub to_right : x.word ≡ 1 → Below x.b
     to_right k = below x.b (on_right ns pool n walks x i T e k)
 
-    pub to_box_lem : x.kind ≡ 2 → Below x.b
+    pub to_box_lem : x.word ≡ 2 → Below x.b
     to_box_lem k = below x.b (on_box ns pool n walks x i T e k)
 
-    pub to_new : x.kind ≡ 3 → Below x.b
+    pub to_new : x.word ≡ 3 → Below x.b
     to_new k = below x.b (on_new ns pool n walks x i T e k)
 
   -- THE ANSWERS
   abbrev Is : ℕ → Unfolded → Type 0
   Is m r = Few r × UnfoldsTo (term t m) r
 
-  whole : (κ : ℕ) → x.kind ≡ κ → (r : Unfolded) → UnfoldsTo (build κ t n (term t)) r → Is n r
+  whole : (κ : ℕ) → x.word ≡ κ → (r : Unfolded) → UnfoldsTo (build κ t n (term t)) r → Is n r
   whole κ e r u =
       let v = subst (λ (a : Term). UnfoldsTo a r) (sym (at_kind (λ a. a) ns pool n walks x i κ e)) u in
       let few = unfolds_few t o.0 n o.1 in
@@ -64,7 +61,7 @@ module _ (ns pool : List ℕ) (n : ℕ) (o : Passes (table ns pool) × (n < coun
   child : (m k : ℕ) (a : Unfolded) → m ≡ k → Is m a → UnfoldsTo (term t k) a
   child m k a e h = subst (λ (j : ℕ). UnfoldsTo (term t j) a) e h.1
 
-  pub par_is : (a b q : Unfolded) → x.kind ≡ 1 → Is x.a a → Is x.b b → q ≡ sum_of a b → Is n q
+  pub par_is : (a b q : Unfolded) → x.word ≡ 1 → Is x.a a → Is x.b b → q ≡ sum_of a b → Is n q
   unfolding build
   par_is a b q e ha hb z =
       let u = child x.a _ a i.f1 ha in
@@ -72,27 +69,31 @@ module _ (ns pool : List ℕ) (n : ℕ) (o : Passes (table ns pool) × (n < coun
       same q (sum_of a b) z
       (whole 1 e (sum_of a b) (record { particles = omega (arith, u.particles, v.particles); boxes = omega (arith, u.boxes, v.boxes); names = omega (arith, u.names, v.names) }))
 
-  pub box_is : (a : Unfolded) → x.kind ≡ 2 → Is x.b a → Is n (three a.particles (a.boxes + 1) a.names)
+  pub box_is : (a : Unfolded) → x.word ≡ 2 → Is x.b a → Is n (three a.particles (a.boxes + 1) a.names)
   unfolding build
   box_is a e h =
       let u = child x.b _ a i.f2 h in
       whole 2 e (three a.particles (a.boxes + 1) a.names) (record { particles = u.particles; boxes = omega (arith, u.boxes); names = u.names })
 
-  pub new_is : (a : Unfolded) → x.kind ≡ 3 → Is x.b a → Is n (three a.particles a.boxes (a.names + 1))
+  pub new_is : (a : Unfolded) → x.word ≡ 3 → Is x.b a → Is n (three a.particles a.boxes (a.names + 1))
   unfolding build
   new_is a e h =
       let u = child x.b _ a i.f2 h in
       whole 3 e (three a.particles a.boxes (a.names + 1)) (record { particles = u.particles; boxes = u.boxes; names = omega (arith, u.names) })
 
-  -- an output or an input is a particle, and nil is nothing
-  pub last_is : (p : ℕ) → p ≡ bool_byte (leb 4 x.kind) → ((x.kind ≡ 1) → ⊥) → ((x.kind ≡ 2) → ⊥) → ((x.kind ≡ 3) → ⊥) → Is n (three p 0 0)
+  pub nil_is : x.word ≡ 0 → Is n (three 0 0 0)
   unfolding build
-  last_is p q a b c = same (three p 0 0) (three (bool_byte (leb 4 x.kind)) 0 0) (ap (λ (m : ℕ). three m 0 0) q) (go x.kind refl a b c)
+  nil_is e = whole 0 e (three 0 0 0) (record { particles = refl; boxes = refl; names = refl })
+
+  -- an output or an input is a particle
+  pub last_is : 4 ≤ x.word → Is n (three 1 0 0)
+  unfolding build
+  last_is h = go x.word refl h
     where
-      go : (κ : ℕ) → x.kind ≡ κ → ((κ ≡ 1) → ⊥) → ((κ ≡ 2) → ⊥) → ((κ ≡ 3) → ⊥) → Is n (three (bool_byte (leb 4 κ)) 0 0)
-      go zero e a b c = whole 0 e _ (record { particles = refl; boxes = refl; names = refl })
-      go (suc zero) e a b c = absurd (a refl)
-      go (suc (suc zero)) e a b c = absurd (b refl)
-      go (suc (suc (suc zero))) e a b c = absurd (c refl)
-      go (suc (suc (suc (suc zero)))) e a b c = whole 4 e _ (record { particles = refl; boxes = refl; names = refl })
-      go (suc (suc (suc (suc (suc k))))) e a b c = rw (le-leb 4 (suc (suc (suc (suc (suc k))))) (omega arith)) (whole _ e (three 1 0 0) (record { particles = refl; boxes = refl; names = refl }))
+      go : (κ : ℕ) → x.word ≡ κ → 4 ≤ κ → Is n (three 1 0 0)
+      go zero e h = absurd (omega arith)
+      go (suc zero) e h = absurd (omega arith)
+      go (suc (suc zero)) e h = absurd (omega arith)
+      go (suc (suc (suc zero))) e h = absurd (omega arith)
+      go (suc (suc (suc (suc zero)))) e h = whole 4 e _ (record { particles = refl; boxes = refl; names = refl })
+      go (suc (suc (suc (suc (suc k))))) e h = whole _ e (three 1 0 0) (record { particles = refl; boxes = refl; names = refl })

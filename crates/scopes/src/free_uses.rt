@@ -7,7 +7,7 @@ ghost use Rattle.tables.specs.Scope.{Walks};
 ghost use Rattle.scopes.specs.FreeUses.{name_clear, tag_clear, hide, clear_at};
 
 use tables::name_set::NameSet;
-use tables::nodes::node_at;
+use tables::nodes::{Kind, node_at};
 use tables::pool::words_at;
 use values::Leaf;
 
@@ -38,26 +38,21 @@ pub fn clear(nodes: &[u32], pool: &[u32], n: usize, ts: NameSet) -> bool
     ensures { result ≡ clear_at (table nodes.now pool.now) n ts.on }
 {
     let x = node_at(nodes, n);
-    if x.kind == 1 {
-        return clear(nodes, pool, x.a, ts) && clear(nodes, pool, x.b, ts);
+    match x.kind() {
+        // Stays an arm: nothing uses no name, and the other arms ask more.
+        Kind::Nil => true,
+        Kind::Par => clear(nodes, pool, x.a, ts) && clear(nodes, pool, x.b, ts),
+        Kind::Box => !ts.has(x.a) && clear(nodes, pool, x.b, ts),
+        Kind::New => clear(nodes, pool, x.b, ts.put(x.a, false)),
+        Kind::Out => outside(ts, x.a, x.b),
+        Kind::In | Kind::Rep => {
+            outside(ts, x.a, x.b)
+                && clear(
+                    nodes,
+                    pool,
+                    x.d,
+                    hide_names(ts, words_at(Leaf::Pattern, pool, x.c)),
+                )
+        }
     }
-    if x.kind == 2 {
-        return !ts.has(x.a) && clear(nodes, pool, x.b, ts);
-    }
-    if x.kind == 3 {
-        return clear(nodes, pool, x.b, ts.put(x.a, false));
-    }
-    if x.kind == 4 {
-        return outside(ts, x.a, x.b);
-    }
-    if 5 <= x.kind {
-        return outside(ts, x.a, x.b)
-            && clear(
-                nodes,
-                pool,
-                x.d,
-                hide_names(ts, words_at(Leaf::Pattern, pool, x.c)),
-            );
-    }
-    true
 }

@@ -4,4 +4,3 @@ pub mod Layout
 pub mod Stored
 pub mod Environments
 pub mod Sides
-pub mod Puts

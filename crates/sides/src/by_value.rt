@@ -1,8 +1,7 @@
-// A side that is empty; the rest of a side with one of its parts put anew.
+// A side by value, and its rest, that are empty.
 ghost use Rattle.std.specs.Prelude.{◌≡◌};
 ghost use Rattle.model.specs.Side.{no_side};
 ghost use Rattle.sides.specs.Sides.{Nothing, SideIs};
-ghost use Rattle.sides.specs.Puts.{put_particles, put_shelved, put_lobby, put_taken};
 
 use crate::{Lobby, Rest, Rows, Side, Sides};
 
@@ -32,33 +31,5 @@ impl Rest {
             lobby: Lobby::empty(),
             taken: [false; Sides::TAKEN],
         }
-    }
-
-    pub fn with_particles(mut self, n: usize) -> Self
-        ensures { result ≡ put_particles self n }
-    {
-        self.particles = n;
-        self
-    }
-
-    pub fn with_shelved(mut self, n: usize) -> Self
-        ensures { result ≡ put_shelved self n }
-    {
-        self.shelved = n;
-        self
-    }
-
-    pub fn with_lobby(mut self, x: Lobby) -> Self
-        ensures { result ≡ put_lobby self x }
-    {
-        self.lobby = x;
-        self
-    }
-
-    pub fn with_taken(mut self, x: [bool; Sides::TAKEN]) -> Self
-        ensures { result ≡ put_taken self x }
-    {
-        self.taken = x;
-        self
     }
 }

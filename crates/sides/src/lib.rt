@@ -53,8 +53,7 @@ pub struct Message {
 }
 
 // At most 16 messages.
-// Stays an array with a length beside it: fixed memory, no heap. A caller may give a state with any length here; `fits_arrays` of
-// specs/Sides.antt is false of one past 16.
+// Stays an array with a length beside it: document 01 names this form; a state that is lent may have any length (`fits_arrays`).
 #[derive(Clone, Copy)]
 pub struct Lobby {
     pub msgs: [Message; Side::LOBBY],
@@ -101,6 +100,7 @@ pub struct Side {
 }
 
 // The sides, from side 1 on.
+// Stays a struct: `view_state` and `state_of` of specs/Sides.antt are of it, and the answers of `load` and `step` hold it.
 #[derive(Clone, Copy)]
 pub struct State {
     pub sides: [Side; Sides::COUNT],

@@ -1,5 +1,5 @@
 // The limits of a side.
-// Stays a test for each limit: a shared one would be `n <= most`, which is what each body says.
+// Stays: document 01 names "associated constants of the side's type, with associated functions for an empty side and for each limit test".
 ghost use Rattle.std.specs.Prelude.{◌≡◌, leb};
 ghost use Rattle.model.specs.Basics.{◌&◌};
 
@@ -17,6 +17,7 @@ impl Side {
     pub const SHELF: usize = 32;
 
     // Whether a side may have n particles.
+    // Stays: document 01 names a function for each limit test.
     pub fn particles_within(n: usize) -> bool
         ensures { result ≡ leb n 32 }
     {
@@ -24,6 +25,7 @@ impl Side {
     }
 
     // Whether a side may have n boxes.
+    // Stays: document 01 names a function for each limit test.
     pub fn boxes_within(n: usize) -> bool
         ensures { result ≡ leb n 16 }
     {
@@ -31,6 +33,7 @@ impl Side {
     }
 
     // Whether a side may have n minted names.
+    // Stays: document 01 names a function for each limit test.
     pub fn minted_within(n: usize) -> bool
         ensures { result ≡ leb n 256 }
     {
@@ -48,6 +51,7 @@ impl Side {
     }
 
     // Whether a side may have n lobby messages.
+    // Stays: document 01 names a function for each limit test.
     pub fn lobby_within(n: usize) -> bool
         ensures { result ≡ leb n 16 }
     {
@@ -55,6 +59,7 @@ impl Side {
     }
 
     // Whether a side may have n values on the shelf.
+    // Stays: document 01 names a function for each limit test.
     pub fn shelf_within(n: usize) -> bool
         ensures { result ≡ leb n 32 }
     {

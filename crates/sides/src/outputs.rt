@@ -1,4 +1,4 @@
-// The first eight words of an output's row.
+// The first words of an output's row: what it is, its box, its channel and its tag.
 ghost use Rattle.std.specs.Prelude.{◌≡◌, ◌^◌, ◌<◌, length};
 ghost use Rattle.sides.specs.Stored.{head_put};
 

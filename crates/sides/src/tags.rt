@@ -68,6 +68,7 @@ pub fn tags_fit(output: Tag, input: Tag) -> bool
         Tag::Within => input == Tag::Within,
         Tag::FromParent => is_to_parent(input),
         Tag::FromChild(n) => is_to_child(input, n),
+        // Stays an arm: each arm says what its tag fits with, and these two fit with none.
         Tag::ToParent | Tag::ToChild(_) => false,
     }
 }

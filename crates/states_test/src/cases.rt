@@ -66,12 +66,7 @@ const ROWS: [[usize; 4]; 55] = [
 
 // Whether a row is for a side.
 fn is_for(at: usize, start: Start, side: u32) -> bool {
-    let shelf = has_shelf(wrapper_of(start), side);
-    match at {
-        0 => true,
-        1 => shelf,
-        _ => !shelf,
-    }
+    at == 0 || (at == 1) == has_shelf(wrapper_of(start), side)
 }
 
 // The lines of a part of the list.

@@ -1,16 +1,17 @@
 -- Enter and take, and the marks of left names: a law for each way that the code goes.
 use mathlib.Core.Path.{◌≡◌, refl, sym, ap, ap₂, subst, ◌∙◌}
 use mathlib.Core.Logic.{⊎_elim}
-use mathlib.Core.Bool.{Bool, true, false, ◌||◌}
+use mathlib.Core.Bool.{Bool, true, false, not}
 use mathlib.Core.List.{List, [], ◌∷◌, ◌++◌, append_assoc}
 use mathlib.Core.Option.{some}
-use Prim.Native.Nat.{ℕ, zero, suc, ◌+◌, ◌<◌, ◌≤◌}
-use native.Mathlib.Numerals.{add-one}
+use Prim.Native.Nat.{ℕ, suc, ◌+◌, ◌<◌, ◌≤◌}
 use native.Mathlib.Omega.{arith}
 use borrow.Author.Tests.{leb-true}
 use lib.Dec.{leb}
 use lib.ListN.{length, get_or, get_elem?, set, take}
 use lib.Seq.{take_all}
+use Rattle.std.specs.Bool.{MatchBool}
+use Rattle.std.specs.List.{AllWithin, HoldsAt}
 use Rattle.model.specs.Basics.{◌&◌, ◌or◌, refuse, every, one_of}
 use Rattle.model.specs.Values.{is_value, is_minted}
 use Rattle.model.specs.Side.{down, taken_at}
@@ -25,12 +26,11 @@ use Rattle.sides.specs.declared.Message.{Message}
 use Rattle.sides.specs.declared.Lobby.{Lobby}
 use Rattle.sides.specs.Views.{view_message, view_lobby, fits_message, fits_lobby}
 use Rattle.sides.specs.Holding.{LobbyIs}
-use Rattle.sides.proofs.Lists.{view_length, view_at, every_at, every_more, every_fails}
+use Rattle.sides.proofs.Lists.{view_length, view_at, every_at, every_fails}
 use Rattle.sides.proofs.Lobbies.{value_fits}
 use Rattle.sides.specs.declared.Rest.{Rest}
 use Rattle.sides.specs.Layout.{shelf_of, view_place, fits_place, view_shelf, ValueIs}
 use Rattle.sides.specs.Sides.{core_of, fits_side}
-use Rattle.sides.specs.Puts.{put_lobby, put_taken}
 use Rattle.sides.proofs.Reading.{shelf_count}
 use Rattle.steps.specs.declared.Said.TheVariants as said
 use Rattle.steps.proofs.CoreSteps as core
@@ -49,34 +49,14 @@ mark_in_lem w e =
     (λ p. let a = leb-true 131072 w (fst _ _ p) in let b = leb-true w 131327 (snd _ _ p) in omega arith)
     (or_cases (leb 65536 w & leb w 65791) (leb 131072 w & leb w 131327) e)
 
--- ONE OF A LIST, looked at one after the other
-module _ {A : Type 0} (f : A → Bool) where
-  one_here : (l : List A) (k : ℕ) (d : A) → k < length l → f (get_or l k d) ≡ true → one_of f l ≡ true
-  one_here [] k d h e = absurd (omega arith)
-  one_here (x ∷ l) zero d h e = rw e
-  one_here (x ∷ l) (suc k) d h e = later (f x) (one_here l k d (omega arith) e)
-    where
-      later : (a : Bool) {b : Bool} → b ≡ true → a || b ≡ true
-      later true p = refl
-      later false p = p
+-- what `all` says of words that pass f
+every_within : (f : ℕ → Bool) (l : List ℕ) → AllWithin (λ w. f w ≡ true) l 0 (length l) → every f l ≡ true
+every_within f [] h = refl
+every_within f (x ∷ l) h = both _ _ (h 0 0 (omega arith) (omega arith)) (every_within f l (λ k d _ p. h (suc k) d (omega arith) (omega arith)))
 
-  pub one_hit : (l : List A) (k : ℕ) (d : A) → k < length l → f (get_or l k d) ≡ true → true ≡ one_of f l
-  one_hit l k d h e = sym (one_here l k d h e)
-
-  one_next : (l : List A) (k : ℕ) (d : A) → k < length l → f (get_or l k d) ≡ false → one_of f (take k l) ≡ false → one_of f (take (suc k) l) ≡ false
-  one_next [] k d h e p = absurd (omega arith)
-  one_next (x ∷ l) zero d h e p = rw e
-  one_next (x ∷ l) (suc k) d h e p = both-off (f x) (one_of f (take k l)) (one_next l k d (omega arith) e) p
-    where
-      both-off : (a b : Bool) {c : Bool} → (b ≡ false → c ≡ false) → a || b ≡ false → a || c ≡ false
-      both-off true b g q = q
-      both-off false b g q = g q
-
-  pub one_more : (l : List A) (k : ℕ) (d : A) → k < length l → f (get_or l k d) ≡ false → one_of f (take k l) ≡ false → one_of f (take (k + 1) l) ≡ false
-  one_more l k d h e p = ap (λ (n : ℕ). one_of f (take n l)) (add-one k) ∙ one_next l k d h e p
-
-  pub one_none : (l : List A) (k : ℕ) → length l ≤ k → one_of f (take k l) ≡ false → false ≡ one_of f l
-  one_none l k h p = sym (ap (one_of f) (sym (take_all k l h)) ∙ p)
+pub all_every : (f : ℕ → Bool) (l : List ℕ) (r : Bool) → MatchBool r (AllWithin (λ w. f w ≡ true) l 0 (length l)) ((k : ℕ) × (k < length l) × HoldsAt (λ w. f w ≡ false) l k) → r ≡ every f l
+all_every f l true h = sym (every_within f l h)
+all_every f l false (k, p, e) = sym (ap (every f) (sym (take_all (length l) l (omega arith))) ∙ every_fails f l k (length l) 0 p (omega arith) (e 0))
 
 -- a word that may enter
 module _ (ms : List (List Bool)) (w : ℕ) where
@@ -84,20 +64,9 @@ module _ (ms : List (List Bool)) (w : ℕ) where
   unfolding ◌or◌
   may_minted r m p e q = rw p (q ∙ ap (λ (k : ℕ). one_of (λ l. get_or l k false) ms) e)
 
-  pub may_other : is_minted w ≡ false → true ≡ may_enter ms w
+  pub may_other : (r : Bool) → r ≡ is_minted w → r ≡ false → not r ≡ may_enter ms w
   unfolding ◌or◌
-  may_other m = rw m
-
--- words that may enter, one by one
-module _ (ms : List (List Bool)) (ws : List ℕ) (k : ℕ) where
-  pub may_more : (r : Bool) → k < length ws → every (may_enter ms) (take k ws) ≡ true → r ≡ may_enter ms (get_or ws k 0) → r ≡ true → every (may_enter ms) (take (k + 1) ws) ≡ true
-  may_more r h p e t = every_more (may_enter ms) ws k 0 h (sym e ∙ t) p
-
-  pub may_fails : (r : Bool) → k < length ws → r ≡ may_enter ms (get_or ws k 0) → r ≡ false → false ≡ every (may_enter ms) ws
-  may_fails r h e t = sym (ap (every (may_enter ms)) (sym (take_all (length ws) ws (omega arith))) ∙ every_fails (may_enter ms) ws k (length ws) 0 h (omega arith) (sym e ∙ t))
-
-  pub may_all : length ws ≤ k → every (may_enter ms) (take k ws) ≡ true → true ≡ every (may_enter ms) ws
-  may_all h p = sym (ap (every (may_enter ms)) (sym (take_all k ws h)) ∙ p)
+  may_other r e m = rw (m, ← e, m)
 
 -- ENTER, where the side is logged or not
 module _ (l : List ℕ) (o : Rest) (b : Bool) (ms : List (List Bool)) (ws : List ℕ) (ok : Sane l o) where
@@ -121,21 +90,21 @@ module _ (l : List ℕ) (o : Rest) (b : Bool) (ms : List (List Bool)) (ws : List
         offer_last _ (length ws) (EnterAt b o ms ws) (o.lobby.len + (n + 1) ≤ 16) 17 a w (λ room. record { shape = e; names = f; short = few_words e; room = omega (arith, room, same) })
         (λ none. enter_full e f (omega (arith, none, same)))
 
-    pub enter_did : (k : ℕ) (r : RestStep) (v : Value) (m : Message) (z y : Lobby) (t : Rest) (n j : ℕ) → k ≡ length ws → EnterAt b o ms ws k → Stores (take k ws) v →
+    pub enter_did : (k : ℕ) (r : RestStep) (v : Value) (m : Message) (z y : Lobby) (n j : ℕ) → k ≡ length ws → EnterAt b o ms ws k → Stores (take k ws) v →
         m ≡ record { status = Down; channel = 0; value = v } →
         LobbyIs (view_lobby o.lobby ++ copied (log_if b) (view_value v)) n (fits_lobby o.lobby & copy_fits v) z →
         LobbyIs (view_lobby z ++ (view_message m ∷ [])) j (fits_lobby z & fits_message m) y →
-        t ≡ put_lobby o y →
-        r ≡ record { said = said.In; value = v; rest = t } →
+        r ≡ record { said = said.In; value = v; rest = record { particles = o.particles; boxes = o.boxes; shelved = o.shelved; minted = o.minted; lobby = y; taken = o.taken } } →
         StepIs (enter_by b ms l o ws) l o l r
-    enter_did k r v m z y t n j same a st me zs ys te re =
+    enter_did k r v m z y n j same a st me zs ys re =
         let stored : Stores ws v = subst (λ (s : List ℕ). Stores s v) (take_all k ws (omega (arith, same))) st in
         let few : length ws ≤ 16 = omega (arith, same, a.short) in
         let vw : view_value v ≡ ws = stored.words ∙ take_all 16 ws few in
         let len : v.len ≤ 16 = omega (arith, stored.count) in
         let kept = value_fits v len in
-        let fits : fits_side l (put_lobby o y) ≡ true =
-        side_again l l o (put_lobby o y) ok.arrays refl (side_rows l o ok.arrays) (ys.fits (both _ _ (zs.fits (both _ _ (side_lobby l o ok.arrays) kept)) (ap fits_message me ∙ kept))) (side_shelf l o ok.arrays) in
+        let q : Rest = record { particles = o.particles; boxes = o.boxes; shelved = o.shelved; minted = o.minted; lobby = y; taken = o.taken } in
+        let fits : fits_side l q ≡ true =
+        side_again l l o q ok.arrays refl (side_rows l o ok.arrays) (ys.fits (both _ _ (zs.fits (both _ _ (side_lobby l o ok.arrays) kept)) (ap fits_message me ∙ kept))) (side_shelf l o ok.arrays) in
         let room = subst (λ (c : ℕ). c + (length (log_if b) + 1) ≤ 16) (sym (lobby_n l o ok full)) a.room in
         let d = core.enter_done (core_of l o) ok.short_outputs ok.few (log_if b) (known_by ms) ws a.shape a.names room in
         let L : List MMessage = view_lobby o.lobby in
@@ -144,7 +113,7 @@ module _ (l : List ℕ) (o : Rest) (b : Bool) (ms : List (List Bool)) (ws : List
         ∙ ap (λ (u : List ℕ). (L ++ copied (log_if b) u) ++ (record { status = down; chan = 0; val = u } ∷ [])) vw
         ∙ append_assoc L (copied (log_if b) ws) (record { status = down; chan = 0; val = ws } ∷ []) in
         rw re
-        (said_is _ (core.entered (core_of l o) ok.short_outputs ok.few (log_if b) (known_by ms) ws) l l o (put_lobby o y) (record { said = said.In; value = v; rest = t }) d refl vw len te
+        (said_is _ (core.entered (core_of l o) ok.short_outputs ok.few (log_if b) (known_by ms) ws) l l o q (record { said = said.In; value = v; rest = q }) d refl vw len refl
         (same_core o.minted o.taken refl refl lobby-is refl) refl fits)
 
 -- TAKE, from the shelf of the words h, which has n values
@@ -181,24 +150,23 @@ module _ (l : List ℕ) (o : Rest) (m : ℕ) (h : List ℕ) (n i : ℕ) (ok : Sa
         (λ none. take_full t (omega (arith, none)))
 
 pub take_did : (l : List ℕ) (o : Rest) (m : ℕ) (h : List ℕ) (n i k : ℕ) → k ≡ i → (ok : Sane l o) (full : Full o) (s : Source m h n)
-    (r : RestStep) (v : Value) (g : Message) (y : Lobby) (t u : Rest) (c j : ℕ) (b : List Bool) → TakeAt o m n k →
+    (r : RestStep) (v : Value) (g : Message) (y : Lobby) (c j : ℕ) (b : List Bool) → TakeAt o m n k →
     ValueIs (view_place (get_or (shelf_of h) k [])) v →
     g ≡ record { status = Down; channel = 2; value = v } →
     LobbyIs (view_lobby o.lobby ++ (view_message g ∷ [])) c (fits_lobby o.lobby & fits_message g) y →
-    t ≡ put_lobby o y →
     j ≡ taken_at m k →
     b ≡ set o.taken j true →
-    u ≡ put_taken t b →
-    Says said.Silent u r →
+    Says said.Silent (record { particles = o.particles; boxes = o.boxes; shelved = o.shelved; minted = o.minted; lobby = y; taken = b }) r →
     StepIs (settled (takes m (view_shelf h n) (core_of l o) i)) l o l r
-take_did l o m h n i k same ok full s r v g y t u c j b a vi ge ys te je be ue says =
+take_did l o m h n i k same ok full s r v g y c j b a vi ge ys je be says =
     let x : List ℕ = view_place (get_or (shelf_of h) k []) in
     let d = source.take_done (core_of l o) ok.short_outputs ok.few m (view_shelf h n) k x (held l o m h n k ok full s a.held) a.fresh (rw (lobby_n l o ok full) a.room) in
     let marks : b ≡ set o.taken (taken_at m k) true = be ∙ ap (λ (z : ℕ). set o.taken z true) je in
-    let w : Rest = put_taken (put_lobby o y) (set o.taken (taken_at m k) true) in
+    let after : List Bool → Rest = λ z. record { particles = o.particles; boxes = o.boxes; shelved = o.shelved; minted = o.minted; lobby = y; taken = z } in
+    let w : Rest = after (set o.taken (taken_at m k) true) in
     let fits : fits_side l w ≡ true =
     side_again l l o w ok.arrays refl (side_rows l o ok.arrays) (ys.fits (both _ _ (side_lobby l o ok.arrays) (ap fits_message ge ∙ value_fits v vi.short))) (side_shelf l o ok.arrays) in
     let sent = ap (λ (z : Message). view_lobby o.lobby ++ (view_message z ∷ [])) ge ∙ ap (λ (z : List ℕ). view_lobby o.lobby ++ (record { status = down; chan = 2; val = z } ∷ [])) vi.view in
     subst (λ (z : ℕ). StepIs (settled (takes m (view_shelf h n) (core_of l o) z)) l o l r) same
-    (quiet_is _ (source.take_core m (core_of l o) k x) l l o u w r d says (ue ∙ ap (λ (z : Rest). put_taken z b) te ∙ ap (put_taken (put_lobby o y)) marks)
+    (quiet_is _ (source.take_core m (core_of l o) k x) l l o (after b) w r d says (ap after marks)
     (same_core o.minted (set o.taken (taken_at m k) true) refl refl (ys.view ∙ sent) refl) refl fits)

@@ -1,12 +1,12 @@
 -- What the steps use of a side that they may act on; what makes a function's answer that of the model.
 use mathlib.Core.Path.{◌≡◌, refl, sym, ap, subst, ◌∙◌}
 use mathlib.Core.Logic.{◌≢◌}
-use mathlib.Core.Bool.{Bool, true, false, not}
+use mathlib.Core.Bool.{Bool, true, false}
 use mathlib.Core.List.{List, [], ◌∷◌, map}
 use mathlib.Core.Option.{some}
 use Prim.Native.Nat.{ℕ, zero, suc, ◌+◌, ◌<◌, ◌≤◌}
 use native.Mathlib.Omega.{arith}
-use borrow.Author.Tests.{ltb-true, leb-true, leb-false, not-true, not-false}
+use borrow.Author.Tests.{ltb-true, leb-true, leb-false}
 use lib.Dec.{leb}
 use lib.ListN.{length, take, drop, get_or, get_elem?, length-take}
 use lib.Seq.{drop-drop}
@@ -41,11 +41,11 @@ use Rattle.steps.specs.StepIs.{Outcome, StepIs, Sane}
 use Rattle.steps.specs.Asked.{Says, channel_in, value_in}
 
 -- a limit test of one more: where it fails, and where it passes
-pub none_more : (n k : ℕ) (r : Bool) → r ≡ leb (n + 1) k → not r ≡ true → k ≤ n
-none_more n k r e t = let z = leb-false (n + 1) k (sym e ∙ not-true r t) in omega (arith, z)
+pub none_more : (n k : ℕ) (r : Bool) → r ≡ leb (n + 1) k → r ≡ false → k ≤ n
+none_more n k r e t = let z = leb-false (n + 1) k (sym e ∙ t) in omega (arith, z)
 
-pub one_more : (n k : ℕ) (r : Bool) → r ≡ leb (n + 1) k → not r ≡ false → n < k
-one_more n k r e t = let z = leb-true (n + 1) k (sym e ∙ not-false r t) in omega (arith, z)
+pub one_more : (n k : ℕ) (r : Bool) → r ≡ leb (n + 1) k → r ≡ true → n < k
+one_more n k r e t = let z = leb-true (n + 1) k (sym e ∙ t) in omega (arith, z)
 
 -- an element within a list, whatever would stand past its end
 pub get_d_any : {A : Type 0} (l : List A) (i : ℕ) (d e : A) → i < length l → get_or l i d ≡ get_or l i e
@@ -224,27 +224,15 @@ said_is x d l m o t r e s v n q c k f = record {
 pub quiet_is : (x : Res Moved) (k : Core) (l m : List ℕ) (o s t : Rest) (r : RestStep) → x ≡ done (quiet k) → Says said.Silent s r → s ≡ t → core_of m t ≡ k → length m ≡ length l → fits_side m t ≡ true → StepIs x l o m r
 quiet_is x k l m o s t r e p q c n f = said_is x (quiet k) l m o t r e (ap label_of p.says) p.value.words (stored_none r.value p.value) (p.rest ∙ q) c n f
 
--- what a check answered
-pub offer_at : (x : Res Moved) (i : ℕ) (P : ℕ → Type 0) (a : Offer) → OfferIs x i P a → (k : ℕ) → a ≡ At k → (k ≡ i) × P k
-offer_at x i P a w k e = subst (λ (y : Offer). OfferIs x i P y) e w
-
--- what a test answered
-module _ (P : Type 0) (i x : ℕ) (a : Offer) (w : OfferIf P i x a) where
-  pub if_at : (k : ℕ) → a ≡ At k → (k ≡ i) × P
-  if_at k e = subst (λ (y : Offer). OfferIf P i x y) e w
-
-  pub if_refused : (n k : ℕ) → a ≡ Refused n → k ≡ number_of a → (k ≡ x) × (P → ⊥)
-  if_refused n k e q =
-      let z : (n ≡ x) × (P → ⊥) = subst (λ (y : Offer). OfferIf P i x y) e w in
-      (q ∙ ap number_of e ∙ z.0, z.1)
-
 -- a check whose last test is Q
 pub offer_last : (x : Res Moved) (i : ℕ) (P : ℕ → Type 0) (Q : Type 0) (n : ℕ) (a : Offer) → OfferIf Q i n a → (Q → P i) → ((Q → ⊥) → x ≡ refuse n) → OfferIs x i P a
 offer_last x i P Q n (At k) (same, q) may full = (same, subst P (sym same) (may q))
 offer_last x i P Q n (Refused k) (same, q) may full = full q ∙ ap refuse (sym same)
 
-pub offer_refused : (x : Res Moved) (i : ℕ) (P : ℕ → Type 0) (a : Offer) → OfferIs x i P a → (n k : ℕ) (l : List ℕ) (o : Rest) (r : RestStep) → a ≡ Refused n → k ≡ number_of a → Says (said.Refused k) o r → StepIs x l o l r
-offer_refused x i P a w n k l o r e q p =
-    let z : x ≡ refuse n = subst (λ (y : Offer). OfferIs x i P y) e w in
-    let same : n ≡ k = sym (q ∙ ap number_of e) in
-    refused_is x l o k r (z ∙ ap refuse same) p
+-- what is said of a check's refusal n
+pub said_refused : {a : Offer} {n : ℕ} {o : Rest} {r : RestStep} → a ≡ Refused n → Says (said.Refused (number_of a)) o r → Says (said.Refused n) o r
+said_refused {a} {n} {o} {r} e = subst (λ (y : Offer). Says (said.Refused (number_of y)) o r) e
+
+-- a check's refusal, beside the old words and the old rest
+pub offer_refused : {x : Res Moved} {a : Offer} {n : ℕ} {o : Rest} {r : RestStep} (l : List ℕ) → x ≡ refuse n → a ≡ Refused n → Says (said.Refused (number_of a)) o r → StepIs x l o l r
+offer_refused {x} {a} {n} {o} {r} l e q p = refused_is x l o n r e (said_refused q p)

@@ -4,15 +4,16 @@ use mathlib.Core.Bool.{Bool, true, false}
 use mathlib.Core.List.{List, ◌++◌}
 use Prim.Native.Nat.{ℕ, ◌+◌, ◌*◌, ◌<◌, ◌≤◌}
 use native.Mathlib.Omega.{arith}
-use borrow.Author.Tests.{eq-eqb, ne_eqb}
+use borrow.Author.Tests.{ne_eqb}
 use lib.ListN.{length, get_or, set}
-use Rattle.model.specs.Basics.{◌&◌, Res, refuse, done, remove}
+use Rattle.model.specs.Basics.{◌&◌, refuse, done, remove}
 use Rattle.model.specs.Side.{Message as MMessage}
-use Rattle.model.specs.Step.{Label, leaves, logs, is_down, is_arrived, is_leaving, go_down, pass, copied, leaving_on, leave, with_lobby, settled}
+use Rattle.model.specs.Step.{is_down, is_arrived, is_leaving, go_down, pass, copied, leaving_on, leave, with_lobby, settled}
 use Rattle.model.proofs.Basics.Tests.{both}
 use Rattle.values.specs.Env.{view_value}
 use Rattle.wrappers.specs.Copies.{log_if}
-use Rattle.sides.specs.declared.Status.TheVariants.{Leaving}
+use Rattle.sides.specs.declared.Status.{Status}
+use Rattle.sides.specs.declared.Status.TheVariants.{Down, Arrived, Leaving}
 use Rattle.sides.specs.declared.Tag.TheVariants.{FromParent}
 use Rattle.sides.specs.declared.Message.{Message}
 use Rattle.sides.specs.declared.Lobby.{Lobby}
@@ -22,7 +23,6 @@ use Rattle.sides.specs.declared.Output.{Output}
 use Rattle.sides.specs.declared.Rest.{Rest}
 use Rattle.sides.specs.Stored.{output_put}
 use Rattle.sides.specs.Sides.{core_of, fits_side}
-use Rattle.sides.specs.Puts.{put_particles, put_lobby}
 use Rattle.sides.proofs.Storing.{output_length}
 use Rattle.sides.proofs.Putting.{output_put_lem, add_view, add_fits}
 use Rattle.sides.proofs.Behind.{behind_output}
@@ -36,6 +36,31 @@ use Rattle.steps.specs.declared.Offer.{Offer}
 use Rattle.steps.specs.Asked.{Says, OfferIs, OfferIf, DownAt, copy_fits, PassAt, LeaveAt}
 use Rattle.steps.proofs.Held.{Full, side_rows, side_lobby, side_shelf, side_again, boxes_kept, shelf_kept, shelf_fits_kept, same_core, rows_n, lobby_n}
 use Rattle.steps.proofs.Held.{words_short, message_at, message_fits, message_short, message_any, quiet_is, said_is, offer_last}
+
+-- a status, by its variant
+pub down_is : (s : Status) → s ≡ Down → is_down (view_status s) ≡ true
+down_is s e = rw e refl
+
+pub not_down : (s : Status) → (s ≡ Down → ⊥) → is_down (view_status s) ≡ false
+not_down Down n = absurd (n refl)
+not_down Arrived n = refl
+not_down Leaving n = refl
+
+pub arrived_is : (s : Status) → s ≡ Arrived → is_arrived (view_status s) ≡ true
+arrived_is s e = rw e refl
+
+pub not_arrived : (s : Status) → (s ≡ Arrived → ⊥) → is_arrived (view_status s) ≡ false
+not_arrived Down n = refl
+not_arrived Arrived n = absurd (n refl)
+not_arrived Leaving n = refl
+
+pub leaving_is : (s : Status) → s ≡ Leaving → is_leaving (view_status s) ≡ true
+leaving_is s e = rw e refl
+
+pub not_leaving : (s : Status) → (s ≡ Leaving → ⊥) → is_leaving (view_status s) ≡ false
+not_leaving Down n = refl
+not_leaving Arrived n = refl
+not_leaving Leaving n = absurd (n refl)
 
 module _ (l : List ℕ) (o : Rest) (i : ℕ) (ok : Sane l o) (full : Full o) where
   past : o.lobby.len ≤ i → length (view_lobby o.lobby) ≤ i
@@ -99,14 +124,12 @@ lowered m = record { at = 0; channel = m.channel; tag = FromParent; value = m.va
 
 -- what is made of lobby k, which is the i that was asked for
 module _ (l : List ℕ) (o : Rest) (i k : ℕ) (same : k ≡ i) (ok : Sane l o) (full : Full o) (d : Message) (r : RestStep) where
-  pub down_did : (m : List ℕ) (n c : ℕ) (y : Lobby) (s t : Rest) → DownAt o k →
+  pub down_did : (m : List ℕ) (n c : ℕ) (y : Lobby) → DownAt o k →
       (n ≡ o.particles + 1) × (m ≡ output_put l (144 * o.particles) (lowered (get_or o.lobby.msgs k d))) →
-      s ≡ put_particles o n →
       LobbyIs (remove (view_lobby o.lobby) k) c (fits_lobby o.lobby) y →
-      t ≡ put_lobby s y →
-      Says said.Silent t r →
+      Says said.Silent (record { particles = n; boxes = o.boxes; shelved = o.shelved; minted = o.minted; lobby = y; taken = o.taken }) r →
       StepIs (settled (go_down (core_of l o) i)) l o m r
-  down_did m n c y s t a put se ys te says =
+  down_did m n c y a put ys says =
       let x : Message = get_or o.lobby.msgs k d in
       let p : Output = lowered x in
       let h = message_short l o ok full k d a.held in
@@ -114,56 +137,49 @@ module _ (l : List ℕ) (o : Rest) (i k : ℕ) (same : k ≡ i) (ok : Sane l o) 
       let w : List ℕ = output_put l (144 * o.particles) p in
       let rp = output_put_lem l o.particles p ok.long a.room h in
       let b = behind_output l o.particles p a.room h in
-      let u : Rest = put_lobby (put_particles o (o.particles + 1)) y in
+      let after : ℕ → Rest = λ z. record { particles = z; boxes = o.boxes; shelved = o.shelved; minted = o.minted; lobby = y; taken = o.taken } in
+      let u : Rest = after (o.particles + 1) in
       let fits : fits_side w u ≡ true =
       side_again l w o u ok.arrays refl (add_fits l w o.particles _ rp a.room (side_rows l o ok.arrays)) (ys.fits (side_lobby l o ok.arrays))
       (shelf_fits_kept l w b o.shelved (side_shelf l o ok.arrays)) in
       let is = same_core o.minted o.taken (add_view l w o.particles _ rp a.room) (boxes_kept l w b o.boxes) ys.view (shelf_kept l w b o.shelved) in
-      let q : t ≡ u = te ∙ ap (λ (z : Rest). put_lobby z y) (se ∙ ap (put_particles o) put.0) in
       subst (λ (z : ℕ). StepIs (settled (go_down (core_of l o) z)) l o m r) same
       (subst (λ (z : List ℕ). StepIs (settled (go_down (core_of l o) k)) l o z r) (sym put.1)
-      (quiet_is _ _ l w o t u r e says q is (output_length l (144 * o.particles) p) fits))
+      (quiet_is _ _ l w o (after n) u r e says (ap after put.0) is (output_length l (144 * o.particles) p) fits))
 
-  pub pass_did : (b : Bool) (x : Message) (z y : Lobby) (t : Rest) (n j : ℕ) → PassAt b o k →
+  pub pass_did : (b : Bool) (x : Message) (z y : Lobby) (n j : ℕ) → PassAt b o k →
       x ≡ record { status = Leaving; channel = 1; value = (get_or o.lobby.msgs k d).value } →
       LobbyIs (set (view_lobby o.lobby) k (view_message x)) n (fits_lobby o.lobby & fits_message x) z →
       LobbyIs (view_lobby z ++ copied (log_if b) (view_value (get_or o.lobby.msgs k d).value)) j (fits_lobby z & copy_fits (get_or o.lobby.msgs k d).value) y →
-      t ≡ put_lobby o y →
-      Says said.Silent t r →
+      Says said.Silent (record { particles = o.particles; boxes = o.boxes; shelved = o.shelved; minted = o.minted; lobby = y; taken = o.taken }) r →
       StepIs (settled (pass (log_if b) (core_of l o) i)) l o l r
-  pass_did b x z y t n j a xe zs ys te says =
+  pass_did b x z y n j a xe zs ys says =
       let m : Message = get_or o.lobby.msgs k d in
       let room = subst (λ (c : ℕ). c + length (log_if b) ≤ 16) (sym (lobby_n l o ok full)) a.room in
       let e = core.pass_done (core_of l o) ok.short_outputs ok.few (log_if b) k _ (message_at l o ok full k d a.held) (a.status d) (a.chan d) room in
       let kept = message_fits l o ok full k d a.held in
-      let fits : fits_side l (put_lobby o y) ≡ true =
-      side_again l l o (put_lobby o y) ok.arrays refl (side_rows l o ok.arrays) (ys.fits (both _ _ (zs.fits (both _ _ (side_lobby l o ok.arrays) (ap fits_message xe ∙ kept))) kept))
+      let u : Rest = record { particles = o.particles; boxes = o.boxes; shelved = o.shelved; minted = o.minted; lobby = y; taken = o.taken } in
+      let fits : fits_side l u ≡ true =
+      side_again l l o u ok.arrays refl (side_rows l o ok.arrays) (ys.fits (both _ _ (zs.fits (both _ _ (side_lobby l o ok.arrays) (ap fits_message xe ∙ kept))) kept))
       (side_shelf l o ok.arrays) in
-      let turned = zs.view ∙ ap (λ (u : Message). set (view_lobby o.lobby) k (view_message u)) xe in
+      let turned = zs.view ∙ ap (λ (g : Message). set (view_lobby o.lobby) k (view_message g)) xe in
       subst (λ (q : ℕ). StepIs (settled (pass (log_if b) (core_of l o) q)) l o l r) same
-      (quiet_is _ _ l l o t (put_lobby o y) r e says te
-      (same_core o.minted o.taken refl refl (ys.view ∙ ap (λ (u : List MMessage). u ++ copied (log_if b) (view_value m.value)) turned) refl) refl fits)
+      (quiet_is _ _ l l o u u r e says refl
+      (same_core o.minted o.taken refl refl (ys.view ∙ ap (λ (g : List MMessage). g ++ copied (log_if b) (view_value m.value)) turned) refl) refl fits)
 
-  pub leave_did : (w : Said) (y : Lobby) (t : Rest) (n : ℕ) → LeaveAt o k →
+  pub leave_did : (w : Said) (y : Lobby) (n : ℕ) → LeaveAt o k →
       label_of w ≡ done (leaving_on (get_or o.lobby.msgs k d).channel) →
       LobbyIs (remove (view_lobby o.lobby) k) n (fits_lobby o.lobby) y →
-      t ≡ put_lobby o y →
-      r ≡ record { said = w; value = (get_or o.lobby.msgs k d).value; rest = t } →
+      r ≡ record { said = w; value = (get_or o.lobby.msgs k d).value; rest = record { particles = o.particles; boxes = o.boxes; shelved = o.shelved; minted = o.minted; lobby = y; taken = o.taken } } →
       StepIs (settled (leave (core_of l o) i)) l o l r
-  leave_did w y t n a we ys te re =
+  leave_did w y n a we ys re =
       let m : Message = get_or o.lobby.msgs k d in
       let e = core.leave_done (core_of l o) ok.short_outputs ok.few k _ (message_at l o ok full k d a.held) (a.status d) in
-      let fits : fits_side l (put_lobby o y) ≡ true =
-      side_again l l o (put_lobby o y) ok.arrays refl (side_rows l o ok.arrays) (ys.fits (side_lobby l o ok.arrays)) (side_shelf l o ok.arrays) in
+      let u : Rest = record { particles = o.particles; boxes = o.boxes; shelved = o.shelved; minted = o.minted; lobby = y; taken = o.taken } in
+      let fits : fits_side l u ≡ true =
+      side_again l l o u ok.arrays refl (side_rows l o ok.arrays) (ys.fits (side_lobby l o ok.arrays)) (side_shelf l o ok.arrays) in
       subst (λ (z : ℕ). StepIs (settled (leave (core_of l o) z)) l o l r) same
       (rw re
-      (said_is _ (record { label = leaving_on m.channel; val = view_value m.value; core = with_lobby (core_of l o) (remove (view_lobby o.lobby) k) }) l l o (put_lobby o y)
-      (record { said = w; value = m.value; rest = t }) e we refl (message_short l o ok full k d a.held) te
+      (said_is _ (record { label = leaving_on m.channel; val = view_value m.value; core = with_lobby (core_of l o) (remove (view_lobby o.lobby) k) }) l l o u
+      (record { said = w; value = m.value; rest = u }) e we refl (message_short l o ok full k d a.held) refl
       (same_core o.minted o.taken refl refl ys.view refl) refl fits))
-
--- the label of a message that leaves on a channel
-pub left_out : (c : ℕ) → c ≡ 1 → ◌≡◌ {A = Res Label} (done leaves) (done (leaving_on c))
-left_out c e = rw (eq-eqb c 1 e) refl
-
-pub left_log : (c : ℕ) → (c ≡ 1 → ⊥) → ◌≡◌ {A = Res Label} (done logs) (done (leaving_on c))
-left_log c n = rw (ne_eqb c 1 n) refl

@@ -1,5 +1,5 @@
 -- Up and descend: a law for each way that the code goes.
-use mathlib.Core.Path.{◌≡◌, refl, sym, ap, subst, ◌∙◌}
+use mathlib.Core.Path.{◌≡◌, refl, sym, ap, ap₂, subst, ◌∙◌}
 use mathlib.Core.Bool.{true, false}
 use mathlib.Core.List.{List, [], ◌∷◌, ◌++◌, map}
 use Prim.Native.Nat.{ℕ, ◌+◌, ◌-◌, ◌*◌, ◌<◌, ◌≤◌}
@@ -26,7 +26,6 @@ use Rattle.sides.specs.declared.Rest.{Rest}
 use Rattle.sides.specs.Layout.{row_at, tag_in, view_row, fits_row, view_rows, fits_rows, boxes_of, view_box, ValueIs}
 use Rattle.sides.specs.Stored.{moved_to, row_gone, shelf_put}
 use Rattle.sides.specs.Sides.{core_of, fits_side}
-use Rattle.sides.specs.Puts.{put_particles, put_shelved, put_lobby}
 use Rattle.sides.proofs.Storing.{moved_length, gone_length, shelf_length}
 use Rattle.sides.proofs.Putting.{moved_put, put_view, put_fits, gone_view, gone_fits}
 use Rattle.sides.proofs.Behind.{behind_moved, behind_gone, shelf_rows, shelf_boxes, shelf_view, shelf_more_fits}
@@ -35,11 +34,9 @@ use Rattle.steps.proofs.CoreSteps as core
 use Rattle.steps.proofs.Held.{elem_some}
 use Rattle.steps.specs.declared.RestStep.{RestStep}
 use Rattle.steps.specs.StepIs.{StepIs, Sane}
-use Rattle.steps.specs.declared.Offer.{Offer}
-use Rattle.steps.specs.declared.Offer.TheVariants.{At}
-use Rattle.steps.specs.Asked.{Says, OfferIs, with_shelf, channel_in, value_in, goes_to_shelf, up_by, UpAt, DescendAt}
+use Rattle.steps.specs.Asked.{Says, channel_in, value_in, goes_to_shelf, up_by, UpAt, DescendAt}
 use Rattle.steps.proofs.Held.{Full, side_rows, side_lobby, side_shelf, side_again, boxes_kept, shelf_kept, shelf_fits_kept, same_core, rows_cap, rows_n}
-use Rattle.steps.proofs.Held.{boxes_n, shelf_n, lobby_n, box_at_lem, row_in, fits_at_lem, input_at, output_at_lem, value_length, refused_is, quiet_is, offer_at}
+use Rattle.steps.proofs.Held.{boxes_n, shelf_n, lobby_n, box_at_lem, row_in, fits_at_lem, input_at, output_at_lem, value_length, refused_is, quiet_is}
 
 module _ (l : List ℕ) (o : Rest) (i : ℕ) (ok : Sane l o) where
   pub up_past : (c : Setting) → o.particles ≤ i → settled (up c (core_of l o) i) ≡ refuse 10
@@ -101,21 +98,20 @@ module _ (l : List ℕ) (o : Rest) (i : ℕ) (ok : Sane l o) (h : i < o.particle
 
   -- A ROW GONE: the particle's value v has been read
   module _ (c : Setting) (v : Value) (vi : ValueIs (value_in l i) v) (m : List ℕ) (n : ℕ) where
-    pub lobby_did : (ch : ℕ) (g : Message) (y : Lobby) (k : ℕ) (s t : Rest) → goes_to_shelf c (channel_in l i) ≡ false → Full o → o.lobby.len < 16 →
+    pub lobby_did : (ch : ℕ) (g : Message) (y : Lobby) (k : ℕ) → goes_to_shelf c (channel_in l i) ≡ false → Full o → o.lobby.len < 16 →
         ch ≡ channel_in l i →
         g ≡ record { status = Arrived; channel = ch; value = v } →
         (n ≡ o.particles - 1) × (m ≡ row_gone l i o.particles) →
-        s ≡ put_particles o n →
         LobbyIs (view_lobby o.lobby ++ (view_message g ∷ [])) k (fits_lobby o.lobby & fits_message g) y →
-        t ≡ put_lobby s y →
-        Says said.Silent t r →
+        Says said.Silent (record { particles = n; boxes = o.boxes; shelved = o.shelved; minted = o.minted; lobby = y; taken = o.taken }) r →
         StepIs (up_by c l o i 0 (channel_in l i)) l o m r
-    lobby_did ch g y k s t off full room che ge gone se ys te says =
+    lobby_did ch g y k off full room che ge gone ys says =
         let w : List ℕ = row_gone l i o.particles in
         let cap = rows_cap l o ok in
         let b = behind_gone l i o.particles h cap in
         let d = core.lobby_done (core_of l o) ok.short_outputs ok.few c i (channel_in l i) (value_in l i) off (rw (lobby_n l o ok full) room) in
-        let u : Rest = put_lobby (put_particles o (o.particles - 1)) y in
+        let after : ℕ → Rest = λ z. record { particles = z; boxes = o.boxes; shelved = o.shelved; minted = o.minted; lobby = y; taken = o.taken } in
+        let u : Rest = after (o.particles - 1) in
         let fits : fits_side w u ≡ true =
         side_again l w o u ok.arrays refl (gone_fits l i o.particles ok.long h cap (side_rows l o ok.arrays))
         (ys.fits (both _ _ (side_lobby l o ok.arrays) (ap fits_message ge ∙ value_fits v vi.short))) (shelf_fits_kept l w b o.shelved (side_shelf l o ok.arrays)) in
@@ -123,16 +119,14 @@ module _ (l : List ℕ) (o : Rest) (i : ℕ) (ok : Sane l o) (h : i < o.particle
         ap (λ (x : List ℕ). view_lobby o.lobby ++ (record { status = arrived; chan = channel_in l i; val = x } ∷ [])) vi.view in
         let is = same_core o.minted o.taken (gone_view l i o.particles ok.long h cap) (boxes_kept l w b o.boxes) (ys.view ∙ sent) (shelf_kept l w b o.shelved) in
         subst (λ (z : List ℕ). StepIs (up_by c l o i 0 (channel_in l i)) l o z r) (sym gone.1)
-        (quiet_is _ _ l w o t u r d says (te ∙ ap (λ (x : Rest). put_lobby x y) (se ∙ ap (put_particles o) gone.0)) is (gone_length l i o.particles) fits)
+        (quiet_is _ _ l w o (after n) u r d says (ap after gone.0) is (gone_length l i o.particles) fits)
 
-    pub shelf_did : (p : ℕ) (w : List ℕ) (s t : Rest) → shelves c.wrapper c.side ≡ true → p ≡ o.shelved → o.shelved < 32 →
+    pub shelf_did : (p : ℕ) (w : List ℕ) → shelves c.wrapper c.side ≡ true → p ≡ o.shelved → o.shelved < 32 →
         w ≡ shelf_put l p (view_value v) →
         (n ≡ o.particles - 1) × (m ≡ row_gone w i o.particles) →
-        s ≡ put_particles o n →
-        t ≡ put_shelved s (p + 1) →
-        Says said.Silent t r →
+        Says said.Silent (record { particles = n; boxes = o.boxes; shelved = p + 1; minted = o.minted; lobby = o.lobby; taken = o.taken }) r →
         StepIs (up_by c l o i 0 2) l o m r
-    shelf_did p w s t on pe room we gone se te says =
+    shelf_did p w on pe room we gone says =
         let x : List ℕ = value_in l i in
         let a : List ℕ = shelf_put l o.shelved x in
         let z : List ℕ = row_gone a i o.particles in
@@ -141,7 +135,8 @@ module _ (l : List ℕ) (o : Rest) (i : ℕ) (ok : Sane l o) (h : i < o.particle
         let al : length a ≡ 5184 = shelf_length l o.shelved x ∙ ok.long in
         let few = value_length l o ok i h e in
         let d = core.shelf_done (core_of l o) ok.short_outputs ok.few c i x on (rw (shelf_n l o ok) room) in
-        let u : Rest = put_shelved (put_particles o (o.particles - 1)) (o.shelved + 1) in
+        let after : ℕ → ℕ → Rest = λ c k. record { particles = c; boxes = o.boxes; shelved = k + 1; minted = o.minted; lobby = o.lobby; taken = o.taken } in
+        let u : Rest = after (o.particles - 1) o.shelved in
         let rows_fit : fits_rows a o.particles ≡ true = ap (λ (y : List (List ℕ)). leb o.particles 32 & every fits_row (take o.particles y)) (shelf_rows l o.shelved x) ∙ side_rows l o ok.arrays in
         let fits : fits_side z u ≡ true =
         side_again l z o u ok.arrays refl (gone_fits a i o.particles al h cap rows_fit) (side_lobby l o ok.arrays)
@@ -151,7 +146,7 @@ module _ (l : List ℕ) (o : Rest) (i : ℕ) (ok : Sane l o) (h : i < o.particle
         let hs = shelf_kept a z b (o.shelved + 1) ∙ shelf_view l o.shelved x ok.long room few in
         let words : m ≡ z = gone.1 ∙ ap (λ (y : List ℕ). row_gone y i o.particles) (we ∙ ap (λ (y : ℕ). shelf_put l y (view_value v)) pe ∙ ap (shelf_put l o.shelved) vi.view) in
         subst (λ (y : List ℕ). StepIs (up_by c l o i 0 2) l o y r) (sym words)
-        (quiet_is _ _ l z o t u r d says (te ∙ ap (λ (y : ℕ). put_shelved s (y + 1)) pe ∙ ap (λ (y : Rest). put_shelved y (o.shelved + 1)) (se ∙ ap (put_particles o) gone.0)) (same_core o.minted o.taken ps bs refl hs)
+        (quiet_is _ _ l z o (after n p) u r d says (ap₂ after gone.0 pe) (same_core o.minted o.taken ps bs refl hs)
         (gone_length a i o.particles ∙ shelf_length l o.shelved x) fits)
 
 -- to the lobby: position k is the i that was asked for
@@ -170,10 +165,6 @@ module _ (l : List ℕ) (o : Rest) (i : ℕ) (ok : Sane l o) (c : Setting) (r : 
   lobby_full ch off held h =
       let full : 16 ≤ o.lobby.len = omega (arith, h) in
       refused_is _ l o k r (core.lobby_17 (core_of l o) ok.short_outputs ok.few c i ch (value_in l i) off (rw (lobby_n l o ok held) full) ∙ ap refuse (sym is)) says
-
--- what the check of up found, whatever the setting
-pub up_found : (l : List ℕ) (o : Rest) (i : ℕ) (a : Offer) → ((c : Setting) → OfferIs (settled (up c (core_of l o) i)) i (UpAt l o) a) → (k : ℕ) → a ≡ At k → (k ≡ i) × UpAt l o k
-up_found l o i a w k e = offer_at (settled (up (with_shelf false) (core_of l o) i)) i (UpAt l o) a (w (with_shelf false)) k e
 
 -- up, by the way that the output goes: b is its box
 module _ (l : List ℕ) (o : Rest) (i k : ℕ) (same : k ≡ i) (ok : Sane l o) (c : Setting) (r : RestStep) (m : List ℕ) (a : UpAt l o k) (b : ℕ) (be : b ≡ get_or (row_at l k) 1 0) where

@@ -24,7 +24,8 @@ pub(crate) fn with_copies(l: Lobby, logging: bool, v: Value) -> Lobby
     ensures { LobbyIs (view_lobby l ++ copied (log_if logging) (view_value v)) (l.len + length (log_if logging)) (fits_lobby l & copy_fits v) result }
 {
     if logging {
-        return l.with(Message::new(Status::Leaving, 3, v));
+        l.with(Message::new(Status::Leaving, 3, v))
+    } else {
+        l
     }
-    l
 }

@@ -17,15 +17,7 @@ fn all_may_enter(marks: &[[bool; Sides::MARKS]; Sides::COUNT], words: &[u32]) ->
     requires { length marks.now ≡ length all_sides }
     ensures { result ≡ every (may_enter marks.now) words.now }
 {
-    let mut k: usize = 0;
-    while k < words.len() {
-        if may_enter(marks, words[k]) {
-            k += 1;
-        } else {
-            return false;
-        }
-    }
-    true
+    words.iter().all(|&w| may_enter(marks, w))
 }
 
 // Whether the words are a value that may enter, with room for a message and its copies. The answer is the value length.
@@ -45,8 +37,7 @@ fn enter_offer(
     if !all_may_enter(marks, words) {
         return Offer::Refused(12);
     }
-    let l = o.lobby;
-    lobby_offer(l.len, copies(logging) + 1, words.len())
+    lobby_offer(o.lobby.len, copies(logging) + 1, words.len())
 }
 
 // Enter: copies that leave, then a down message on `in`, are added to the lobby. No word changes.
@@ -62,15 +53,16 @@ pub fn enter(
 {
     let a = enter_offer(rows, o, logging, marks, words);
     let Offer::At(n) = a else {
-        return RestStep::plain(Said::Refused(a.number()), o);
+        return RestStep::refused(a, o);
     };
-    let l = o.lobby;
     let value = Value::of(&words[..n]);
     let m = Message::new(Status::Down, 0, value);
-    let rest = o.with_lobby(with_copies(l, logging, value).with(m));
     RestStep {
         said: Said::In,
         value,
-        rest,
+        rest: Rest {
+            lobby: with_copies(o.lobby, logging, value).with(m),
+            ..o
+        },
     }
 }

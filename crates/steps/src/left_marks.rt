@@ -15,34 +15,15 @@ fn mark_of(w: u32) -> usize
 {
     let side = (w / 65536) as usize;
     let serial = (w % 65536) as usize;
-    if 0 < side {
-        Side::MINTED * (side - 1) + serial
-    } else {
-        serial
-    }
+    Side::MINTED * side.saturating_sub(1) + serial
 }
 
-// Whether the mark at a place is set.
-fn is_set(left: &[bool], m: usize) -> bool
-    requires { m < length left.now }
-    ensures { result ≡ get_or left.now m false }
-{
-    left[m]
-}
-
-// Whether a side's mark at a place is set.
+// Whether the mark at a place is set in one side's marks or more.
 fn is_set_in_any(marks: &[[bool; Sides::MARKS]; Sides::COUNT], m: usize) -> bool
     requires { (length marks.now ≡ length all_sides) × (m < 256 * length all_sides) }
     ensures { result ≡ one_of (λ l. get_or l m false) marks.now }
 {
-    let mut k: usize = 0;
-    while k < Sides::COUNT {
-        if is_set(&marks[k], m) {
-            return true;
-        }
-        k += 1;
-    }
-    false
+    marks.iter().any(|left| left[m])
 }
 
 // Whether w is no minted name, or one that has left by an outlet.
@@ -50,10 +31,7 @@ pub(crate) fn may_enter(marks: &[[bool; Sides::MARKS]; Sides::COUNT], w: u32) ->
     requires { length marks.now ≡ length all_sides }
     ensures { result ≡ may_enter marks.now w }
 {
-    if is_minted(w) {
-        return is_set_in_any(marks, mark_of(w));
-    }
-    true
+    !is_minted(w) || is_set_in_any(marks, mark_of(w))
 }
 
 // Marks w where it is a minted name.
@@ -62,8 +40,7 @@ fn mark(left: &mut [bool], w: u32)
     ensures { left.new ≡ mark1 left.old w }
 {
     if is_minted(w) {
-        let m = mark_of(w);
-        left[m] = true;
+        left[mark_of(w)] = true;
     }
 }
 
@@ -72,10 +49,7 @@ pub fn mark_all(left: &mut [bool], v: Value)
     requires { (length left.old ≡ 256 * length all_sides) × (v.len ≤ 16) }
     ensures { left.new ≡ mark_all left.old (view_value v) }
 {
-    let n = v.len;
-    let mut k: usize = 0;
-    while k < n {
-        mark(left, v.words[k]);
-        k += 1;
+    for &w in &v.words[..v.len] {
+        mark(left, w);
     }
 }

@@ -3,6 +3,7 @@
 #![tactic(auto)]
 
 ghost use Rattle.std.specs.Prelude.{◌≡◌};
+ghost use Rattle.steps.specs.declared.Said.TheVariants.{Refused};
 ghost use Rattle.steps.specs.Asked.{Says, number_of};
 
 use sides::Rest;
@@ -23,6 +24,7 @@ pub use particle_steps::{descend, up};
 pub use take_step::take;
 
 // A step's label, or the number of its refusal.
+// Stays one enum of five answers: `said_of` gives document 01's label or number of each; a refusal is an answer, and the run goes on.
 #[derive(Clone, Copy)]
 pub enum Said {
     In,
@@ -40,6 +42,7 @@ pub struct RestStep {
 }
 
 // What a check of a step answers: the position or the value length that the step goes on with, or the number of a refusal.
+// Stays an enum of numbers, taken out by let .. else, with the refusal beside the old rest: document 01 names this form for refused steps.
 #[derive(Clone, Copy)]
 pub enum Offer {
     At(usize),
@@ -52,6 +55,7 @@ impl Offer {
         ensures { result ≡ number_of self }
     {
         match self {
+            // Stays 0 for no refusal: `number_of` of specs/Asked.antt, which the contract of `RestStep::refused` names, has it so.
             Offer::At(_) => 0,
             Offer::Refused(n) => n,
         }
@@ -65,5 +69,12 @@ impl RestStep {
     {
         let value = Value::none();
         RestStep { said, value, rest }
+    }
+
+    // The refusal that a check answered, beside the rest that was there.
+    pub fn refused(a: Offer, rest: Rest) -> Self
+        ensures { Says (Refused (number_of a)) rest result }
+    {
+        Self::plain(Said::Refused(a.number()), rest)
     }
 }

@@ -23,11 +23,7 @@ fn up_offer(rows: &[u32], o: Rest, i: usize) -> Offer
     if o.particles <= i {
         return Offer::Refused(10);
     }
-    if word_at(rows, i, Row::OUTPUT) != 1 {
-        return Offer::Refused(13);
-    }
-    let g = tag_at(rows, i);
-    if !is_to_parent(g) {
+    if word_at(rows, i, Row::OUTPUT) != 1 || !is_to_parent(tag_at(rows, i)) {
         return Offer::Refused(13);
     }
     Offer::At(i)
@@ -40,11 +36,16 @@ fn to_shelf(rows: &mut [u32], o: Rest, i: usize) -> RestStep
 {
     let a = shelf_offer(o.shelved);
     let Offer::At(h) = a else {
-        return RestStep::plain(Said::Refused(a.number()), o);
+        return RestStep::refused(a, o);
     };
     put_shelf(rows, h, value_at(rows, i, 0));
     let n = remove_row(rows, i, o.particles);
-    RestStep::plain(Said::Silent, o.with_particles(n).with_shelved(h + 1))
+    let rest = Rest {
+        particles: n,
+        shelved: h + 1,
+        ..o
+    };
+    RestStep::plain(Said::Silent, rest)
 }
 
 // Output i goes out of box 0 to the lobby.
@@ -52,15 +53,19 @@ fn to_lobby(rows: &mut [u32], o: Rest, i: usize) -> RestStep
     requires { (Sane rows.old o) × (i < o.particles) × (get_or (row_at rows.old i) 0 0 ≡ 1) }
     ensures { (c : Setting) → goes_to_shelf c (channel_in rows.old i) ≡ false → StepIs (up_by c rows.old o i 0 (channel_in rows.old i)) rows.old o rows.new result }
 {
-    let l = o.lobby;
-    let a = lobby_offer(l.len, 1, i);
+    let a = lobby_offer(o.lobby.len, 1, i);
     let Offer::At(k) = a else {
-        return RestStep::plain(Said::Refused(a.number()), o);
+        return RestStep::refused(a, o);
     };
     let ch = word_at(rows, k, Row::CHANNEL);
     let m = Message::new(Status::Arrived, ch, value_at(rows, k, 0));
     let n = remove_row(rows, k, o.particles);
-    RestStep::plain(Said::Silent, o.with_particles(n).with_lobby(l.with(m)))
+    let rest = Rest {
+        particles: n,
+        lobby: o.lobby.with(m),
+        ..o
+    };
+    RestStep::plain(Said::Silent, rest)
 }
 
 // Output i goes out of box b, another than box 0, to that box's parent.
@@ -80,26 +85,16 @@ pub fn up(shelving: bool, rows: &mut [u32], o: Rest, i: usize) -> RestStep
 {
     let a = up_offer(rows, o, i);
     let Offer::At(k) = a else {
-        return RestStep::plain(Said::Refused(a.number()), o);
+        return RestStep::refused(a, o);
     };
-    let b = wide(word_at(rows, k, Row::BOX));
+    let b = word_at(rows, k, Row::BOX) as usize;
     if 0 < b {
         return to_box(rows, o, k, b);
     }
-    if shelving {
-        if word_at(rows, k, Row::CHANNEL) == 2 {
-            return to_shelf(rows, o, k);
-        }
-        return to_lobby(rows, o, k);
+    if shelving && word_at(rows, k, Row::CHANNEL) == 2 {
+        return to_shelf(rows, o, k);
     }
     to_lobby(rows, o, k)
-}
-
-// A word as a box.
-fn wide(x: u32) -> usize
-    ensures { result ≡ x }
-{
-    x as usize
 }
 
 // Whether particle i is an output whose tag names box j, a child of its box.
@@ -107,23 +102,14 @@ fn descend_offer(rows: &[u32], o: Rest, i: usize, j: usize) -> Offer
     requires { Sane rows.now o }
     ensures { OfferIs (settled (descend (core_of rows.now o) i j)) i (DescendAt rows.now o j) result }
 {
-    if o.particles <= i {
+    if o.particles <= i || o.boxes <= j {
         return Offer::Refused(10);
     }
-    if o.boxes <= j {
-        return Offer::Refused(10);
-    }
-    if word_at(rows, i, Row::OUTPUT) != 1 {
-        return Offer::Refused(13);
-    }
-    if j == 0 {
-        return Offer::Refused(13);
-    }
-    if box_parent(rows, j) != wide(word_at(rows, i, Row::BOX)) {
-        return Offer::Refused(13);
-    }
-    let g = tag_at(rows, i);
-    if !is_to_child(g, box_name(rows, j)) {
+    if word_at(rows, i, Row::OUTPUT) != 1
+        || j == 0
+        || box_parent(rows, j) != word_at(rows, i, Row::BOX) as usize
+        || !is_to_child(tag_at(rows, i), box_name(rows, j))
+    {
         return Offer::Refused(13);
     }
     Offer::At(i)
@@ -136,7 +122,7 @@ pub fn descend(rows: &mut [u32], o: Rest, i: usize, j: usize) -> RestStep
 {
     let a = descend_offer(rows, o, i, j);
     let Offer::At(k) = a else {
-        return RestStep::plain(Said::Refused(a.number()), o);
+        return RestStep::refused(a, o);
     };
     move_output(rows, k, j, Tag::FromParent);
     RestStep::plain(Said::Silent, o)

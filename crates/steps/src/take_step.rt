@@ -34,12 +34,10 @@ fn take_offer(
     if shelved <= i {
         return Offer::Refused(10);
     }
-    let t = o.taken;
-    if t[taken_at(source, i)] {
+    if o.taken[taken_at(source, i)] {
         return Offer::Refused(13);
     }
-    let l = o.lobby;
-    lobby_offer(l.len, 1, i)
+    lobby_offer(o.lobby.len, 1, i)
 }
 
 // Take: shelf i of the source, whose words are lent too, is marked and added to the lobby as down on `mid`. No word changes.
@@ -56,12 +54,15 @@ pub fn take(
 {
     let a = take_offer(rows, o, shelf, shelved, source, i);
     let Offer::At(k) = a else {
-        return RestStep::plain(Said::Refused(a.number()), o);
+        return RestStep::refused(a, o);
     };
-    let l = o.lobby;
     let m = Message::new(Status::Down, 2, shelf_value(shelf, k));
-    let p = taken_at(source, k);
-    let mut t = o.taken;
-    t[p] = true;
-    RestStep::plain(Said::Silent, o.with_lobby(l.with(m)).with_taken(t))
+    let mut taken = o.taken;
+    taken[taken_at(source, k)] = true;
+    let rest = Rest {
+        lobby: o.lobby.with(m),
+        taken,
+        ..o
+    };
+    RestStep::plain(Said::Silent, rest)
 }

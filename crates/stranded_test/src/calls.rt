@@ -2,8 +2,16 @@
 use interpreter::{Stepped, load, step, stranded};
 use listing::TooShort;
 use sides::State;
-use test_output::{number, word, write};
-use test_schedules::shown::words;
+use test_output::{number, word, write, write_words};
+
+// The kind of a step by which words enter.
+pub const ENTER: u32 = 1;
+
+// The kind of a step by which a message goes up.
+pub const UP: u32 = 3;
+
+// The kind of a step by which a message passes.
+pub const PASS: u32 = 6;
 
 // The words where they are lent, else none.
 fn lent_if(lent: bool, words: &[u32]) -> &[u32] {
@@ -17,7 +25,7 @@ pub fn start<'a>(wrapper: u32, nodes1: &'a [u32], nodes2: &'a [u32], pool: &[u32
     a.state
 }
 
-// A step with one position. What enters, kind 1, is the pool.
+// A step with one position. What enters is the pool.
 pub fn stepped<'a>(
     wrapper: u32,
     nodes1: &'a [u32],
@@ -29,7 +37,7 @@ pub fn stepped<'a>(
     i: usize,
 ) -> Stepped {
     let pool2 = lent_if(!nodes2.is_empty(), pool);
-    let given = lent_if(kind == 1, pool);
+    let given = lent_if(kind == ENTER, pool);
     step(
         wrapper,
         [nodes1, nodes2],
@@ -108,7 +116,7 @@ pub fn line<'a>(
     if let Some(lent) = list.get_mut(..room) {
         count(stranded(wrapper, [nodes1, nodes2], [pool, pool2], s, side, lent));
         write(b",");
-        words(lent);
+        write_words(lent);
         write(b"\n");
     }
 }

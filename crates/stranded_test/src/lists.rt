@@ -1,5 +1,5 @@
 // Lent lists that are too short, exactly long enough and longer, for no stranded message, for one, for some and for sixteen.
-use crate::calls::{after, line, start};
+use crate::calls::{ENTER, UP, after, line, start};
 use crate::changes::with_all_arrived;
 use sides::State;
 
@@ -50,13 +50,13 @@ fn then(nodes: &[u32], pool: &[u32], s: State, kind: u32) -> State {
 pub fn lines(nodes: &[u32], pool: &[u32]) {
     let none = &nodes[..0];
     let s = start(1, nodes, none, pool);
-    let out = then(nodes, pool, s, 3);
+    let out = then(nodes, pool, s, UP);
     none_stranded(nodes, pool, out);
-    let one = then(nodes, pool, out, 3);
+    let one = then(nodes, pool, out, UP);
     one_stranded(nodes, pool, one);
-    let two = then(nodes, pool, one, 3);
-    let entered = then(nodes, pool, two, 1);
-    let three = then(nodes, pool, entered, 3);
+    let two = then(nodes, pool, one, UP);
+    let entered = then(nodes, pool, two, ENTER);
+    let three = then(nodes, pool, entered, UP);
     three_stranded(nodes, pool, three);
     sixteen_stranded(nodes, pool, s);
 }

@@ -1,5 +1,5 @@
 // What is stranded in lobbies that load and steps give: only what arrived on another channel than `out`, and only on a side that is there.
-use crate::calls::{after, line, start};
+use crate::calls::{ENTER, PASS, UP, after, line, start};
 use sides::State;
 
 // A line: a side makes a step, and is asked.
@@ -20,18 +20,28 @@ fn ask<'a>(
 
 // One message: it goes up on `out`, `in`, `mid` or a new name, or enters. Side 1's on `mid` goes to the shelf under the pipeline.
 fn one<'a>(wrapper: u32, nodes1: &'a [u32], nodes2: &'a [u32], pool: &[u32], s: State, side: u32) {
-    ask(b"up on out", wrapper, nodes1, nodes2, pool, s, 3, side, 0);
-    ask(b"up on in", wrapper, nodes1, nodes2, pool, s, 3, side, 1);
-    ask(b"up on mid", wrapper, nodes1, nodes2, pool, s, 3, side, 2);
-    ask(b"up on new", wrapper, nodes1, nodes2, pool, s, 3, side, 3);
-    ask(b"enter", wrapper, nodes1, nodes2, pool, s, 1, side, 0);
+    ask(b"up on out", wrapper, nodes1, nodes2, pool, s, UP, side, 0);
+    ask(b"up on in", wrapper, nodes1, nodes2, pool, s, UP, side, 1);
+    ask(b"up on mid", wrapper, nodes1, nodes2, pool, s, UP, side, 2);
+    ask(b"up on new", wrapper, nodes1, nodes2, pool, s, UP, side, 3);
+    ask(b"enter", wrapper, nodes1, nodes2, pool, s, ENTER, side, 0);
 }
 
 // One that arrived on `out`, and another behind it; then the one leaving.
 fn two<'a>(wrapper: u32, nodes1: &'a [u32], nodes2: &'a [u32], pool: &[u32], s: State, side: u32) {
-    let t = after(wrapper, nodes1, nodes2, pool, s, 3, side, 0);
-    ask(b"out, in", wrapper, nodes1, nodes2, pool, t, 3, side, 0);
-    ask(b"out, pass", wrapper, nodes1, nodes2, pool, t, 6, side, 0);
+    let t = after(wrapper, nodes1, nodes2, pool, s, UP, side, 0);
+    ask(b"out, in", wrapper, nodes1, nodes2, pool, t, UP, side, 0);
+    ask(
+        b"out, pass",
+        wrapper,
+        nodes1,
+        nodes2,
+        pool,
+        t,
+        PASS,
+        side,
+        0,
+    );
 }
 
 // A side's lobbies.
@@ -77,7 +87,7 @@ fn absent_logged(nodes: &[u32], pool: &[u32]) {
     let s = stranded_on_1(3, nodes, none, pool);
     line(b"one on side 1", 3, nodes, none, pool, s, 1, 4);
     line(b"one on side 1", 3, nodes, none, pool, s, 2, 4);
-    let t = after(3, nodes, none, pool, s, 1, 1, 0);
+    let t = after(3, nodes, none, pool, s, ENTER, 1, 0);
     line(b"one on side 1, enter", 3, nodes, none, pool, t, 1, 4);
 }
 
@@ -89,13 +99,13 @@ pub fn stranded_on_1<'a>(
     pool: &[u32],
 ) -> State {
     let s = start(wrapper, nodes1, nodes2, pool);
-    after(wrapper, nodes1, nodes2, pool, s, 3, 1, 1)
+    after(wrapper, nodes1, nodes2, pool, s, UP, 1, 1)
 }
 
 // Under the pipeline, both sides' messages on `in` are up.
 pub fn stranded_on_both(nodes: &[u32], pool: &[u32]) -> State {
     let s = stranded_on_1(2, nodes, nodes, pool);
-    after(2, nodes, nodes, pool, s, 3, 2, 1)
+    after(2, nodes, nodes, pool, s, UP, 2, 1)
 }
 
 // The sides that are there, then those that are not.

@@ -1,27 +1,13 @@
 // A refused step gives the side as asked, length 0, and the state before.
-use crate::calls::{begin, start, stepped};
+use crate::calls::{ENTER, begin, start, stepped};
 use crate::changes::with_minted;
 use sides::State;
 use steps::Said;
-use test_output::{number, same_state, word, write};
-
-// A label, or a refusal with its number.
-fn say(said: Said) {
-    match said {
-        Said::In => write(b" in"),
-        Said::Out => write(b" out"),
-        Said::Log => write(b" log"),
-        Said::Silent => write(b" tau"),
-        Said::Refused(n) => {
-            write(b" no");
-            word(n);
-        },
-    }
-}
+use test_output::{number, same_state, word, write, write_said};
 
 // What an answer holds, and whether the state after it is the one before.
 fn answer(said: Said, side: u32, len: usize, kept: bool) {
-    say(said);
+    write_said(said);
     word(side);
     write(b" length");
     number(len);
@@ -39,7 +25,7 @@ fn line<'a>(
     side: u32,
 ) {
     begin(b"enter", name, wrapper, side);
-    let r = stepped(wrapper, nodes1, nodes2, pool, s, 1, side, 0);
+    let r = stepped(wrapper, nodes1, nodes2, pool, s, ENTER, side, 0);
     let said = r.said;
     let v = r.value;
     let t = r.state;

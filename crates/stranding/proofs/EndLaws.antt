@@ -35,6 +35,8 @@ use Rattle.listing.specs.declared.TooShort.{TooShort}
 use Rattle.std.specs.Prelude.{Result}
 use Rattle.listing.specs.Listing.{listed_of, ListedIs}
 use Rattle.stranding.specs.declared.AfterError.{AfterError}
+use Rattle.loading.specs.declared.LoadRefusal.{LoadRefusal}
+use Rattle.loading.specs.Loading.{told_by}
 use Rattle.stranding.specs.declared.AfterError.TheVariants as error
 use Rattle.stranding.specs.Stranding.{behind, Ended, broken_off, told, positions_in, positions_from, stranded_after, after_of, AfterIs}
 use Rattle.stranding.specs.Ending.{lobbies_in, lobby_in, loaded_behind, EndIs}
@@ -131,9 +133,9 @@ at_end b (some s) n (Some l) is = ap (λ (m : List Message). told (stranded_from
 
 -- of a load and some steps
 module _ (b : Composition) (ws : List ℕ) (n : ℕ) (lent : List ℕ) where
-  pub after_refused : (k i m : ℕ) → load b ≡ refused (record { number = k; side = i; node = m }) → AfterIs (stranded_after b ws n) lent lent (Err (error.Unloaded k i m))
+  pub after_refused : (f : LoadRefusal) → load b ≡ refused (told_by f) → AfterIs (stranded_after b ws n) lent lent (Err (error.Unloaded f))
   unfolding stranded_after
-  after_refused k i m e = after_by (ap (positions_from b ws n) e) (record { answer = refl; words = refl })
+  after_refused f e = after_by (ap (positions_from b ws n) e) (record { answer = refl; words = refl })
 
   module _ (h : is_ok (load b) ≡ true) where
     ended : (r : rust.Option Lobby) → EndIs b (loaded_behind b ws (load b)) n r → stranded_after b ws n ≡ ended_by r

@@ -10,6 +10,7 @@ use Rattle.model.specs.Runs.{after_all}
 use Rattle.model.specs.Stranded.{stranded_all}
 use Rattle.format.specs.Words.{steps_of}
 use Rattle.listing.specs.Listing.{listing, listed_on}
+use Rattle.loading.specs.Loading.{told_by}
 use Rattle.stranding.specs.declared.AfterError.{AfterError}
 use Rattle.stranding.specs.declared.AfterError.TheVariants.{Unloaded, BrokenOff, TooShort}
 
@@ -53,7 +54,7 @@ lent_after (told ps) lent = listed_on ps lent
 -- what the result says
 abbrev pub after_of : Result ℕ AfterError → Ended (Res ℕ)
 after_of (Ok n) = told (done n)
-after_of (Err (Unloaded k i m)) = unloaded (record { number = k; side = i; node = m })
+after_of (Err (Unloaded f)) = unloaded (told_by f)
 after_of (Err BrokenOff) = broken_off
 after_of (Err TooShort) = told (refuse 22)
 

@@ -39,6 +39,7 @@ pub(crate) fn end_loaded(
     let mut marks = [[false; Sides::MARKS]; Sides::COUNT];
     let mut standing = begin_all(wrapper, nodes, pools, &mut rows);
     let mut p: usize = 0;
+    // Stays a loop by places: `successors` would give the ends of the records, and not that the last one breaks off.
     while p < steps.len() {
         let e = record_end(steps, p, 4)?;
         standing.make_step(wrapper, nodes, pools, &mut rows, &mut marks, steps, p);

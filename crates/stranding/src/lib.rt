@@ -2,24 +2,34 @@
 // positions of a side put into a lent list.
 #![tactic(auto)]
 
-ghost use Rattle.std.specs.Prelude.{map};
+ghost use Rattle.std.specs.Prelude.{◌≡◌, map};
 ghost use Rattle.wrappers.specs.Compositions.{composition};
+ghost use Rattle.stranding.specs.declared.AfterError.TheVariants.{Unloaded};
 ghost use Rattle.stranding.specs.Stranding.{stranded_after, AfterIs};
 
 use ended_steps::end_loaded;
 use listing::list_stranded;
-use loading::{Outcome, load_verdict};
+use loading::{LoadRefusal, load_verdict};
 use sides::Sides;
 
 mod ended_steps; // the steps of a list of words, and a side's lobby behind them
 
-// Why nothing is put into the lent list: number, side and node of load's refusal; that the steps break off; or that the list is too short,
-// which is refusal 22.
+// Why nothing is put into the lent list: load refuses; the steps break off; or the list is too short, which is refusal 22.
+// Stays beside `RunError` of running: what is too short there are lent words, which have no number.
 #[derive(Clone, Copy, PartialEq, Eq)]
 pub enum AfterError {
-    Unloaded(usize, u32, usize),
+    Unloaded(LoadRefusal),
     BrokenOff,
     TooShort,
+}
+
+impl From<LoadRefusal> for AfterError {
+    ghost from_gives = { λ f e. e ≡ Unloaded f };
+
+    // Load's refusal, as it is.
+    fn from(f: LoadRefusal) -> AfterError {
+        AfterError::Unloaded(f)
+    }
 }
 
 // The stranded positions of a side after a load and a list of steps, smallest first, at the start of the lent list, whose other words
@@ -34,9 +44,7 @@ pub fn stranded_after(
 ) -> Result<usize, AfterError>
     ensures { AfterIs (stranded_after (composition wrapper (map (λ x. x.now) nodes.entry) (map (λ x. x.now) pools.entry)) steps.now side) out.old out.new result }
 {
-    if let Outcome::Refused(number, side, node) = load_verdict(wrapper, nodes, pools) {
-        return Err(AfterError::Unloaded(number, side, node));
-    }
+    load_verdict(wrapper, nodes, pools)?;
     let Some(lobby) = end_loaded(wrapper, nodes, pools, steps, side) else {
         return Err(AfterError::BrokenOff);
     };

@@ -41,9 +41,9 @@ module _ (f : ℕ → ℕ → Bool) (ns pool : List ℕ) (n : ℕ) (x : Node) (i
       bad z = let y : ◌≡◌ {A = ℕ} 0 1 = cc in omega arith
   by_kind (suc (suc (suc (suc (suc (suc (suc k))))))) a b c d (inr h) = rw (h (field (table ns pool) n 1), h (field (table ns pool) n 2), h (field (table ns pool) n 3), h (field (table ns pool) n 4))
 
-  pub fields_are : (leb x.kind 6 ≡ true) ⊎ ((w : ℕ) → f 0 w ≡ true) → fields_ok (table ns pool) f n ≡ four_fields f x
+  pub fields_are : (leb x.word 6 ≡ true) ⊎ ((w : ℕ) → f 0 w ≡ true) → fields_ok (table ns pool) f n ≡ four_fields f x
   unfolding four_fields
-  fields_are o = rw (i.f1, i.f2, i.f3, i.f4, ← i.k) (by_kind x.kind 0 0 0 0 o ∙ rw (and_true (f (use_of x 3) (field (table ns pool) n 4))))
+  fields_are o = rw (i.f1, i.f2, i.f3, i.f4, ← i.k) (by_kind x.word 0 0 0 0 o ∙ rw (and_true (f (use_of x 3) (field (table ns pool) n 4))))
 
 -- a test that says a, and the next test where it is asked
 module _ {a q v : Bool} (b : Bool) where
@@ -96,7 +96,7 @@ module _ (ns pool : List ℕ) (n : ℕ) (x : Node) (i : NodeIs ns n x) (m : ℕ)
 
   pub child_is : child_times (table ns pool) m n ≡ child_of x m
   unfolding child_times
-  child_is = rw (i.f1, i.f2, i.f3, i.f4, ← i.k) (child_kind x.kind)
+  child_is = rw (i.f1, i.f2, i.f3, i.f4, ← i.k) (child_kind x.word)
 
   pub times_more : (old r : List ℕ) → m < length old → Counted old (child_of x) r → get_or old m 0 ≡ min 2 (times_child (table ns pool) m n) → get_or r m 0 ≡ min 2 (times_child (table ns pool) m (n + 1))
   unfolding times_child
@@ -161,19 +161,19 @@ bad_start f c = ap (λ (k : ℕ). first_bad f k 0) same
 
 pub kind_is : (ns pool : List ℕ) (n : ℕ) (x : Node) → NodeIs ns n x → kind_ok x ≡ check2 (table ns pool) n
 unfolding kind_ok check2 ◌&◌
-kind_is ns pool n x i = go (leb x.kind 6) refl ∙ ap (λ (j : ℕ). leb j 6 & fields_ok (table ns pool) unused_ok n) i.k
+kind_is ns pool n x i = go (leb x.word 6) refl ∙ ap (λ (j : ℕ). leb j 6 & fields_ok (table ns pool) unused_ok n) i.k
   where
-    go : (b : Bool) → leb x.kind 6 ≡ b → b & four_fields unused_ok x ≡ b & fields_ok (table ns pool) unused_ok n
+    go : (b : Bool) → leb x.word 6 ≡ b → b & four_fields unused_ok x ≡ b & fields_ok (table ns pool) unused_ok n
     go true e = sym (fields_are unused_ok ns pool n x i (inl e))
     go false e = refl
 
-pub kind_known : (x : Node) (r : Bool) → x.kind ≤ 6 → r ≡ four_fields unused_ok x → r ≡ kind_ok x
+pub kind_known : (x : Node) (r : Bool) → x.word ≤ 6 → r ≡ four_fields unused_ok x → r ≡ kind_ok x
 unfolding kind_ok ◌&◌
-kind_known x r h e = e ∙ rw (le-leb x.kind 6 h)
+kind_known x r h e = e ∙ rw (le-leb x.word 6 h)
 
-pub kind_unknown : (x : Node) → 6 < x.kind → leb x.kind 6 ≡ kind_ok x
+pub kind_unknown : (x : Node) → 6 < x.word → leb x.word 6 ≡ kind_ok x
 unfolding kind_ok ◌&◌
-kind_unknown x h = rw (lt-leb x.kind 6 h)
+kind_unknown x h = rw (lt-leb x.word 6 h)
 
 pub names_are : (ns pool : List ℕ) (n : ℕ) (x : Node) → NodeIs ns n x → four_fields name_ok x ≡ check4 (table ns pool) n
 unfolding check4 ◌&◌

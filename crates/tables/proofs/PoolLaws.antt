@@ -12,7 +12,8 @@ use Rattle.model.specs.Basics.{Res, refuse, done, is_done, or_else}
 use Rattle.model.specs.Values.{binders, distinct, items, at, is_pattern_leaf, is_public}
 use Rattle.model.specs.Checks.{pattern_ok}
 use Rattle.values.specs.Span.{leaf_of, size_of}
-use Rattle.std.specs.Option.{is_some}
+use Rattle.std.specs.Option.{is_some, MatchOption}
+use Rattle.std.specs.declared.option.Option.{Option}
 use Rattle.std.specs.declared.option.Option.TheVariants.{None, Some}
 use Rattle.values.specs.declared.Leaf.TheVariants.{Public, Pattern}
 
@@ -109,3 +110,11 @@ pat_at pool p k e = go (at is_pattern_leaf pool p) refl e
     go (done ws) a z =
         let n : length ws ≡ k = cc in
         ap (λ (x : List ℕ). distinct (binders x)) (sym ((at_words is_pattern_leaf pool p ws a).0 ∙ ap (λ (j : ℕ). take j (drop p pool)) n))
+
+-- the same of what was found, where what a test says of the words is P
+pub pattern_by : (pool : List ℕ) (p : ℕ) (P : ℕ → Type 0) (o : Option ℕ) (r : Bool) → o ≡ size_of (at (leaf_of Pattern) pool p) → MatchOption o (r ≡ false) P →
+    ((k : ℕ) → P k → r ≡ distinct (binders (take (p + k - p) (drop p pool)))) → r ≡ pattern_ok pool p
+pattern_by pool p P None r e h f = h ∙ pat_bad pool p e
+pattern_by pool p P (Some k) r e h f =
+    let n : p + k - p ≡ k = omega arith in
+    f k h ∙ ap (λ (j : ℕ). distinct (binders (take j (drop p pool)))) n ∙ pat_at pool p k e

@@ -2,6 +2,7 @@
 use mathlib.Core.Path.{◌≡◌, refl, sym, ap, ap₂, ◌∙◌}
 use mathlib.Core.Bool.{Bool, true, false, cond}
 use mathlib.Core.List.{List}
+use mathlib.Core.Logic.{◌⊎◌}
 use Prim.Native.Nat.{ℕ, ◌+◌, ◌<◌, ◌≤◌, min}
 use native.Mathlib.Omega.{arith}
 use borrow.Author.Tests.{le-leb, lt-leb, lt-ltb, le-ltb, ltb-true, ltb-false}
@@ -47,25 +48,25 @@ module _ (ns pool : List ℕ) (n k : ℕ) (w : Walks (table ns pool) n) (x : Nod
   abbrev t : Table
   t = table ns pool
 
-  pub over_par : x.kind ≡ 1 → over_at t n k ≡ min (node_if_over k n) (min (over_at t x.a k) (over_at t x.b k))
+  pub over_par : x.word ≡ 1 → over_at t n k ≡ min (node_if_over k n) (min (over_at t x.a k) (over_at t x.b k))
   unfolding build over over_at node_if_over
   over_par e = rw (i.f1, i.f2) (at_kind (over k) ns pool n w x i 1 e)
 
-  pub over_box : x.kind ≡ 2 → over_at t n k ≡ min (node_if_over k n) (over_at t x.b k)
+  pub over_box : x.word ≡ 2 → over_at t n k ≡ min (node_if_over k n) (over_at t x.b k)
   unfolding build over over_at node_if_over
   over_box e = rw i.f2 (at_kind (over k) ns pool n w x i 2 e)
 
-  pub over_new : x.kind ≡ 3 → over_at t n k ≡ min (node_if_over k n) (over_at t x.b (k + 1))
+  pub over_new : x.word ≡ 3 → over_at t n k ≡ min (node_if_over k n) (over_at t x.b (k + 1))
   unfolding build over over_at node_if_over
   over_new e = rw i.f2 (at_kind (over k) ns pool n w x i 3 e)
 
-  pub over_inp : 5 ≤ x.kind → over_at t n k ≡ min (node_if_over k n) (over_at t x.d (k + length (pattern_names pool x.c)))
+  pub over_inp : 5 ≤ x.word → over_at t n k ≡ min (node_if_over k n) (over_at t x.d (k + length (pattern_names pool x.c)))
   unfolding build over over_at node_if_over
   over_inp h = rw (i.f3, i.f4) (at_input (over k) ns pool n w x i _ (λ e. refl) h)
 
-  pub over_leaf : ((x.kind ≡ 1) → ⊥) → ((x.kind ≡ 2) → ⊥) → ((x.kind ≡ 3) → ⊥) → x.kind < 5 → node_if_over k n ≡ over_at t n k
+  pub over_leaf : (x.word ≡ 0) ⊎ (x.word ≡ 4) → node_if_over k n ≡ over_at t n k
   unfolding build over over_at node_if_over
-  over_leaf a b c h = sym (at_leaf (over k) ns pool n w x i (node_if_over k n) refl refl a b c h)
+  over_leaf o = sym (at_leaf (over k) ns pool n w x i (node_if_over k n) refl refl o)
 
 -- check 6
 pub scope_all : (t : Table) (r : Option ℕ) → r ≡ node_of (over_at t 0 0) → lowest_of r ≡ over_all t

@@ -23,7 +23,7 @@ TestsFields says p = (u : Use) (w : ℕ) (b : Bool) → says u w b → b ≡ p (
 
 -- how a node uses its field i + 1
 abbrev pub use_of : Node → ℕ → ℕ
-use_of x i = get_or (uses x.kind) i 0
+use_of x i = get_or (uses x.word) i 0
 
 -- a test of all four fields of a node, by their use and their word
 unfoldable pub four_fields : (ℕ → ℕ → Bool) → Node → Bool
@@ -39,7 +39,7 @@ unused_ok u w = implies (eqb u 0) (eqb w 0)
 
 -- check 2 of a node: a known kind, and unused fields 0
 unfoldable pub kind_ok : Node → Bool
-kind_ok x = leb x.kind 6 & four_fields unused_ok x
+kind_ok x = leb x.word 6 & four_fields unused_ok x
 
 -- check 3 of a field of node n, of c: no child, or one above n and in the table
 abbrev pub child_ok : (n c : ℕ) → ℕ → ℕ → Bool

@@ -16,6 +16,7 @@ use scopes::names::names_in_force;
 use scopes::unfolded::unfolded_at;
 use tables::checks::check;
 use tables::name_set::NameSet;
+use test_output::{number, write};
 
 // What the bytes belong to.
 #[derive(Clone, Copy)]
@@ -33,16 +34,6 @@ struct Reading {
     number: Option<u32>,
     nodes: usize,
     pool: usize,
-}
-
-fn write(text: &[u8]) {
-    io::write_all(1, text);
-}
-
-// A blank and a number.
-fn write_number(n: usize) {
-    write(b" ");
-    io::print_decimal(1, n as u64);
 }
 
 // One word more, where there is room.
@@ -71,14 +62,14 @@ fn write_scopes(nodes: &[u32], pool: &[u32])
     requires { Passes (table nodes.now pool.now) }
 {
     let u = unfolded_at(nodes, pool, 0);
-    write_number(u.particles);
-    write_number(u.boxes);
-    write_number(u.names);
+    number(u.particles);
+    number(u.boxes);
+    number(u.names);
     let c = nodes.len() / 5;
     if 0 < c {
         let top = names_in_force(nodes, pool, c - 1).top;
         if top <= 8 {
-            write_number(8 - top);
+            number(8 - top);
         }
     }
     let free = clear(nodes, pool, 0, twenty());
@@ -93,8 +84,8 @@ fn report(nodes: &[u32], pool: &[u32]) {
         }
         Err(f) => {
             write(b": refused");
-            write_number(f.cause.number());
-            write_number(f.node);
+            number(f.cause.number());
+            number(f.node);
             write(b"\n");
         }
     }

@@ -3,28 +3,16 @@ use super::puts::put;
 use crate::Change;
 use interpreter::{Stepped, step};
 use sides::State;
-use steps::Said;
-use test_output::{same_state, word, write};
+use test_output::{same_state, write, write_said};
 
-// What a step says.
-fn say(said: Said) {
-    match said {
-        Said::In => write(b" in"),
-        Said::Out => write(b" out"),
-        Said::Log => write(b" log"),
-        Said::Silent => write(b" tau"),
-        Said::Refused(n) => {
-            write(b" no");
-            word(n);
-        }
-    }
-}
+// The kind of step that is made.
+const ENTER: u32 = 1;
 
 // What a step says, and whether the state that comes back is the one that was passed.
 fn answer(s: State, r: Stepped) {
     let said = r.said;
     let t = r.state;
-    say(said);
+    write_said(said);
     write(if same_state(s, t) {
         b" kept"
     } else {
@@ -47,7 +35,7 @@ pub fn entered<'n, 'p>(
         [nodes1, nodes2],
         [pool1, pool2],
         s,
-        1,
+        ENTER,
         side,
         0,
         0,

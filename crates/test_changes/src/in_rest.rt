@@ -6,21 +6,11 @@ use crate::Change;
 use sides::{Message, Rest, Status};
 use values::Value;
 
-fn with_boxes(mut r: Rest, n: usize) -> Rest {
-    r.boxes = n;
-    r
-}
-
-fn with_minted(mut r: Rest, n: usize) -> Rest {
-    r.minted = n;
-    r
-}
-
 // Lobby message 0.
 fn with_message(r: Rest, status: Status, channel: u32, v: Value) -> Rest {
-    let mut l = r.lobby;
-    l.msgs[0] = Message::new(status, channel, v);
-    r.with_lobby(l)
+    let mut lobby = r.lobby;
+    lobby.msgs[0] = Message::new(status, channel, v);
+    Rest { lobby, ..r }
 }
 
 // The same, arrived on 5.
@@ -44,18 +34,21 @@ pub(crate) fn mark(marks: &mut [bool], at: usize) {
 fn marked_taken(r: Rest, at: usize) -> Rest {
     let mut taken = r.taken;
     mark(&mut taken, at);
-    r.with_taken(taken)
+    Rest { taken, ..r }
 }
 
 // 0 to 9.
 fn counted(r: Rest, what: usize, n: usize) -> Rest {
     match what {
-        0 => r.with_particles(n),
-        4 => with_boxes(r, n),
-        5 => r.with_lobby(lobby_of(n, 0)),
+        0 => Rest { particles: n, ..r },
+        4 => Rest { boxes: n, ..r },
+        5 => Rest {
+            lobby: lobby_of(n, 0),
+            ..r
+        },
         6 => with_value(r, words_of(n)),
-        7 => r.with_shelved(n),
-        9 => with_minted(r, n),
+        7 => Rest { shelved: n, ..r },
+        9 => Rest { minted: n, ..r },
         _ => r,
     }
 }
@@ -72,11 +65,18 @@ fn named(r: Rest, what: usize, w: u32, v: Value) -> Rest {
 // 19 to 27.
 fn rowed(r: Rest, what: usize, n: usize) -> Rest {
     match what {
-        23 => with_boxes(r.with_particles(0), n),
-        24 => r.with_particles(n),
-        25 => with_boxes(r, n),
-        26 => r.with_lobby(lobby_of(n, 1)),
-        27 => r.with_shelved(n),
+        23 => Rest {
+            particles: 0,
+            boxes: n,
+            ..r
+        },
+        24 => Rest { particles: n, ..r },
+        25 => Rest { boxes: n, ..r },
+        26 => Rest {
+            lobby: lobby_of(n, 1),
+            ..r
+        },
+        27 => Rest { shelved: n, ..r },
         _ => r,
     }
 }
@@ -92,6 +92,7 @@ fn marked(r: Rest, what: usize, n: usize) -> Rest {
     }
 }
 
+// Stays beside `put_words`: of each part of the list it puts other things; one function for both would be given all eight.
 pub(crate) fn changed_rest(r: Rest, c: Change) -> Rest {
     match c.what {
         0..=9 => counted(r, c.what, c.n),

@@ -97,6 +97,7 @@ fn put_fields(words: &mut [u32; Rows::WORDS], c: Change) {
     }
 }
 
+// Stays beside `changed_rest`: of each part of the list it puts other things; one function for both would be given all eight.
 pub(crate) fn put_words(words: &mut [u32; Rows::WORDS], c: Change) {
     match c.what {
         0..=9 => put_counted(words, c.what, c.n),

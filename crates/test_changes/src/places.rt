@@ -52,22 +52,14 @@ pub(crate) fn put_row(words: &mut [u32; Rows::WORDS], i: usize, head: [u32; 8], 
     }
 }
 
-// Which of the five tags it is.
-fn tag_kind(t: Tag) -> u32 {
+// Which of the five tags it is, and the child that it names, 0 where there is none.
+fn tag_words(t: Tag) -> [u32; 2] {
     match t {
-        Tag::Within => 0,
-        Tag::ToParent => 1,
-        Tag::FromParent => 2,
-        Tag::ToChild(_) => 3,
-        Tag::FromChild(_) => 4,
-    }
-}
-
-// The child that a tag names, 0 where there is none.
-fn tag_child(t: Tag) -> u32 {
-    match t {
-        Tag::Within | Tag::ToParent | Tag::FromParent => 0,
-        Tag::ToChild(n) | Tag::FromChild(n) => n,
+        Tag::Within => [0, 0],
+        Tag::ToParent => [1, 0],
+        Tag::FromParent => [2, 0],
+        Tag::ToChild(n) => [3, n],
+        Tag::FromChild(n) => [4, n],
     }
 }
 
@@ -82,16 +74,8 @@ pub(crate) fn put_output(
 )
     requires { i < 32 }
 {
-    let head = [
-        1,
-        as_word(at),
-        channel,
-        tag_kind(tag),
-        tag_child(tag),
-        0,
-        0,
-        0,
-    ];
+    let [kind, child] = tag_words(tag);
+    let head = [1, as_word(at), channel, kind, child, 0, 0, 0];
     put_row(words, i, head, v, 1);
 }
 

@@ -4,7 +4,6 @@ use super::in_rest::{changed_rest, mark};
 use super::in_words::put_words;
 use crate::Change;
 use sides::{Side, State};
-use test_output::size;
 
 fn changed(mut o: Side, c: Change) -> Side {
     put_words(&mut o.words, c);
@@ -18,7 +17,7 @@ fn changed(mut o: Side, c: Change) -> Side {
 // A state is as it was where the side is none.
 fn put_on(mut s: State, c: Change) -> State {
     if 0 < c.side {
-        if let Some(side) = s.sides.get_mut(size(c.side - 1)) {
+        if let Some(side) = s.sides.get_mut((c.side - 1) as usize) {
             *side = changed(*side, c);
         }
     }

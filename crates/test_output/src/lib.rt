@@ -3,8 +3,8 @@
 
 mod labels; // what a line says is put anew
 mod same; // whether two states are equal
-mod writing; // numbers, texts and values
+mod writing; // numbers, texts, labels and values
 
 pub use labels::label;
 pub use same::same_state;
-pub use writing::{number, size, word, write, write_value};
+pub use writing::{number, word, write, write_said, write_value, write_words};

@@ -1,17 +1,9 @@
-// Numbers, texts and values on the standard output.
-ghost use Rattle.std.specs.Prelude.{◌≡◌};
-
+// Numbers, texts, labels and values on the standard output.
+use steps::Said;
 use values::Value;
 
 pub fn write(text: &[u8]) {
     io::write_all(1, text);
-}
-
-// A word as a number.
-pub fn size(w: u32) -> usize
-    ensures { result ≡ w }
-{
-    w as usize
 }
 
 // A blank and a number.
@@ -22,7 +14,28 @@ pub fn number(n: usize) {
 
 // A blank and a word.
 pub fn word(w: u32) {
-    number(size(w));
+    number(w as usize);
+}
+
+// All words of a list, each behind a blank.
+pub fn write_words(list: &[u32]) {
+    for &w in list {
+        word(w);
+    }
+}
+
+// What a step says; a refusal has its number.
+pub fn write_said(said: Said) {
+    match said {
+        Said::In => write(b" in"),
+        Said::Out => write(b" out"),
+        Said::Log => write(b" log"),
+        Said::Silent => write(b" tau"),
+        Said::Refused(n) => {
+            write(b" no");
+            word(n);
+        }
+    }
 }
 
 // The length of a value, and its words; then its last place, where that is past the length and not 0.
@@ -31,9 +44,7 @@ pub fn write_value(v: Value) {
     let last = v.words[15];
     write(b" length");
     number(v.len);
-    for &w in &v.words[..n] {
-        word(w);
-    }
+    write_words(&v.words[..n]);
     if n < 16 && last != 0 {
         write(b" past it");
         word(last);

@@ -4,6 +4,7 @@ ghost use Rattle.std.proofs.lemmas.List.Edits.{sets};
 ghost use Rattle.test_schedules.specs.Lists.{Added, times, nested_node, input_node, nodes_from};
 
 // The last 16 bits of a number.
+// Stays: it does not only widen; `step`, `nested_node` and `input_node` of specs/Lists.antt name what it gives.
 pub fn narrow(n: usize) -> u32
     ensures { result ≡ n % 65536 }
 {
@@ -11,20 +12,13 @@ pub fn narrow(n: usize) -> u32
 }
 
 // Words from a place on, where the list has it; the place behind them, at most the end.
-fn put(list: &mut [u32], at: usize, words: &[u32]) -> usize
+pub fn append(list: &mut [u32], at: usize, words: &[u32]) -> usize
     ensures { Added list.old at words.now result list.new }
 {
     let start = at.min(list.len());
     let n = words.len().min(list.len() - start);
     list[start..start + n].copy_from_slice(&words[..n]);
     start + n
-}
-
-// The same in a list of the programs.
-pub fn append(list: &mut [u32; 4400], at: usize, words: &[u32]) -> usize
-    ensures { Added list.old at words.now result list.new }
-{
-    put(list, at, words)
 }
 
 // The same words again and again; the place behind them.
@@ -38,20 +32,30 @@ pub fn repeat(list: &mut [u32; 4400], at: usize, words: &[u32], n: usize) -> usi
     end
 }
 
-// Five words of node k, where the list has it.
-fn put_node(nodes: &mut [u32], k: usize, words: &[u32])
-    ensures { nodes.new ≡ sets nodes.old (5 * k) words.now }
+// What is added for each k from a to below b, one after another; the place behind it.
+pub fn each<F: Fn(&mut [u32; 4400], usize, usize) -> usize>(
+    list: &mut [u32; 4400],
+    at: usize,
+    a: usize,
+    b: usize,
+    add: F,
+) -> usize
+    requires { F.IsAlwaysCallable add }
 {
-    if k < nodes.len() / 5 + 1 {
-        put(nodes, 5 * k, words);
+    let mut end = at;
+    for k in a..b {
+        end = add(list, end, k);
     }
+    end
 }
 
 // Node k: its kind and its four fields; nothing where the list has no node k.
-pub fn node(nodes: &mut [u32; 4400], k: usize, kind: u32, a: u32, b: u32, c: u32, d: u32)
+pub fn node(nodes: &mut [u32], k: usize, kind: u32, a: u32, b: u32, c: u32, d: u32)
     ensures { nodes.new ≡ sets nodes.old (5 * k) (kind ∷ a ∷ b ∷ c ∷ d ∷ []) }
 {
-    put_node(nodes, k, &[kind, a, b, c, d]);
+    if k < nodes.len() / 5 + 1 {
+        append(nodes, 5 * k, &[kind, a, b, c, d]);
+    }
 }
 
 // Boxes (2) or `new` (3), all of the name 10, one in another, from node a to below b.

@@ -1,27 +1,22 @@
 // Writes what a run comes to, and a line for each answer: name, index, label (with a refusal's number), side and value words.
 use running::RunError;
+use steps::Said;
+use test_output::{number, word, write, write_said};
 
-pub fn write(text: &[u8]) {
-    io::write_all(1, text);
-}
+// The label words of answers.
+#[derive(Clone, Copy)]
+struct Label;
 
-// A blank and a number.
-pub fn number(n: usize) {
-    write(b" ");
-    io::print_decimal(1, n as u64);
-}
+impl Label {
+    const SILENT: u32 = 0;
 
-// A blank and a word.
-fn word(w: u32) {
-    write(b" ");
-    io::print_decimal(1, w as u64);
-}
+    const IN: u32 = 1;
 
-// All words of a list, each behind a blank.
-pub fn words(list: &[u32]) {
-    for &w in list {
-        word(w);
-    }
+    const OUT: u32 = 2;
+
+    const REFUSED: u32 = 3;
+
+    const LOG: u32 = 4;
 }
 
 // The word at a place, 0 past the end.
@@ -29,17 +24,14 @@ fn word_at(words: &[u32], i: usize) -> u32 {
     words.get(i).copied().unwrap_or(0)
 }
 
-// A label; a refusal has its number.
-fn label(l: u32, refusal: u32) {
-    match l {
-        0 => write(b" tau"),
-        1 => write(b" in"),
-        2 => write(b" out"),
-        4 => write(b" log"),
-        _ => {
-            write(b" no");
-            word(refusal);
-        },
+// What a label word says, with the number of a refusal.
+fn said(label: u32, refusal: u32) -> Said {
+    match label {
+        Label::SILENT => Said::Silent,
+        Label::IN => Said::In,
+        Label::OUT => Said::Out,
+        Label::LOG => Said::Log,
+        _ => Said::Refused(refusal),
     }
 }
 
@@ -65,7 +57,7 @@ fn answer(name: &[u8], out: &[u32], k: usize) {
     write(name);
     number(k);
     let at = k % 1000 * 20;
-    label(word_at(out, at), word_at(out, at + 1));
+    write_said(said(word_at(out, at), word_at(out, at + 1)));
     word(word_at(out, at + 2));
     parts(out, at + 4, word_at(out, at + 3) as usize);
     write(b"\n");
@@ -80,7 +72,7 @@ fn answers(name: &[u8], out: &[u32], a: usize, b: usize) {
 
 // Whether the answer with index k is a refusal.
 fn is_refusal(out: &[u32], k: usize) -> bool {
-    word_at(out, k % 1000 * 20) == 3
+    word_at(out, k % 1000 * 20) == Label::REFUSED
 }
 
 // How many refusals the answers from a to below b have.
@@ -114,11 +106,11 @@ pub fn outcome(r: Result<usize, RunError>) {
             write(b" done");
             number(n);
         },
-        Err(RunError::Refused(cause, side, node)) => {
+        Err(RunError::Refused(f)) => {
             write(b" refused");
-            number(cause);
-            word(side);
-            number(node);
+            number(f.cause.number());
+            word(f.side);
+            number(f.node);
         },
         Err(RunError::BrokenOff) => write(b" broken off"),
         Err(RunError::TooShort) => write(b" too short"),

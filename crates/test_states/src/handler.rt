@@ -4,7 +4,6 @@ ghost use Rattle.std.specs.Prelude.{◌<◌, ◌≤◌};
 use interpreter::{LoadAnswer, Stepped, load, step};
 use sides::State;
 use test_changes::{Change, entered_changed};
-use test_output::size;
 
 // The handler. The nodes that the cases name have their number beside them.
 const NODES: [[u32; 5]; 45] = [
@@ -127,6 +126,9 @@ pub(crate) fn own_entered(wrapper: u32, s: State, side: u32, a: Change, b: Chang
     );
 }
 
+// The kind of step that has a name.
+const ENTER: u32 = 1;
+
 // Steps: kind, side, two places, name.
 const STEPS: [[u32; 5]; 34] = [
     [3, 1, 3, 0, 0], // 0: side 1 under the pipeline: a value on the shelf, a name that left and entered again, an output from a child box, one in it
@@ -165,14 +167,14 @@ const STEPS: [[u32; 5]; 34] = [
     [3, 1, 1, 0, 0],
 ];
 
-// The state after step k of the list; the name is for `enter`, kind 1.
+// The state after step k of the list; the name is for `enter`.
 fn next(wrapper: u32, s: State, k: usize) -> State
     requires { k < 34 }
 {
     let [kind, side, i, j, name] = STEPS[k];
     let names = [name];
-    let given: &[u32] = if kind == 1 { &names } else { &[] };
-    let r = stepped(wrapper, s, kind, side, size(i), size(j), given);
+    let given: &[u32] = if kind == ENTER { &names } else { &[] };
+    let r = stepped(wrapper, s, kind, side, i as usize, j as usize, given);
     r.state
 }
 

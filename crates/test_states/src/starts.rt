@@ -11,6 +11,7 @@ pub fn wrapper_of(start: Start) -> u32
     ensures { result ≡ wrapper_of start }
 {
     match start {
+        // Stays a number: the C interface has a wrapper as a number, and `step` takes it so.
         Start::Pipeline | Start::AllMinted => 2,
         Start::Filter => 1,
         Start::Logging => 3,

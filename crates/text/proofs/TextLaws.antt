@@ -33,6 +33,8 @@ use Rattle.std.specs.declared.result.Result.TheVariants.{Ok, Err}
 use Rattle.reading.specs.declared.Fault.{Fault}
 use Rattle.reading.proofs.LaidLaws.{laid_length, laid_part}
 use Rattle.sides.proofs.Sets.{mid_sets}
+use Rattle.loading.specs.declared.LoadRefusal.{LoadRefusal}
+use Rattle.loading.specs.Loading.{told_by}
 use Rattle.running.specs.declared.RunError.{RunError}
 use Rattle.running.specs.declared.RunError.TheVariants as error
 use Rattle.wrappers.specs.Compositions.{tables_of, composition}
@@ -92,19 +94,19 @@ module _ (i : Input) (x : FRan) (lent after : List ℕ) (e : x ≡ run_from i.lo
           let words = ap (take (20 * n)) g.words ∙ take_at (all_answer_words ys) (drop (length (all_answer_words ys)) lent) (20 * n) size in
           answered_lines n after ys many (omega (arith, many, few, answers_many i.loads s i.steps)) words ∙ sym (output_ok i s q)
 
-  pub output_unloaded : (k j m : ℕ) (r : Result ℕ RunError) → RunIs x lent after r → r ≡ Err (error.Refused k j m) → refused_line (record { number = k; side = j; node = m }) ≡ output_for i
-  output_unloaded k j m r h d = by (load i.loads) refl
+  pub output_unloaded : (f : LoadRefusal) (r : Result ℕ RunError) → RunIs x lent after r → r ≡ Err (error.Refused f) → refused_line (told_by f) ≡ output_for i
+  output_unloaded f r h d = by (load i.loads) refl
     where
       y : Refused
-      y = record { number = k; side = j; node = m }
+      y = told_by f
 
       by : (o : Loaded) → load i.loads ≡ o → refused_line y ≡ output_for i
       by (ok s) q =
-          let u : unloaded y ≡ answered (answers i.loads s i.steps) = told r (Err (error.Refused k j m)) h d (ok s) q in
+          let u : unloaded y ≡ answered (answers i.loads s i.steps) = told r (Err (error.Refused f)) h d (ok s) q in
           let v : ◌≡◌ {A = ℕ} 0 1 = cc in
           absurd (omega arith)
       by (refused z) q =
-          let u : unloaded y ≡ unloaded z = told r (Err (error.Refused k j m)) h d (refused z) q in
+          let u : unloaded y ≡ unloaded z = told r (Err (error.Refused f)) h d (refused z) q in
           let same : y ≡ z = cc in
           ap refused_line same ∙ sym (output_refused i z q)
 

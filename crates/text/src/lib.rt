@@ -48,7 +48,7 @@ fn run_output(
     let mut answers = [0u32; AnswerWords::ALL];
     match run(wrapper, nodes, pools, steps, &mut answers) {
         Ok(n) => answered(page, &answers, n),
-        Err(RunError::Refused(number, side, node)) => refused(page, number, side, node),
+        Err(RunError::Refused(f)) => refused(page, f.cause.number(), f.side, f.node),
         Err(RunError::BrokenOff) => fault(page, 0),
         Err(RunError::TooShort) => fault(page, 0),
     }

@@ -1,5 +1,5 @@
 // The same steps many times, added to a list of words; the place behind them is given back.
-use test_schedules::lists::narrow;
+use test_schedules::lists::{each, narrow};
 use test_schedules::named_steps::{arrive, down, enter_word, take, up};
 
 // Shelf message k is taken, and goes down on side 2.
@@ -10,11 +10,7 @@ fn taken(list: &mut [u32; 4400], at: usize, k: usize) -> usize {
 
 // The same for the first n shelf messages.
 pub fn takes(list: &mut [u32; 4400], at: usize, n: usize) -> usize {
-    let mut end = at;
-    for k in 0..n {
-        end = taken(list, end, k);
-    }
-    end
+    each(list, at, 0, n, taken)
 }
 
 // A message enters, goes down and meets, and two messages go up.
@@ -32,18 +28,10 @@ fn three(list: &mut [u32; 4400], at: usize) -> usize {
 
 // The same n times.
 pub fn threes(list: &mut [u32; 4400], at: usize, n: usize) -> usize {
-    let mut end = at;
-    for _ in 0..n {
-        end = three(list, end);
-    }
-    end
+    each(list, at, 0, n, |list, at, _| three(list, at))
 }
 
 // The name 20 enters on side 1, n times.
 pub fn enters(list: &mut [u32; 4400], at: usize, n: usize) -> usize {
-    let mut end = at;
-    for _ in 0..n {
-        end = enter_word(list, end, 1, 20);
-    }
-    end
+    each(list, at, 0, n, |list, at, _| enter_word(list, at, 1, 20))
 }

@@ -35,21 +35,21 @@ module _ (ns pool : List ℕ) (n k : ℕ) (s : Scoped (table ns pool) n k) (x : 
   down : (m : ℕ) → Child t n (kind t n) m → Walks t m → (j : ℕ) → j ≤ k + length (bound t n) → Scoped t m j
   down m ch w j h = record { passes = s.passes; inside = w.inside; names = omega (arith, child_scope t s.passes n m s.inside ch, s.names) }
 
-  pub scoped_left : x.kind ≡ 1 → Scoped t x.a k
+  pub scoped_left : x.word ≡ 1 → Scoped t x.a k
   scoped_left e = down x.a (rw (i.f1, ← i.k, e) left) (on_left ns pool n walks x i _ refl e).1 k (omega arith)
 
-  pub scoped_right : x.kind ≡ 1 → Scoped t x.b k
+  pub scoped_right : x.word ≡ 1 → Scoped t x.b k
   scoped_right e = down x.b (rw (i.f2, ← i.k, e) right) (on_right ns pool n walks x i _ refl e).1 k (omega arith)
 
-  pub scoped_box : x.kind ≡ 2 → Scoped t x.b k
+  pub scoped_box : x.word ≡ 2 → Scoped t x.b k
   scoped_box e = down x.b (rw (i.f2, ← i.k, e) in_box) (on_box ns pool n walks x i _ refl e).1 k (omega arith)
 
-  one_more : x.kind ≡ 3 → length (bound t n) ≡ 1
+  one_more : x.word ≡ 3 → length (bound t n) ≡ 1
   one_more e = rw (← i.k, e)
 
-  pub scoped_new : x.kind ≡ 3 → Scoped t x.b (k + 1)
+  pub scoped_new : x.word ≡ 3 → Scoped t x.b (k + 1)
   scoped_new e = down x.b (rw (i.f2, ← i.k, e) in_new) (on_new ns pool n walks x i _ refl e).1 (k + 1) (omega (arith, one_more e))
 
   -- there is room for a new name
-  pub new_room : x.kind ≡ 3 → k < 8
+  pub new_room : x.word ≡ 3 → k < 8
   new_room e = let q = scoped_new e in omega (arith, few t s.passes x.b q.inside, q.names)

@@ -19,7 +19,7 @@ use Rattle.values.proofs.Environments.{env}
 use Rattle.tables.specs.declared.nodes.Node.{Node}
 use Rattle.tables.specs.Nodes.{table, NodeIs}
 use Rattle.tables.specs.Scope.{Walks}
-use Rattle.tables.proofs.WalkLaws.{at_kind, at_nil, on_left, on_right, on_box, on_new}
+use Rattle.tables.proofs.WalkLaws.{at_kind, on_left, on_right, on_box, on_new}
 use Rattle.sides.specs.Layout.{parts, rows_of, places_of, view_row, fits_row, view_box, view_place, fits_place, view_boxes, fits_rows}
 use Rattle.sides.specs.Stored.{box_put}
 use Rattle.sides.specs.Environments.{env_of, bound}
@@ -65,7 +65,7 @@ module _ {ns pool : List ℕ} {side n b : ℕ} {e : List ℕ} {d : ℕ} {l : Lis
   walks_here : Walks t n
   walks_here = walks ns pool n d o.scoped x i
 
-  is : (κ : ℕ) → x.kind ≡ κ → term t n ≡ build κ t n (term t)
+  is : (κ : ℕ) → x.word ≡ κ → term t n ≡ build κ t n (term t)
   is κ k = at_kind (λ a. a) ns pool n walks_here x i κ k
 
   here : {a : Term} → term t n ≡ a → (f m : List ℕ) (r : Counts) → UnfoldedIs side a b e d l c f m r → UnfoldedIs side (term t n) b e d l c f m r
@@ -79,20 +79,20 @@ module _ {ns pool : List ℕ} {side n b : ℕ} {e : List ℕ} {d : ℕ} {l : Lis
 
   -- THE CALLS: the measure falls
   module _ (T : ℕ) (m : count t - n ≡ T) where
-    pub left_less : x.kind ≡ 1 → count t - x.a < T
+    pub left_less : x.word ≡ 1 → count t - x.a < T
     left_less k = (on_left ns pool n walks_here x i T m k).0
 
-    pub right_less : x.kind ≡ 1 → count t - x.b < T
+    pub right_less : x.word ≡ 1 → count t - x.b < T
     right_less k = (on_right ns pool n walks_here x i T m k).0
 
-    pub box_less : x.kind ≡ 2 → count t - x.b < T
+    pub box_less : x.word ≡ 2 → count t - x.b < T
     box_less k = (on_box ns pool n walks_here x i T m k).0
 
-    pub new_less : x.kind ≡ 3 → count t - x.b < T
+    pub new_less : x.word ≡ 3 → count t - x.b < T
     new_less k = (on_new ns pool n walks_here x i T m k).0
 
   -- PARALLEL: one child after the other
-  module _ (k : x.kind ≡ 1) where
+  module _ (k : x.word ≡ 1) where
     par_term : term t n ≡ par n (term t x.a) (term t x.b)
     unfolding build
     par_term = is 1 k ∙ ap₂ (λ (y z : ℕ). par n (term t y) (term t z)) (sym i.f1) (sym i.f2)
@@ -156,14 +156,14 @@ module _ {ns pool : List ℕ} {side n b : ℕ} {e : List ℕ} {d : ℕ} {l : Lis
       })
 
   -- A BOX: the child unfolds in it
-  pub box_free : x.kind ≡ 2 → c.boxes < 16
+  pub box_free : x.word ≡ 2 → c.boxes < 16
   unfolding build
   box_free k = let z = sizes (is 2 k) in omega (arith, o.boxes)
 
   abbrev box_name : ℕ
   box_name = word ρ (field t n 1)
 
-  module _ (k : x.kind ≡ 2) {l1 : List ℕ} {c1 : Counts} (q : c1 ≡ one_box c) (h : l1 ≡ box_put l c.boxes box_name b) where
+  module _ (k : x.word ≡ 2) {l1 : List ℕ} {c1 : Counts} (q : c1 ≡ one_box c) (h : l1 ≡ box_put l c.boxes box_name b) where
     box_term : term t n ≡ box n (field t n 1) (term t x.b)
     unfolding build
     box_term = is 2 k ∙ ap (λ (j : ℕ). box n (field t n 1) (term t j)) (sym i.f2)
@@ -218,7 +218,7 @@ module _ {ns pool : List ℕ} {side n b : ℕ} {e : List ℕ} {d : ℕ} {l : Lis
         })
 
   -- A NEW NAME: the child unfolds under it
-  pub name_free : x.kind ≡ 3 → (c.minted < 256) × (d < 8)
+  pub name_free : x.word ≡ 3 → (c.minted < 256) × (d < 8)
   unfolding build
   name_free k =
       let z = sizes (is 3 k) in
@@ -227,7 +227,7 @@ module _ {ns pool : List ℕ} {side n b : ℕ} {e : List ℕ} {d : ℕ} {l : Lis
   abbrev new_name : List ℕ
   new_name = (65536 * side + c.minted) ∷ []
 
-  module _ (k : x.kind ≡ 3) {e1 : List ℕ} {c1 : Counts} (q : c1 ≡ one_name c) (h : e1 ≡ bound e d (field t n 1) new_name) where
+  module _ (k : x.word ≡ 3) {e1 : List ℕ} {c1 : Counts} (q : c1 ≡ one_name c) (h : e1 ≡ bound e d (field t n 1) new_name) where
     new_term : term t n ≡ new n (field t n 1) (term t x.b)
     unfolding build
     new_term = is 3 k ∙ ap (λ (j : ℕ). new n (field t n 1) (term t j)) (sym i.f2)
@@ -312,7 +312,7 @@ module _ {ns pool : List ℕ} {side n b : ℕ} {e : List ℕ} {d : ℕ} {l : Lis
           width = refl;
         })
 
-  module _ (k : x.kind ≡ 4) where
+  module _ (k : x.word ≡ 4) where
     pub output_can : RowFree b e d l c × (length (substitute ρ (value_at t n)) ≤ 16)
     unfolding build long_in
     output_can = (row_free (is 4 k) refl refl refl, ltb-false 16 _ (short_here (is 4 k)))
@@ -321,9 +321,9 @@ module _ {ns pool : List ℕ} {side n b : ℕ} {e : List ℕ} {d : ℕ} {l : Lis
     unfolding build unfolds
     output_is f = particle_is (is 4 k) refl refl refl refl f
 
-  module _ (h : 5 ≤ x.kind) where
-    input_term : term t n ≡ build (suc (suc (suc (suc (suc (x.kind - 5)))))) t n (term t)
-    input_term = is (suc (suc (suc (suc (suc (x.kind - 5)))))) (omega arith)
+  module _ (h : 5 ≤ x.word) where
+    input_term : term t n ≡ build (suc (suc (suc (suc (suc (x.word - 5)))))) t n (term t)
+    input_term = is (suc (suc (suc (suc (suc (x.word - 5)))))) (omega arith)
 
     pub input_can : RowFree b e d l c × (n < 256)
     unfolding build
@@ -334,9 +334,9 @@ module _ {ns pool : List ℕ} {side n b : ℕ} {e : List ℕ} {d : ℕ} {l : Lis
     input_is f = particle_is input_term refl refl refl refl f
 
   -- NOTHING
-  pub nil_is : ((x.kind ≡ 1) → ⊥) → ((x.kind ≡ 2) → ⊥) → ((x.kind ≡ 3) → ⊥) → ((x.kind ≡ 4) → ⊥) → x.kind < 5 → UnfoldedIs side (term t n) b e d l c e l c
+  pub nil_is : x.word ≡ 0 → UnfoldedIs side (term t n) b e d l c e l c
   unfolding build unfolds
-  nil_is k1 k2 k3 k4 h = here (at_nil (λ a. a) ns pool n walks_here x i k1 k2 k3 k4 h) e l c (record {
+  nil_is k = here (is 0 k) e l c (record {
     view = refl;
     fits = o.fits;
     particles = omega arith;

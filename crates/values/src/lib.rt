@@ -66,6 +66,7 @@ fn item_end(l: Leaf, s: &[u32], i: usize) -> Option<usize>
     }
     let mut j = i;
     let mut n: usize = 1;
+    // Stays a loop: n counts the items to come, of which a tuple adds some, and the place j moves along.
     while 0 < n {
         let w = s[j];
         j += 1;
@@ -240,6 +241,7 @@ impl Value {
     pub const LONGEST: usize = 16;
 
     // Whether a value may have n words.
+    // Stays: document 01 names a function for each limit test.
     pub fn length_within(n: usize) -> bool
         ensures { result ≡ leb n 16 }
     {

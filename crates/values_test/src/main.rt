@@ -1,81 +1,57 @@
 // Runs the functions of `values` on vectors that are just allowed and just refused, and prints what each gives.
 #![tactic(auto)]
 
+use test_output::{number, write, write_words};
 use values::{Bound, Leaf};
 
-// The descriptor of standard output.
-const STDOUT: i32 = 1;
-
-fn text(s: &[u8]) {
-    io::write_all(STDOUT, s);
-}
-
-fn number(n: usize) {
-    io::print_decimal(STDOUT, n as u64);
-}
-
-fn word(w: u32) {
-    text(b" ");
-    io::print_decimal(STDOUT, w as u64);
-}
-
 fn yes_or_no(b: bool) {
-    text(if b { b" yes\n" } else { b" no\n" });
-}
-
-// Words, each behind a blank.
-fn show_words(s: &[u32]) {
-    for &w in s {
-        word(w);
-    }
+    write(if b { b" yes\n" } else { b" no\n" });
 }
 
 fn value_line(label: &[u8], s: &[u32]) {
-    text(label);
+    write(label);
     yes_or_no(values::is_value(s));
 }
 
 fn size_line(label: &[u8], l: Leaf, pool: &[u32], p: usize) {
-    text(label);
+    write(label);
     match values::size_at(l, pool, p) {
         Some(k) => {
-            text(b" ");
             number(k);
-            text(b"\n");
+            write(b"\n");
         }
         None => {
-            text(b" malformed\n");
+            write(b" malformed\n");
         }
     }
 }
 
 fn names_line(label: &[u8], p: &[u32]) {
-    text(label);
-    text(b" ");
+    write(label);
     number(values::names_in(p));
-    text(b" names, distinct:");
+    write(b" names, distinct:");
     yes_or_no(values::distinct_in(p));
 }
 
 // The parts that a match bound.
 fn show_parts(v: &[u32], b: Bound) {
     for &part in b.rows.iter().take(b.n) {
-        text(b" [");
-        show_words(values::part_words(v, part));
-        text(b" ]");
+        write(b" [");
+        write_words(values::part_words(v, part));
+        write(b" ]");
     }
 }
 
 fn match_line(label: &[u8], p: &[u32], v: &[u32]) {
-    text(label);
+    write(label);
     match values::matching(p, v) {
         Some(m) => {
-            text(b" fits");
+            write(b" fits");
             show_parts(v, m.bound);
-            text(b"\n");
+            write(b"\n");
         }
         None => {
-            text(b" 14\n");
+            write(b" 14\n");
         }
     }
 }

@@ -59,6 +59,7 @@ pub(crate) fn held_tag(counts: &[usize], t: Tag) -> bool
     ensures { result ≡ wf_tag counts.now (view_tag t) }
 {
     match t {
+        // Stays an arm: these tags have no name, and the others ask for it.
         Tag::Within | Tag::ToParent | Tag::FromParent => true,
         Tag::ToChild(n) | Tag::FromChild(n) => held(counts, n),
     }

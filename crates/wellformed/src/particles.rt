@@ -14,7 +14,7 @@ use crate::held::{held, held_tag, held_value};
 use environments::{defined_at, input_env};
 use scopes::names::{Names, names_in_force};
 use sides::{Row, Rows, tag_at, value_at, word_at};
-use tables::nodes::node_at;
+use tables::nodes::{Kind, node_at};
 
 // Whether the channel, tag and value of the output at row i are held.
 fn output_ok(counts: &[usize], words: &[u32], i: usize) -> bool
@@ -69,7 +69,7 @@ fn input_ok(nodes: &[u32], pool: &[u32], counts: &[usize], words: &[u32], i: usi
 {
     let node = word_at(words, i, Row::NODE) as usize;
     node < nodes.len() / 5
-        && 5 <= node_at(nodes, node).kind
+        && matches!(node_at(nodes, node).kind(), Kind::In | Kind::Rep)
         && values_ok(counts, words, i)
         && values_fit(nodes, pool, words, i)
 }

@@ -44,7 +44,7 @@ fn contents_ok(
 }
 
 // A side but for its marks.
-// Stays by value, `o: Rest`: behind a reference the prover does not find the lengths of the lobby and of `taken`.
+// Stays by value, `o: Rest`: tried by reference, behind which the prover does not find the lengths of the lobby and of `taken`.
 fn core_ok(
     wrapper: u32,
     side: u32,

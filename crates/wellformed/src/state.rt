@@ -11,6 +11,7 @@ use sides::{Sides, State};
 use std::array::from_fn;
 
 // How many names each side has minted, from side 1 on.
+// Stays beside `shelved_in`: they differ in a field, and a closure that picks it would be longer than the line.
 fn minted_in(s: &State) -> [usize; Sides::COUNT]
     ensures { result ≡ minted_in s.now }
 {
@@ -47,6 +48,7 @@ pub fn well_formed(
     }
     let minted = minted_in(&s);
     let shelved = shelved_in(&s);
+    // Stays a loop: tried `(0..Sides::COUNT).all(..)`, and the proof did not close: what each call asks of table k and side k stayed open.
     for k in 0..Sides::COUNT {
         let side = k as u32 + 1;
         if !side_stands(

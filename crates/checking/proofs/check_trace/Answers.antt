@@ -1,8 +1,9 @@
-use mathlib.Core.Path.{sym, ap}
+use Rattle.std.proofs.Common.{rules, ◌≡◌, sym, ap, Err}
 use mathlib.Core.List.{map}
 use Rattle.model.specs.Load.{Composition, load}
 use Rattle.claims.specs.Claims.{step_records, label_records, check_from, check_trace}
 use Rattle.wrappers.specs.Compositions.{composition}
+use Rattle.checking.specs.declared.TraceError.TheVariants.{Unloaded}
 use Rattle.loading.proofs.Faults.{ok_loads, refused_loads}
 use Rattle.checking.proofs.check_trace.Goals as goal
 
@@ -10,16 +11,17 @@ pub check_loaded-requires : goal.check_loaded-requires
 check_loaded-requires c =
     let loads : Composition = composition c.args.wrapper (map (λ c. c.now) c.args.nodes) (map (λ c. c.now) c.args.pools) in
     let v = c.load_verdict in
-    ok_loads (load loads) v.result v.ensures c.in-Ok.is
+    ok_loads (load loads) v.result _ v.ensures c.in_ok-load_verdict.was
 
-pub returns-in-Refused : goal.returns-in-Refused
+pub returns-in_err-load_verdict : goal.returns-in_err-load_verdict
 unfolding check_trace
-returns-in-Refused c =
+returns-in_err-load_verdict c =
     let loads : Composition = composition c.args.wrapper (map (λ c. c.now) c.args.nodes) (map (λ c. c.now) c.args.pools) in
     let v = c.load_verdict in
-    let is = refused_loads (load loads) v.result _ _ _ v.ensures c.in-Refused.is in
-    ap (check_from loads (step_records c.args.steps.now) (label_records c.args.labels.now)) (sym is)
+    let f = c.in_err-load_verdict.field-0.0 in
+    let r : c.from_residual.result ≡ Err (Unloaded f) = search rules in
+    rw r (ap (check_from loads (step_records c.args.steps.now) (label_records c.args.labels.now)) (sym (refused_loads (load loads) v.result f v.ensures c.in_err-load_verdict.was)))
 
-pub returns-in-Ok : goal.returns-in-Ok
+pub returns : goal.returns
 unfolding check_trace
-returns-in-Ok c = c.check_loaded.ensures
+returns c = c.check_loaded.ensures

@@ -20,7 +20,7 @@ returns-in-Err-Refused c i g =
     let x = c.run.ensures in
     let room = run_given g _ (length-replicate {A = ℕ} 20480 0) in
     let h = c.in-Err-Refused in
-    page_of (output_for i) c.refused.ensures (rw (h.number-is, h.side-is, h.node-is) (output_unloaded i _ _ _ room h.number h.side h.node _ x (h.is ∙ ap (λ (y : RunError). Err y) h.field-0-is)))
+    page_of (output_for i) c.refused.ensures (rw (c.number.ensures, h.f-is) (output_unloaded i _ _ _ room h.f _ x (h.is ∙ ap (λ (y : RunError). Err y) h.field-0-is)))
 
 pub returns-in-Err-BrokenOff : goal.returns-in-Err-BrokenOff
 returns-in-Err-BrokenOff c i g =

@@ -27,7 +27,7 @@ returns-in-Err c =
     let h : k < 2 = c.loop-k-test.true in
     let n : c.number_of-n.result ≡ k + 1 = c.number_of-n.ensures in
     let f = c.fault_at.ensures ∙ fault_lent (λ x. x.now) c.args.wrapper c.args.nodes c.args.pools k _ _ _ (omega arith) (omega arith) n in
-    rw (c.number.ensures, n) (turn_bad _ _ _ k (simp length-map (omega arith)) (simp length-map (omega arith)) h _ f _ c.in-Err.is c.loop-k.invariant)
+    rw n (turn_bad _ _ _ k (simp length-map (omega arith)) (simp length-map (omega arith)) h _ f _ c.in-Err.is c.loop-k.invariant)
 
 pub loop-k-preserved : goal.loop-k-preserved
 loop-k-preserved c =

@@ -5,6 +5,6 @@ pub returns-then-replicated : goal.returns-then-replicated
 returns-then-replicated c =
     left_is c.args.n c.if-replicated.true
 
-pub returns : goal.returns
-returns c =
+pub returns-else-replicated : goal.returns-else-replicated
+returns-else-replicated c =
     left_is c.args.n c.if-replicated.false

@@ -18,12 +18,10 @@ returns-then-not-all_may_enter c =
     enter_unknown a.rows.now a.o a.logging a.marks.now a.words.now c.requires.0 value (sym c.all_may_enter.ensures ∙ c.if-not-all_may_enter.true)
 
 pub overflow_add-copies : goal.overflow_add-copies
-overflow_add-copies c =
-    omega (arith, few_copies c.args.logging _ c.copies.ensures)
+overflow_add-copies c = omega (arith, few_copies c.args.logging _ c.copies.ensures)
 
 pub lobby_offer-requires : goal.lobby_offer-requires
-lobby_offer-requires c =
-    (lobby_cap c.args.rows.now c.args.o c.requires.0, omega (arith, few_copies c.args.logging _ c.copies.ensures))
+lobby_offer-requires c = (lobby_cap c.args.rows.now c.args.o c.requires.0, omega (arith, few_copies c.args.logging _ c.copies.ensures))
 
 pub returns : goal.returns
 returns c =

@@ -1,57 +1,51 @@
 use mathlib.Core.Path.{refl, sym, ◌∙◌}
+use mathlib.Core.Bool.{false≢true}
 use Rattle.values.proofs.Lists.{unmap}
-use Rattle.steps.proofs.Held.{none_more, one_more}
-use Rattle.steps.proofs.Held.{Full, rows_cap, lobby_cap}
-use Rattle.steps.proofs.LobbySteps.{down_past, down_not, down_full, down_may}
+use Rattle.steps.proofs.Held.{Full, none_more, one_more, rows_cap, lobby_cap}
+use Rattle.steps.proofs.LobbySteps.{down_is, not_down, down_past, down_not, down_full, down_may}
 use native.Mathlib.Omega.{arith}
 use Rattle.steps.proofs.lobby_steps.down_offer.Goals as goal
+use Rattle.steps.proofs.lobby_steps.down_offer.Goals.{in-Down, in_default}
 
-pub returns-then-l-i : goal.returns-then-l-i
-returns-then-l-i c =
+pub returns-then-o-i : goal.returns-then-o-i
+returns-then-o-i c =
     let full : Full c.args.o = record { msgs = search unmap } in
-    let l = c.args.rows.now in
-    let o = c.args.o in
-    let i = c.args.i in
-    down_past l o i c.requires full c.if-l-i.true
+    down_past c.args.rows.now c.args.o c.args.i c.requires full c.if-o-i.true
 
-pub offset_bounds-l-i : goal.offset_bounds-l-i
-offset_bounds-l-i c =
-    let l = c.args.rows.now in
-    let o = c.args.o in
-    let i = c.args.i in
-    omega (arith, lobby_cap l o c.requires)
+pub offset_bounds-o-i : goal.offset_bounds-o-i
+offset_bounds-o-i c = omega (arith, lobby_cap c.args.rows.now c.args.o c.requires)
 
-pub bounds-l-i : goal.bounds-l-i
-bounds-l-i c =
-    let l = c.args.rows.now in
-    let o = c.args.o in
-    let i = c.args.i in
-    omega (arith, lobby_cap l o c.requires)
+pub bounds : goal.bounds
+bounds c = omega (arith, lobby_cap c.args.rows.now c.args.o c.requires)
 
-pub returns-then-not-is_down : goal.returns-then-not-is_down
-returns-then-not-is_down c =
+pub returns-then-not-matches : goal.returns-then-not-matches
+returns-then-not-matches c =
     let full : Full c.args.o = record { msgs = search unmap } in
-    let l = c.args.rows.now in
-    let o = c.args.o in
-    let i = c.args.i in
-    down_not l o i c.requires full _ c.if-l-i.false (sym c.is_down.ensures ∙ c.if-not-is_down.true)
+    elim c.match-matches.branch [
+      | in-Down w ↦ absurd (false≢true (sym c.if-not-matches.true ∙ w.matches-is))
+      | in_default w ↦ down_not c.args.rows.now c.args.o c.args.i c.requires full _ c.if-o-i.false (not_down _ w.in_default.not-Down)
+    ]
 
 pub overflow_add-o : goal.overflow_add-o
-overflow_add-o c =
-    let l = c.args.rows.now in
-    let o = c.args.o in
-    let i = c.args.i in
-    omega (arith, rows_cap l o c.requires)
+overflow_add-o c = omega (arith, rows_cap c.args.rows.now c.args.o c.requires)
 
 pub returns-then-not-particles_within : goal.returns-then-not-particles_within
 returns-then-not-particles_within c =
     let full : Full c.args.o = record { msgs = search unmap } in
-    let down = sym c.is_down.ensures ∙ c.if-not-is_down.false in
-    down_full c.args.rows.now c.args.o c.args.i c.requires full _ c.if-l-i.false down (none_more _ 32 _ c.particles_within.ensures c.if-not-particles_within.true-raw)
+    elim c.match-matches.branch [
+      | in-Down w ↦ down_full c.args.rows.now c.args.o c.args.i c.requires full _ c.if-o-i.false (down_is _ w.in-Down.is)
+          (none_more _ 32 _ c.particles_within.ensures c.if-not-particles_within.true)
+      | in_default w ↦ absurd (false≢true (sym w.matches-is ∙ c.if-not-matches.false))
+    ]
 
 pub returns : goal.returns
 returns c =
     let full : Full c.args.o = record { msgs = search unmap } in
-    let down = sym c.is_down.ensures ∙ c.if-not-is_down.false in
-    let room = one_more _ 32 _ c.particles_within.ensures c.if-not-particles_within.false-raw in
-    (refl, down_may c.args.rows.now c.args.o c.args.i c.requires full _ c.if-l-i.false down room)
+    elim c.match-matches.branch [
+      | in-Down w ↦ (
+        refl,
+        down_may c.args.rows.now c.args.o c.args.i c.requires full _ c.if-o-i.false (down_is _ w.in-Down.is)
+            (one_more _ 32 _ c.particles_within.ensures c.if-not-particles_within.false),
+      )
+      | in_default w ↦ absurd (false≢true (sym w.matches-is ∙ c.if-not-matches.false))
+    ]

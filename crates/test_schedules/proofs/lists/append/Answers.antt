@@ -1,8 +1,8 @@
--- `test_schedules::lists::put` meets its contract.
+-- `test_schedules::lists::append` meets its contract.
 use borrow.Rule.Slice.PartMut.{put_mid}
 use Rattle.std.proofs.Common.{List, ℕ, ◌+◌, ◌-◌, ap, ◌∙◌, arith}
 use Rattle.test_schedules.proofs.ListLaws.{copied}
-use Rattle.test_schedules.proofs.lists.put.Goals as goal
+use Rattle.test_schedules.proofs.lists.append.Goals as goal
 
 pub returns : goal.returns
 returns c =
