@@ -3,7 +3,7 @@
  *
  * The functions are in libembed.a (`rt lib` in crates/embed writes it to crates/embed/out/), for x86-64.
  * They read what is lent to them and write only to `out`, `bytes`, `numbers` and `place`; they keep
- * nothing between two calls.
+ * nothing between two calls. The library asks for memcpy and memset and for nothing else from outside.
  *
  * Asked of the caller, for every function:
  *   - no pointer is null, also where its length is 0: a length of 0 with any other pointer is an empty list;

@@ -8,6 +8,6 @@ mod records; // where a record of words ends
 mod step_words; // words as a step
 
 pub use beginning::{Standing, begin_all};
-pub use making::Answer;
+pub use making::{Answer, place_asked, step_at};
 pub use records::record_end;
-pub use step_words::next_place;
+pub use step_words::{next_place, side_at};

@@ -17,7 +17,7 @@ use values::Value;
 use wrappers::has_side;
 
 // The place of a side among all sides; the first where the wrapper lacks it.
-fn place_asked(wrapper: u32, side: u32) -> usize
+pub fn place_asked(wrapper: u32, side: u32) -> usize
     ensures { result ≡ place_asked (described wrapper) side }
 {
     if has_side(wrapper, side) {
@@ -54,7 +54,7 @@ fn own_step(
 
 // The step of a side by the words at a place, where what is lent is a state that is well formed for tables that load takes; 10
 // where the wrapper lacks the side. The rest of no other side is copied.
-fn step_at(
+pub fn step_at(
     wrapper: u32,
     nodes: &[u32],
     pool: &[u32],

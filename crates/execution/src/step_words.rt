@@ -11,7 +11,7 @@ pub fn next_place(steps: &[u32], p: usize) -> usize
 }
 
 // The side that is asked by the words at a place.
-pub(crate) fn side_at(steps: &[u32], p: usize) -> u32
+pub fn side_at(steps: &[u32], p: usize) -> u32
     requires { p + 5 ≤ length steps.now }
     ensures { result ≡ (step_at steps.now p).side }
 {

@@ -1,6 +1,6 @@
 -- What each function that writes leaves, as the definitions of specs/Stored.antt say it.
 use Prim.Native.Nat.{ℕ, suc, ◌+◌, ◌-◌, ◌*◌, ◌<◌, ◌≤◌}
-use mathlib.Core.Path.{◌≡◌, refl, sym, ◌∙◌, ap}
+use mathlib.Core.Path.{◌≡◌, sym, ◌∙◌, ap}
 use mathlib.Core.List.{List, [], ◌∷◌}
 use native.Mathlib.Nat.{add-zero, zero-add}
 use native.Mathlib.Numerals.{add-one}
@@ -8,7 +8,6 @@ use native.Mathlib.Omega.{arith}
 use borrow.Rule.Slice.PartMut.{mid_of, put_mid}
 use lib.ListN.{length, take, drop, get_or, set, length-set, length-take, length-drop}
 use lib.Seq.{sets, paste, length-sets, length-take-le, take_all, get_or-drop}
-use Rattle.std.proofs.lemmas.Slice.{put_mid-paste}
 use Rattle.values.specs.declared.Value.{Value}
 use Rattle.values.specs.Env.{view_value}
 use Rattle.sides.specs.declared.Tag.{Tag}
@@ -22,17 +21,14 @@ use Rattle.sides.proofs.Parts.{part_lent, part_behind, part_length}
 pub part_turn : (l s x : List ℕ) (i j k : ℕ) → j + k < length s → x ≡ sets l i (take k (drop j s)) → set x (i + k) (get_or s (j + k) 0) ≡ sets l i (take (k + 1) (drop j s))
 part_turn l s x i j k h e = ap (set x (i + k)) (sym (get_or-drop j s k 0)) ∙ sets_turn l (drop j s) x i k 0 (omega (arith, length-drop j s)) e
 
--- the words s copied over the k words at a
-pub copied : (l r s : List ℕ) (a k : ℕ) → k ≡ length s → a + k ≤ length l → r ≡ s → put_mid a k l r ≡ sets l a s
-copied l r s a k e h q = put_mid-paste a k l r s k q refl e ∙ paste_sets l s a k (omega arith) h ∙ ap (sets l a) (take_all k s (omega arith))
+-- words copied, when the loop ends
+pub all_stored : (v s x : List ℕ) (i k : ℕ) → k ≡ length s → x ≡ sets v i (take k s) → x ≡ sets v i s
+all_stored v s x i k z e = e ∙ ap (sets v i) (take_all k s (omega arith))
 
--- the first n values of s copied
-pub values_copied : (d s r : List ℕ) (n : ℕ) → length d ≡ 144 → length s ≡ 144 → n ≤ 8 → r ≡ take (8 + 17 * n - 8) (drop 8 s) → put_mid 8 (8 + 17 * n - 8) d r ≡ values_put d 0 s n
+-- values copied, when the loop ends
+pub values_stored : (d s x : List ℕ) (n k : ℕ) → k ≡ 17 * n → x ≡ sets d 8 (take k (drop 8 s)) → x ≡ values_put d 0 s n
 unfolding values_put
-values_copied d s r n hd hs h q =
-    let k : 8 + 17 * n - 8 ≡ 17 * n = omega arith in
-    let e : length (take (17 * n) (drop 8 s)) ≡ 17 * n = length-take-le (17 * n) (drop 8 s) (omega (arith, length-drop 8 s)) in
-    copied d r (take (17 * n) (drop 8 s)) 8 (8 + 17 * n - 8) (k ∙ sym e) (omega arith) (q ∙ ap (λ (j : ℕ). take j (drop 8 s)) k)
+values_stored d s x n k z e = e ∙ ap (λ (j : ℕ). sets d 8 (take j (drop 8 s))) z
 
 -- the rows above row i, moved down a row
 pub rows_down : (l : List ℕ) (i n : ℕ) → length l ≡ 5184 → i < n → n ≤ 32 → paste l (144 * i) (drop (144 * i + 144) l) (144 * n - (144 * i + 144)) ≡ row_gone l i n

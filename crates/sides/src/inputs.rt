@@ -9,8 +9,10 @@ pub(crate) fn copy_values(d: &mut [u32], s: &[u32], n: usize)
     requires { (length d.old ≡ 144) × (length s.now ≡ 144) × (n ≤ 8) }
     ensures { d.new ≡ values_put d.old 0 s.now n }
 {
-    let z = Rows::HEAD + Rows::PLACE * n;
-    d[Rows::HEAD..z].copy_from_slice(&s[Rows::HEAD..z]);
+    // Stays a loop: `copy_from_slice` calls memmove here, which the static library would ask of its user beside memcpy and memset.
+    for k in 0..Rows::PLACE * n {
+        d[Rows::HEAD + k] = s[Rows::HEAD + k];
+    }
 }
 
 // A waiting input into a row, with the first n values of e.

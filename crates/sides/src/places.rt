@@ -38,8 +38,9 @@ pub(crate) fn append_words(v: &mut [u32], m: usize, s: &[u32]) -> usize
     requires { (length v.old ≡ 17) × (m + length s.now ≤ 16) }
     ensures { (result ≡ m + length s.now) × (v.new ≡ sets v.old (1 + m) s.now) }
 {
-    let a = 1 + m;
-    let z = a + s.len();
-    v[a..z].copy_from_slice(s);
+    // Stays a loop, as that of `copy_values`: `copy_from_slice` calls memmove here.
+    for k in 0..s.len() {
+        v[1 + m + k] = s[k];
+    }
     m + s.len()
 }

@@ -71,9 +71,10 @@ fn is_for(at: usize, start: Start, side: u32) -> bool {
 
 // The lines of a part of the list.
 pub fn cases(start: Start, side: u32, from: usize, to: usize)
-    requires { (from ≤ to) × (to ≤ 55) }
+    requires { to ≤ 55 }
 {
-    for &[at, good, what, n] in &ROWS[from..to] {
+    for k in from..to {
+        let [at, good, what, n] = ROWS[k];
         if is_for(at, start, side) {
             case(good == 1, start, side, what, n);
         }

@@ -1,5 +1,5 @@
 -- The tests and counts of a node that was read are those of its table: checks 2 to 5, node by node.
-use mathlib.Core.Path.{◌≡◌, refl, sym, ap, ap₂, ◌∙◌}
+use mathlib.Core.Path.{◌≡◌, refl, sym, ap, ap₂, ◌∙◌, subst}
 use mathlib.Core.Bool.{Bool, true, false, ◌||◌}
 use mathlib.Core.List.{List}
 use mathlib.Core.Logic.{◌⊎◌, inl, inr}
@@ -13,9 +13,13 @@ use Rattle.model.specs.Basics.{◌&◌, ◌or◌, refuse, done}
 use Rattle.model.specs.Table.{count, field, uses, child_fields, child_times}
 use Rattle.model.specs.Checks.{every_field, fields_ok, times_child, first_bad, check2, check3, check4, check5}
 use Rattle.tables.specs.declared.nodes.Node.{Node}
+use Rattle.tables.specs.declared.nodes.Use.{Use}
 use Rattle.tables.specs.Nodes.{table, NodeIs}
-use Rattle.tables.specs.Fields.{use_of, four_fields, any_field, unused_ok, kind_ok, child_ok, tree_ok, name_ok, place_ok, child_by, child_of, Counted}
+use Rattle.tables.specs.Fields.{TestsFields, SaysField, OneOf, AnyField, use_of, four_fields, any_field, unused_ok, kind_ok, child_ok, tree_ok, name_ok, place_ok, child_by, child_of, Counted}
 use Rattle.values.proofs.Spans.{eqb_same}
+
+differ : true ≡ false → ⊥
+differ z = let y : ◌≡◌ {A = ℕ} 0 1 = cc in omega arith
 
 pub and_true : (a : Bool) → a & true ≡ a
 unfolding ◌&◌
@@ -35,10 +39,7 @@ module _ (f : ℕ → ℕ → Bool) (ns pool : List ℕ) (n : ℕ) (x : Node) (i
   by_kind (suc (suc (suc (suc zero)))) a b c d o = refl
   by_kind (suc (suc (suc (suc (suc zero))))) a b c d o = refl
   by_kind (suc (suc (suc (suc (suc (suc zero)))))) a b c d o = refl
-  by_kind (suc (suc (suc (suc (suc (suc (suc k))))))) a b c d (inl e) = absurd (bad (sym e ∙ lt-leb (suc (suc (suc (suc (suc (suc (suc k))))))) 6 (omega arith)))
-    where
-      bad : true ≡ false → ⊥
-      bad z = let y : ◌≡◌ {A = ℕ} 0 1 = cc in omega arith
+  by_kind (suc (suc (suc (suc (suc (suc (suc k))))))) a b c d (inl e) = absurd (differ (sym e ∙ lt-leb (suc (suc (suc (suc (suc (suc (suc k))))))) 6 (omega arith)))
   by_kind (suc (suc (suc (suc (suc (suc (suc k))))))) a b c d (inr h) = rw (h (field (table ns pool) n 1), h (field (table ns pool) n 2), h (field (table ns pool) n 3), h (field (table ns pool) n 4))
 
   pub fields_are : (leb x.word 6 ≡ true) ⊎ ((w : ℕ) → f 0 w ≡ true) → fields_ok (table ns pool) f n ≡ four_fields f x
@@ -55,12 +56,6 @@ module _ {a q v : Bool} (b : Bool) where
   unfolding ◌&◌
   and_no e f g = rw (← f, e) (g ∙ e)
 
-  pub or_yes : q ≡ true → q ≡ a → v ≡ q → v ≡ a || b
-  or_yes e f g = rw (← f, e) (g ∙ e)
-
-  pub or_no : q ≡ false → q ≡ a → v ≡ b → v ≡ a || b
-  or_no e f g = rw (← f, e) g
-
 -- `◌&◌` goes together either way
 and_assoc : (a b c : Bool) → (a & b) & c ≡ a & (b & c)
 unfolding ◌&◌
@@ -71,6 +66,22 @@ pub all_four : (f : ℕ → ℕ → Bool) (x : Node) (r : Bool) → r ≡ ((f (u
 unfolding four_fields
 all_four f x r e = e ∙ and_assoc _ _ _ ∙ and_assoc _ _ _
 
+-- one of two tests, by what each of them says: the second is asked where the first does not pass
+module _ (A B : Bool → Type 0) where
+  pub one_first : (q v : Bool) → q ≡ true → A q → v ≡ q → OneOf A B v
+  one_first q v e a f = subst (OneOf A B) (sym (f ∙ e)) (inl (subst A e a))
+
+  pub one_second : (q v b : Bool) → q ≡ false → A q → B b → v ≡ b → OneOf A B v
+  one_second q v true e a z f = subst (OneOf A B) (sym f) (inr z)
+  one_second q v false e a z f = subst (OneOf A B) (sym f) (subst A e a, z)
+
+  one_is : (a b : Bool) → ((v : Bool) → A v → v ≡ a) → ((v : Bool) → B v → v ≡ b) → (r : Bool) → OneOf A B r → r ≡ a || b
+  one_is true b f g true o = refl
+  one_is true b f g false (y, z) = f false y
+  one_is false b f g true (inl y) = absurd (differ (f true y))
+  one_is false b f g true (inr z) = g true z
+  one_is false b f g false (y, z) = g false z
+
 pub any_four : (f : ℕ → ℕ → Bool) (x : Node) (r : Bool) → r ≡ ((f (use_of x 0) x.a || f (use_of x 1) x.b) || f (use_of x 2) x.c) || f (use_of x 3) x.d → r ≡ any_field f x
 unfolding any_field
 any_four f x r e = e ∙ by (f (use_of x 0) x.a) (f (use_of x 1) x.b)
@@ -79,6 +90,22 @@ any_four f x r e = e ∙ by (f (use_of x 0) x.a) (f (use_of x 1) x.b)
     by true b = refl
     by false true = refl
     by false false = refl
+
+-- whether a test that says what p says passes a field
+pub any_said : {says : Use → ℕ → Bool → Type 0} (p : ℕ → ℕ → Bool) → TestsFields says p → (x : Node) (r : Bool) → AnyField says x r → r ≡ any_field p x
+any_said {says = test} p t x r h = any_four p x r (one_is three (says 3 x.d) _ _ (one_is two (says 2 x.c) _ _ (one_is (says 0 x.a) (says 1 x.b) _ _ (of 0 x.a) (of 1 x.b)) (of 2 x.c)) (of 3 x.d) r h)
+  where
+    says : (i w : ℕ) → Bool → Type 0
+    says = SaysField test x
+
+    two : Bool → Type 0
+    two = OneOf (says 0 x.a) (says 1 x.b)
+
+    three : Bool → Type 0
+    three = OneOf two (says 2 x.c)
+
+    of : (i w : ℕ) (v : Bool) → SaysField test x i w v → v ≡ p (use_of x i) w
+    of i w v s = t _ _ _ s.said ∙ ap (λ (u : ℕ). p u w) s.used
 
 -- HOW OFTEN A NODE IS A CHILD
 module _ (ns pool : List ℕ) (n : ℕ) (x : Node) (i : NodeIs ns n x) (m : ℕ) where

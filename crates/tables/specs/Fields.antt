@@ -1,5 +1,5 @@
 -- Tests of the four fields of a node, and counts of its children: checks 2 to 5 of crate model, for a node that was read.
-use Rattle.std.specs.Prelude.{◌≡◌, Bool, cond, ◌&&◌, ◌||◌, List, ℕ, ◌+◌, ◌<◌, ◌≤◌, min, leb, ltb, eqb, length, get_or}
+use Rattle.std.specs.Prelude.{◌≡◌, ◌⊎◌, Bool, true, false, cond, ◌&&◌, ◌||◌, List, ℕ, ◌+◌, ◌<◌, ◌≤◌, min, leb, ltb, eqb, length, get_or}
 use Rattle.model.specs.Basics.{◌&◌, ◌or◌, is_done, implies}
 use Rattle.model.specs.Values.{at, is_public}
 use Rattle.model.specs.Table.{uses}
@@ -28,6 +28,21 @@ use_of x i = get_or (uses x.word) i 0
 -- a test of all four fields of a node, by their use and their word
 unfoldable pub four_fields : (ℕ → ℕ → Bool) → Node → Bool
 four_fields f x = f (use_of x 0) x.a & (f (use_of x 1) x.b & (f (use_of x 2) x.c & f (use_of x 3) x.d))
+
+-- a test says b of the word w as the field i + 1 of a node
+pub record SaysField (says : Use → ℕ → Bool → Type 0) (x : Node) (i w : ℕ) (b : Bool) : Type 0 where
+  pub by_use : Use
+  pub used : use_number by_use ≡ use_of x i
+  pub said : says by_use w b
+
+-- r is whether one of two tests passes, by what each of them says
+abbrev pub OneOf : (a b : Bool → Type 0) → (r : Bool) → Type 0
+OneOf a b true = a true ⊎ b true
+OneOf a b false = a false × b false
+
+-- r is whether a field of a node passes a test, by what that says of each of the four
+abbrev pub AnyField : (says : Use → ℕ → Bool → Type 0) → Node → (r : Bool) → Type 0
+AnyField says x = OneOf (OneOf (OneOf (SaysField says x 0 x.a) (SaysField says x 1 x.b)) (SaysField says x 2 x.c)) (SaysField says x 3 x.d)
 
 -- a test of one of the four fields passes
 unfoldable pub any_field : (ℕ → ℕ → Bool) → Node → Bool

@@ -2,7 +2,7 @@
 ghost use Rattle.std.specs.Prelude.{◌≡◌, Bool, List, ℕ, get_or};
 ghost use Rattle.model.specs.Table.{field, uses};
 ghost use Rattle.tables.specs.Nodes.{table, NodeIs, KindIs};
-ghost use Rattle.tables.specs.Fields.{use_number, TestsFields, four_fields, any_field};
+ghost use Rattle.tables.specs.Fields.{use_number, TestsFields, AnyField, four_fields};
 
 // What a node is.
 #[derive(Clone, Copy, PartialEq, Eq)]
@@ -144,7 +144,7 @@ impl Node {
     // Stays beside `all_fields`: said by that one it would be two negations, one of them inside the closure.
     pub fn any_field<F: Fn(Use, usize) -> bool>(self, passes: F) -> bool
         requires { F.IsAlwaysCallable passes }
-        ensures { (p : ℕ → ℕ → Bool) → TestsFields (F.post passes) p → result ≡ any_field p self }
+        ensures { AnyField (F.post passes) self result }
     {
         passes(use_of(self.word, 0), self.a)
             || passes(use_of(self.word, 1), self.b)

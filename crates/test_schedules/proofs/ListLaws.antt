@@ -1,9 +1,9 @@
 -- Laws of words stored in a list from a place on.
 use borrow.Rule.Slice.PartMut.{post_of, put_mid, Post-is}
-use Rattle.std.proofs.Common.{take, take_all, length-take-le, take-append-drop, ◌≡◌, ℕ, suc, ◌+◌, ◌-◌, ◌*◌, ◌<◌, ◌≤◌, min, Bool, true, false, leb, List, [], ◌∷◌, ◌++◌, length, drop, set, sym, refl, ap, ◌∙◌, add-zero, add-suc, suc-add, add-one, arith, length-append, leb-false, leb-true}
+use Rattle.std.proofs.Common.{subst, zero, take, take_all, length-take-le, take-append-drop, ◌≡◌, ℕ, suc, ◌+◌, ◌-◌, ◌*◌, ◌<◌, ◌≤◌, min, Bool, true, false, leb, List, [], ◌∷◌, ◌++◌, length, drop, set, sym, refl, ap, ◌∙◌, add-zero, add-suc, suc-add, add-one, arith, length-append, leb-false, leb-true}
 use mathlib.Core.List.{append_assoc}
 use lib.Seq.{sets, sets-eq, length-sets, set_out}
-use Rattle.test_schedules.specs.Lists.{Added, times, nodes_from}
+use Rattle.test_schedules.specs.Lists.{Added, times, nodes_from, Turns}
 
 -- words past the end are left out
 pub past : (ws l : List ℕ) (a : ℕ) → length l ≤ a → sets l a ws ≡ l
@@ -88,3 +88,25 @@ spelled e f = rw e at f
 -- no words behind words
 pub begun : {old new : List ℕ} {a b : ℕ} → Added old a [] b new → Added new b [] b new
 begun f = record { end = omega (arith, f.end, ap length f.words); words = refl }
+
+-- turns, one after another
+module _ (turn : (old : List ℕ) (at k next : ℕ) (new : List ℕ) → Type 0) (k : ℕ) where
+  pub no_turns : (n : ℕ) (old : List ℕ) (at : ℕ) → n ≡ 0 → Turns turn k n old at at old
+  unfolding Turns
+  no_turns zero old at e = (refl, refl)
+  no_turns (suc n) old at e = absurd (omega arith)
+
+  pub more_turns : (n m j at e next : ℕ) (old mid new : List ℕ) → m ≡ suc n → j ≡ k + n → Turns turn k n old at e mid → turn mid e j next new → Turns turn k m old at next new
+  unfolding Turns
+  more_turns n m j at e next old mid new p q ts t = rw (p) (e, mid, ts, subst (λ (i : ℕ). turn mid e i next new) q t)
+
+  pub as_many_turns : (n m at next : ℕ) (old new : List ℕ) → n ≡ m → Turns turn k n old at next new → Turns turn k m old at next new
+  as_many_turns n m at next old new p ts = subst (λ (i : ℕ). Turns turn k i old at next new) p ts
+
+-- a loop over the numbers from a to below b that ends at k has made b - a turns
+all_made_if : (t : Bool) (a b k : ℕ) → leb a b ≡ t → a ≤ k → (a ≤ b → k ≤ b) → (b ≤ a → k ≡ a) → b ≤ k → k - a ≡ b - a
+all_made_if true a b k e after within none end = let most = within (leb-true a b e) in omega arith
+all_made_if false a b k e after within none end = let less = leb-false a b e in let same = none (omega (arith, less)) in omega arith
+
+pub all_made : (a b k : ℕ) → a ≤ k → (a ≤ b → k ≤ b) → (b ≤ a → k ≡ a) → b ≤ k → k - a ≡ b - a
+all_made a b k = all_made_if (leb a b) a b k refl

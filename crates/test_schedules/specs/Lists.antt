@@ -1,6 +1,7 @@
 -- Words stored in a list from a place on; the words of steps and of nodes.
 use Rattle.std.specs.Prelude.{◌≡◌, ℕ, zero, suc, ◌+◌, ◌%◌, min, List, [], ◌∷◌, ◌++◌, length}
 use Rattle.std.proofs.lemmas.List.Edits.{sets}
+use denote.Ref.{MutBor}
 
 -- `new` is `old` with ws stored from `at` on, those past its end left out, and `next` is the place behind them, at most the end
 pub record Added (old : List ℕ) (at : ℕ) (ws : List ℕ) (next : ℕ) (new : List ℕ) : Type 0 where
@@ -28,3 +29,16 @@ input_node kind k = kind ∷ 0 ∷ 1 ∷ 0 ∷ (k + 1) % 65536 ∷ []
 unfoldable pub nodes_from : (node : ℕ → List ℕ) → (k n : ℕ) → List ℕ
 nodes_from node k zero = []
 nodes_from node k (suc n) = node k ++ nodes_from node (suc k) n
+
+-- what a call of `post` makes of a list, of a place in it and of a number: the place that it answers, and the list that it leaves
+pub record Turned (post : MutBor (List ℕ) → (at k next : ℕ) → MutBor (List ℕ) → Type 0) (old : List ℕ) (at k next : ℕ) (new : List ℕ) : Type 0 where
+  pub shown : MutBor (List ℕ)
+  pub shows : shown.now ≡ old
+  pub left : MutBor (List ℕ)
+  pub met : post shown at k next left
+  pub leaves : left.now ≡ new
+
+-- what n turns make of them, one after another, for the numbers from k on
+unfoldable pub Turns : (turn : (old : List ℕ) (at k next : ℕ) (new : List ℕ) → Type 0) → (k n : ℕ) → (old : List ℕ) → (at next : ℕ) → (new : List ℕ) → Type 0
+Turns turn k zero old at next new = (next ≡ at) × (new ≡ old)
+Turns turn k (suc n) old at next new = (e : ℕ) × (mid : List ℕ) × Turns turn k n old at e mid × turn mid e (k + n) next new

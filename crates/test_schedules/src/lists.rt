@@ -1,7 +1,7 @@
 // Lists of words: nodes of tables, and steps one after another.
 ghost use Rattle.std.specs.Prelude.{◌≡◌, ◌-◌, ◌*◌, ◌%◌, [], ◌∷◌};
 ghost use Rattle.std.proofs.lemmas.List.Edits.{sets};
-ghost use Rattle.test_schedules.specs.Lists.{Added, times, nested_node, input_node, nodes_from};
+ghost use Rattle.test_schedules.specs.Lists.{Added, times, nested_node, input_node, nodes_from, Turned, Turns};
 
 // The last 16 bits of a number.
 // Stays: it does not only widen; `step`, `nested_node` and `input_node` of specs/Lists.antt name what it gives.
@@ -41,6 +41,7 @@ pub fn each<F: Fn(&mut [u32; 4400], usize, usize) -> usize>(
     add: F,
 ) -> usize
     requires { F.IsAlwaysCallable add }
+    ensures { Turns (Turned (F.post add)) a (b - a) list.old at result list.new }
 {
     let mut end = at;
     for k in a..b {
